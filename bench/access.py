@@ -44,7 +44,7 @@ class Link:
         """Returns how long a frame takes with preamble and gap, in nanoseconds."""
         return slot_of(octets, self.rate)
 
-    def way(self, octets, delay):
+    def travel_time(self, octets, delay):
         """Returns how long a frame takes with its preamble, plus the delay, in nanoseconds."""
         return sending_of(octets, self.rate) + delay
 
@@ -91,7 +91,7 @@ def least_bound(link, streams, slot=None, jitters=True):
 def edge_jitter(link, stream, bound):
     """Returns the jitter of a stream's promise at the edge bridge."""
     least, most = link.delays
-    return stream.jitter + bound - link.slot(stream.size) + link.way(stream.size, most) - link.way(stream.shortest, least)
+    return stream.jitter + bound - link.slot(stream.size) + link.travel_time(stream.size, most) - link.travel_time(stream.shortest, least)
 
 
 def closer_jitter(link, stream, bound, octets):
@@ -102,7 +102,7 @@ def closer_jitter(link, stream, bound, octets):
 
 
 def conforms(instants, stream, jitter):
-    """Checks whether frames at these instants keep the promise. As the instants are in order, it is enough to compare those whose places
+    """Checks whether frames at these instants keep the promise. As the instants are in order, it is enough to compare those whose indexes
     are a multiple of `stream.frames` apart."""
     return all(
         instants[i] + (k - i) // stream.frames * stream.interval <= instants[k] + jitter
@@ -127,8 +127,8 @@ def draw_in_step(rng, link, size, cycle_time, sync):
     """Draws a stream whose interval is a number of whole cycles. Most times it is early enough in its cycle at the edge bridge."""
     frames, shortest = rng.choice((1, 1, 2)), rng.choice((size, 64))
     jitter = rng.choice((0, rng.randrange(cycle_time // 8 + 1)))
-    behind = rng.choice((0, sync, sync, sync)) + rng.choice((0, rng.randrange(cycle_time // 8 + 1)))
-    offset = (behind - link.way(shortest, link.delays[0])) % cycle_time + cycle_time * rng.randrange(3)
+    from_cycle = rng.choice((0, sync, sync, sync)) + rng.choice((0, rng.randrange(cycle_time // 8 + 1)))
+    offset = (from_cycle - link.travel_time(shortest, link.delays[0])) % cycle_time + cycle_time * rng.randrange(3)
     return Stream(cycle_time * rng.randint(1, 4), frames, size, jitter, offset, shortest)
 
 
@@ -166,12 +166,12 @@ def hand_over(rng, streams, until, kind, burst):
 
 
 def choose(rng, order, victim, waiting):
-    """Returns the place of the frame that is sent next."""
+    """Returns the index of the frame that is sent next."""
     if order in ("first come", "last come"):
         return 0 if order == "first come" else len(waiting) - 1
     if order == "any":
         return rng.randrange(len(waiting))
-    others = [place for place, it in enumerate(waiting) if it.stream != victim]
+    others = [index for index, it in enumerate(waiting) if it.stream != victim]
     return rng.choice(others) if others else 0 if order == "one stream last" else len(waiting) - 1
 
 
@@ -187,13 +187,13 @@ def idle_until(rng, link, now, until):
 
 def send(rng, link, frames, order, victim):
     """Returns each frame with its start, in ticks, and the longest time that the link was busy."""
-    waiting, starts, place, now, since, longest = [], [], 0, 0, 0, 0
-    while waiting or place < len(frames):
-        while place < len(frames) and 25 * frames[place].at <= now:
-            waiting.append(frames[place])
-            place += 1
+    waiting, starts, index, now, since, longest = [], [], 0, 0, 0, 0
+    while waiting or index < len(frames):
+        while index < len(frames) and 25 * frames[index].at <= now:
+            waiting.append(frames[index])
+            index += 1
         if not waiting:
-            since = 25 * frames[place].at
+            since = 25 * frames[index].at
             now = idle_until(rng, link, now, since)
             continue
         if link.other and all(25 * it.at == now for it in waiting) and since < now and rng.random() < 0.5:
@@ -226,7 +226,7 @@ def words(link, stream, bound):
         "word": jitter,
         "word without the wait": jitter - (bound - link.slot(stream.size)),
         "word without own jitter": jitter - stream.jitter,
-        "word without short frames": jitter - (link.way(stream.size, 0) - link.way(stream.shortest, 0)),
+        "word without short frames": jitter - (link.travel_time(stream.size, 0) - link.travel_time(stream.shortest, 0)),
         "word without the spread of delays": jitter - (most - least),
     }
 
@@ -247,14 +247,14 @@ def closer_words(link, stream, bound):
 
 def in_step(link, stream, bound, cycle_time, sync):
     """Checks whether the grid and the promise at the edge bridge keep frames in their cycles, if clocks are up to `sync` apart."""
-    behind = (stream.offset + link.way(stream.shortest, link.delays[0])) % cycle_time
-    return stream.interval % cycle_time == 0 and sync <= behind and behind + edge_jitter(link, stream, bound) + sync < cycle_time
+    from_cycle = (stream.offset + link.travel_time(stream.shortest, link.delays[0])) % cycle_time
+    return stream.interval % cycle_time == 0 and sync <= from_cycle and from_cycle + edge_jitter(link, stream, bound) + sync < cycle_time
 
 
 def try_stream(rng, link, stream, bound, arrived, clocks):
     """Yields each law that is tried on a stream, with whether it held."""
     cycle_time, sync = clocks
-    begin = stream.offset + link.way(stream.shortest, link.delays[0])
+    begin = stream.offset + link.travel_time(stream.shortest, link.delays[0])
     jitter = edge_jitter(link, stream, bound)
     yield "grid", all(begin + it.block * stream.interval <= at <= begin + it.block * stream.interval + jitter for it, at in arrived)
     instants = sorted(at for _, at in arrived)
@@ -293,7 +293,7 @@ def try_bounds(link, streams, starts, bound):
         yield name, all(start + 25 * slot(streams[it.stream].size) <= 25 * (it.at + most) for it, start in starts)
 
 
-def try_link(rng, told):
+def try_link(rng, noted):
     """Draws a link and tries each law on it. Returns whether all held, or None if the link has no bound."""
     link, streams, *clocks = draw_link(rng)
     bound, steps = least_bound(link, streams)
@@ -314,34 +314,34 @@ def try_link(rng, told):
         tried["hand-over"].append(conforms([f.at for f in frames if f.stream == number], it, it.jitter))
         for name, held in try_stream(rng, link, it, bound, [a for a in arrived if a[0].stream == number], clocks):
             tried[name].append(held)
-    note(told, link, streams, bound, starts, longest, steps)
+    note(noted, link, streams, bound, starts, longest, steps)
     for name, held in tried.items():
-        told["tried"][name] += 1
-        told["failed"][name] += not all(held)
+        noted["tried"][name] += 1
+        noted["failed"][name] += not all(held)
     return all(all(held) for name, held in tried.items() if "without" not in name and "rounded" not in name)
 
 
-def note(told, link, streams, bound, starts, longest, steps):
+def note(noted, link, streams, bound, starts, longest, steps):
     """Notes how close the frames of a link came to the bound."""
     waits = [((start / 25 - it.at), bound - link.slot(streams[it.stream].size)) for it, start in starts]
     share = max((wait / most for wait, most in waits if most), default=1)
-    told["shares"].append(share)
-    told["busy"].append(longest / 25 / bound)
-    told["steps"].append(steps)
-    told["rates"][link.rate] += 1
-    told["whole waits"][link.rate] += share == 1
+    noted["shares"].append(share)
+    noted["busy"].append(longest / 25 / bound)
+    noted["steps"].append(steps)
+    noted["rates"][link.rate] += 1
+    noted["whole waits"][link.rate] += share == 1
 
 
-def tell(told, none):
+def tell(noted, none):
     """Prints what was tried."""
-    for name, count in sorted(told["tried"].items()):
-        print(f"{name}: on {count} links, failed on {told['failed'][name]}")
-    shares, busy = told["shares"], told["busy"]
-    print("rates: " + ", ".join(f"{rate}: {told['rates'][rate]} links, {told['whole waits'][rate]} with a whole wait" for rate in TICKS))
+    for name, count in sorted(noted["tried"].items()):
+        print(f"{name}: on {count} links, failed on {noted['failed'][name]}")
+    shares, busy = noted["shares"], noted["busy"]
+    print("rates: " + ", ".join(f"{rate}: {noted['rates'][rate]} links, {noted['whole waits'][rate]} with a whole wait" for rate in TICKS))
     tenths = collections.Counter(min(10, int(10 * it)) for it in shares)
     print("longest wait, in tenths of what the bound allows: " + " ".join(str(tenths[it]) for it in range(11)))
     print(f"busy for the whole bound: {sum(it == 1 for it in busy)}; longest {max(busy):.4f} of it")
-    print(f"most steps to a bound: {max(told['steps'])}; links without a bound: {none}")
+    print(f"most steps to a bound: {max(noted['steps'])}; links without a bound: {none}")
 
 
 def main():
@@ -349,9 +349,9 @@ def main():
     reader.add_draws(2000)
     given = reader.parse_args()
     rng = random.Random(given.seed)
-    told = {name: collections.Counter() for name in ("tried", "failed", "rates", "whole waits")} | {name: [] for name in ("shares", "busy", "steps")}
-    ends = collections.Counter(try_link(rng, told) for _ in range(given.count))
-    tell(told, ends[None])
+    noted = {name: collections.Counter() for name in ("tried", "failed", "rates", "whole waits")} | {name: [] for name in ("shares", "busy", "steps")}
+    ends = collections.Counter(try_link(rng, noted) for _ in range(given.count))
+    tell(noted, ends[None])
     counts = Counts("access")
     counts.passed, counts.failed = ends[True], ends[False]
     return counts.end()

@@ -17,7 +17,7 @@ from pathlib import Path
 sys.path.insert(0, str(Path(__file__).resolve().parent.parent))
 import reference as rules
 from common.counting import Counts
-from common.network_files import LONGEST, delays_of, paths_of
+from common.network_files import delays_of, paths_of
 from common.running import call, ending
 from common.words import draws_of, read_draws
 from drawing import draw_closed
@@ -40,18 +40,18 @@ def access_values(link):
     return dict(zip(LINK, (link.rate, delay_text(*link.delays), "", link.other or "")))
 
 
-def least_size(stream):
+def least_size(stream, overhead):
     """Returns the fewest octets of a frame that is handed to an access link, if some frames are longer."""
-    longest = stream.get("size", min(stream["octets"], LONGEST))
+    longest = stream.get("size", rules.longest_frame(stream["octets"], overhead))
     fewest = min(stream.get("least-size", stream.get("size", 64)), longest)
     return fewest if fewest < longest else ""
 
 
-def stream_values(stream, access):
+def stream_values(stream, access, overhead):
     """Returns the values of a stream, by key."""
     paths = " | ".join(" ".join(path) for path in paths_of(stream))
     values = [paths, stream["octets"], stream.get("every", 1), stream.get("phase", 0), stream.get("deadline", "")]
-    values += [f"{access.station}@{access.bridge}", least_size(stream)] if access else ["", ""]
+    values += [f"{access.station}@{access.bridge}", least_size(stream, overhead)] if access else ["", ""]
     usual = {"frames": 1, "jitter": 0, "offset": 0}
     values += [stream.get(key, usual.get(key)) if "interval" in stream else "" for key in STREAM[7:]]
     return dict(zip(STREAM, values))
@@ -60,8 +60,8 @@ def stream_values(stream, access):
 def figures_of(text, name, figure, left):
     """Returns two columns of a table by the columns of its name."""
     rows = [row.split(",") for row in text.splitlines()]
-    place = rows[0].index
-    return {tuple(row[place(it)] for it in name): (row[place(figure)], left(dict(zip(rows[0], row)))) for row in rows[1:]}
+    column = rows[0].index
+    return {tuple(row[column(it)] for it in name): (row[column(figure)], left(dict(zip(rows[0], row)))) for row in rows[1:]}
 
 
 def slack_of(row):
@@ -74,12 +74,12 @@ class Described:
     def __init__(self, network):
         held = rules.Held(network, ("access", "traffic", "budget"))
         domain, streams = held.domain, held.written
-        self.elements = [("network", "", dict(cycle=held.cycle, guard=domain.guard, sync=domain.sync))]
+        self.elements = [("network", "", dict(cycle=held.cycle, guard=domain.guard, sync=domain.sync) | {"gate-overhead": domain.overhead})]
         self.elements += [(kind, name, {}) for kind in ("bridge", "station") for name in network[f"{kind}s"]]
         self.elements += [("link", f"{start}>{end}", link_values(link)) for start, end, link, _ in domain.links]
         self.elements += [("link", f"{it.station}>{it.bridge}", access_values(it)) for it in domain.access]
         ends = [at[1] if at else None for at in held.edges.entrances]
-        self.elements += [("stream", it["name"], stream_values(it, access)) for it, access in zip(streams, ends)]
+        self.elements += [("stream", it["name"], stream_values(it, access, domain.overhead)) for it, access in zip(streams, ends)]
         self.latencies = figures_of(rules.latency_of(network), ("stream", "listener"), "most", slack_of)
         loads = figures_of(rules.load_of(network), ("link",), "held", lambda row: row["left"])
         of_bridges = len(domain.links)
@@ -142,7 +142,7 @@ def change(rng, network):
     if kind == 0:
         network |= rng.choice(({"cycle": 50_000}, {"cycle": 250_000}, {"guard": 3000}, {"guard": 50_000}))
     elif kind == 1:
-        network["sync"] = rng.choice((0, 1, 50))
+        network |= rng.choice(({"sync": rng.choice((0, 1, 50))}, {"gate-overhead": rng.choice((0, 18, 22))}))
     elif kind == 2:
         network["stations"] = [*dict.fromkeys((*network["stations"], "s9"))]
     elif kind in (3, 4) and links:

@@ -1,6 +1,6 @@
 """Random network files: any ones, and ones in which nothing is open, paths part, or links are crowded."""
 from common.network_files import LONGEST, TICKS, directions, paths_of, toml_of
-from reference import MOST_RESERVED, Domain, Edges, Refused, Run, frames_in, is_name, settle
+from reference import LEAST_RESERVED, MOST_RESERVED, Domain, Edges, Refused, Run, is_name, needed, settle
 
 
 def draw_rate(rng, guard):
@@ -152,6 +152,8 @@ def draw(rng, share=0.25):
     network = {"cycle": cycle, "guard": guard, "bridges": bridges, "stations": stations, "links": links, "streams": []}
     if rng.random() < 0.3:
         network["sync"] = rng.choice((0, 1, 50, 400)) if rng.random() < 0.95 else 1500
+    if rng.random() < 0.3:
+        network["gate-overhead"] = rng.choice((0, 1, 4, 18, 22, 22)) if rng.random() < 0.95 else 23
     for number in range(rng.randint(0, 7)):
         stream = {"name": f"x{number}" if rng.random() < 0.95 else rng.choice(("x0", "X", "a b"))}
         draw_traffic(rng, stream)
@@ -169,7 +171,8 @@ def draw_closed(rng):
         if stream.pop("in-step", False) and rng.random() < 0.5:
             stream |= {"in-step": True, "every": stream.get("every", 1)}
         if "octets" not in stream or rng.random() < 0.9:
-            stream["octets"] = rng.choice((64, 3000)) if "interval" not in stream else frames_in(stream, network["cycle"]) * stream["size"]
+            least_octets = needed(stream, network["cycle"], network.get("gate-overhead", 0)) if "interval" in stream else rng.choice((64, 3000))
+            stream["octets"] = max(least_octets, LEAST_RESERVED)
             if stream["octets"] > 100_000 or rng.random() < 0.3:
                 stream["octets"] = min(2 * stream["octets"], MOST_RESERVED)
     return network
@@ -177,13 +180,13 @@ def draw_closed(rng):
 
 def draw_mesh(rng, bridges, stations):
     """Draws links in both directions between bridges, and one or two links to each station, the first of them in both directions."""
-    pairs = [(it, rng.choice(bridges[:place])) for place, it in enumerate(bridges) if place]
+    pairs = [(it, rng.choice(bridges[:index])) for index, it in enumerate(bridges) if index]
     pairs += [tuple(rng.sample(bridges, 2)) for _ in range(rng.randint(1, 4))]
     pairs = {frozenset(it): it for it in pairs}.values()
     ends = [(start, end, True) for start, end in pairs]
     for station in stations:
         some = rng.sample(bridges, rng.randint(1, 2))
-        ends += [(bridge, station, place == 0 or rng.random() < 0.3) for place, bridge in enumerate(some)]
+        ends += [(bridge, station, index == 0 or rng.random() < 0.3) for index, bridge in enumerate(some)]
     rng.shuffle(ends)
     return [{"from": start, "to": end, "rate": rng.choice((100, 1000, 1000)), "delay": 500, "duplex": both} for start, end, both in ends]
 

@@ -21,10 +21,10 @@ SIZES = {"200 bridges": (200, 1, 1, 4_000), "1,024 bridges": (1_024, 2, 2, 16_38
 COMMANDS = ["load", "latency", "compile", "compile --format tc", "run --cycles N", "report --cycles N", "check --cycles N"]
 
 
-def way(bridge, ways, count, place):
+def path_of(bridge, directions, count, index):
     """Returns the bridges of a stream. It begins at a bridge of the ring and goes one way round."""
-    step = 1 if ways == 1 or place % 2 == 0 else -1
-    return [(bridge + step * k) % count for k in range(2 + place * 7 % 10)]
+    step = 1 if directions == 1 or index % 2 == 0 else -1
+    return [(bridge + step * k) % count for k in range(2 + index * 7 % 10)]
 
 
 def array(key, values):
@@ -32,17 +32,17 @@ def array(key, values):
     return "\n".join([f"{key} = [", *[f"  {value}," for value in values], "]"])
 
 
-def network(bridges, ways, stations, streams):
+def network(bridges, directions, stations, streams):
     """Returns the text of a plan, and the name and the first bridge of each stream."""
     every = range(bridges)
-    links = [(f"b{b}", f"b{(b + step) % bridges}") for b in every for step in (1, -1)[:ways]]
+    links = [(f"b{b}", f"b{(b + step) % bridges}") for b in every for step in (1, -1)[:directions]]
     links += [(f"b{b}", f"s{b}-{s}") for b in every for s in range(stations)]
     asked, offered = [], []
-    for place in range(streams):
-        path = way(place % bridges, ways, bridges, place // bridges)
-        nodes = ", ".join([*[f'"b{b}"' for b in path], f'"s{path[-1]}-{place % stations}"'])
-        asked.append(f'{{ name = "x{place}", octets = 64, path = [{nodes}] }}')
-        offered.append((f"x{place}", f"b{path[0]}"))
+    for number in range(streams):
+        path = path_of(number % bridges, directions, bridges, number // bridges)
+        nodes = ", ".join([*[f'"b{b}"' for b in path], f'"s{path[-1]}-{number % stations}"'])
+        asked.append(f'{{ name = "x{number}", octets = 64, path = [{nodes}] }}')
+        offered.append((f"x{number}", f"b{path[0]}"))
     parts = [
         "cycle = 125000\nguard = 5000",
         array("bridges", [f'"b{b}"' for b in every]),

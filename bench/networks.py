@@ -24,7 +24,7 @@ from drawing import draw, draw_closed, draw_crowded, draw_fitting, draw_out, dra
 from reference import Held, Refused, latency_of, load_of, offers_of, plan, seeded_fault, stream_load_of, text_of, without
 
 COMMANDS = (("load", load_of), ("load --streams", stream_load_of), ("latency", latency_of), ("offers --cycles 7", lambda network: offers_of(network, 7)))
-# commands of which only the refusal is tried, and what they check
+# commands whose refusal alone is tried, and what they check
 REFUSING = {"compile": ("access", "traffic", "budget"), "compile --format json": ("access", "traffic", "budget")}
 REFUSING |= {f"{command} --cycles 12": ("access", "budget") for command in ("run", "report", "deliveries", "check", "summary", "hops")}
 

@@ -10,6 +10,8 @@ from common.network_files import LONGEST, TICKS, delays_of, directions, paths_of
 MOST_LINKS = 16  # links of a path
 ROUND = 80  # number of cycles after which all paces repeat
 LONGEST_WAIT = 1_000_000_000  # the longest time in which an access link has to send what waits, in ns
+LEAST_RESERVED = 64  # octets of a stream in a cycle, at least
+MOST_OVERHEAD = 22  # octets of a frame that gates don't count, at most
 MOST_RESERVED = 1_000_000  # octets of a stream in a cycle, at most
 
 
@@ -17,8 +19,14 @@ class Refused(Exception):
     """The line of a refusal, without its line feed."""
 
 
-def cost_of(octets):
-    return octets + 20 * (octets // 64)
+def cost_of(octets, overhead):
+    """Returns what a reservation costs, with this number of octets of a frame that gates don't count."""
+    return octets + (overhead + 20) * (octets // (64 - overhead))
+
+
+def longest_frame(octets, overhead):
+    """Returns the octets of the longest frame that passes a reservation."""
+    return min(octets + overhead, LONGEST)
 
 
 def shortest(rate):
@@ -51,7 +59,7 @@ class Access:
         """Returns how long a frame takes with preamble and gap."""
         return slot_of(octets, self.rate)
 
-    def way(self, octets, delay):
+    def travel_time(self, octets, delay):
         """Returns how long a frame takes that needn't wait."""
         return sending_of(octets, self.rate) + delay
 
@@ -62,15 +70,18 @@ class Domain:
     def __init__(self, network):
         self.bridges, self.stations = network["bridges"], network["stations"]
         self.guard, self.sync, self.cycles = network["guard"], network.get("sync", 0), network["cycle"]
+        self.overhead = network.get("gate-overhead", 0)
+        if not 0 <= self.overhead <= MOST_OVERHEAD:
+            raise Refused("cqf: domain: BadValue gate-overhead")
         self.cycles = self.cycles if isinstance(self.cycles, list) else [self.cycles]
         self.links, self.access = [], []
         self.check_ends(network["links"])
         self.part(network["links"])
         self.check_times()
-        for place, link in enumerate(network["links"]):
+        for index, link in enumerate(network["links"]):
             if "other" in link and all(start in self.bridges for start, _ in directions(link)):
-                raise Refused(f"cqf: domain: NoAccessLink {place}")
-        self.number = {it[:2]: place for place, it in enumerate(self.links)}
+                raise Refused(f"cqf: domain: NoAccessLink {index}")
+        self.number = {it[:2]: index for index, it in enumerate(self.links)}
 
     def check_ends(self, links):
         for link in links:
@@ -82,17 +93,17 @@ class Domain:
             if end == start or end not in ends:
                 raise Refused(f"cqf: domain: UnknownName {end}")
         seen = set()
-        for place, link in enumerate(links):
+        for index, link in enumerate(links):
             for ends in directions(link):
                 if ends in seen:
-                    raise Refused(f"cqf: domain: LinkTwice {place}")
+                    raise Refused(f"cqf: domain: LinkTwice {index}")
                 seen.add(ends)
 
     def part(self, links):
-        for place, link in enumerate(links):
+        for index, link in enumerate(links):
             for start, end in directions(link):
                 if start in self.bridges:
-                    self.links.append((start, end, link, place))
+                    self.links.append((start, end, link, index))
                 else:
                     self.access.append(Access(start, end, link["rate"], delays_of(link), link.get("other", 0)))
 
@@ -108,9 +119,9 @@ class Domain:
         self.check_each("SyncTooLong", lambda link: self.sync <= time_of(72, link["rate"]) + delays_of(link)[0])
 
     def check_each(self, fault, is_good):
-        for *_, link, place in self.links:
+        for *_, link, index in self.links:
             if not is_good(link):
-                raise Refused(f"cqf: domain: {fault} {place}")
+                raise Refused(f"cqf: domain: {fault} {index}")
 
     def longest_guard(self):
         return max([self.guard, *(self.guard_of(link) for *_, link, _ in self.links)])
@@ -118,46 +129,46 @@ class Domain:
     def budgets(self, cycle):
         return [budget_of(cycle - self.guard_of(link), link["rate"]) for *_, link, _ in self.links]
 
-    def first_way(self, bridge, station, has_room):
+    def first_path(self, bridge, station, has_room):
         """Returns the first of the shortest paths by link numbers, as its links, or None if no path has at most 16 links.
 
         Nodes are reached layer by layer, each by as few links as possible. `has_room` says whether a link has room after a number of links.
         """
         level, seen = [(bridge, ())], {bridge}
         for hop in range(MOST_LINKS):
-            behind = []
-            for node, way in level:
-                for place, link in enumerate(self.links):
-                    if link[0] == node and link[1] not in seen and has_room(hop, place):
+            reached = []
+            for node, path in level:
+                for index, link in enumerate(self.links):
+                    if link[0] == node and link[1] not in seen and has_room(hop, index):
                         seen.add(link[1])
-                        behind.append((link[1], way + (place,)))
-            for node, way in behind:
+                        reached.append((link[1], path + (index,)))
+            for node, path in reached:
                 if node == station:
-                    return way
-            level = behind
+                    return path
+            level = reached
         return None
 
     def tree(self, paths):
         """Returns the links of some branches, each once, in order."""
-        return list(self.depths(paths))
+        return list(self.hop_numbers(paths))
 
-    def depths(self, paths):
+    def hop_numbers(self, paths):
         """Returns the links of some branches, each once, in order, with their hop numbers from 1."""
-        deep = {}
+        numbers = {}
         for path in paths:
-            for depth, ends in enumerate(zip(path, path[1:]), 1):
-                deep.setdefault(self.number[ends], depth)
-        return deep
+            for hop_number, ends in enumerate(zip(path, path[1:]), 1):
+                numbers.setdefault(self.number[ends], hop_number)
+        return numbers
 
 
 def check_path(domain, path, first):
     """Refuses a branch with a missing link, a wrong first or last node, or too many links. `first` is the index of its first node."""
-    for place, node in enumerate(path):
-        is_last = place == len(path) - 1
-        if place == 0 and node in domain.stations or place and (path[place - 1], node) not in domain.number:
-            raise Refused(f"BrokenPath {first + place}")
-        if is_last and node in domain.bridges or place > MOST_LINKS:
-            raise Refused(f"BrokenPath {first + place}")
+    for index, node in enumerate(path):
+        is_last = index == len(path) - 1
+        if index == 0 and node in domain.stations or index and (path[index - 1], node) not in domain.number:
+            raise Refused(f"BrokenPath {first + index}")
+        if is_last and node in domain.bridges or index > MOST_LINKS:
+            raise Refused(f"BrokenPath {first + index}")
 
 
 def check_tree(paths):
@@ -166,26 +177,26 @@ def check_tree(paths):
     for number, path in enumerate(paths):
         if path[0] != paths[0][0] or path in paths[:number]:
             raise Refused(f"NotATree {number}")
-        for place, node in enumerate(path):
-            if beginnings.get(node, path[:place]) != path[:place]:
+        for index, node in enumerate(path):
+            if beginnings.get(node, path[:index]) != path[:index]:
                 raise Refused(f"NotATree {number}")
-        for place, node in enumerate(path):
-            beginnings.setdefault(node, path[:place])
+        for index, node in enumerate(path):
+            beginnings.setdefault(node, path[:index])
 
 
 def check_paths(domain, paths):
     """Refuses faulty branches as admission does."""
     firsts = [sum(map(len, paths[:number])) for number in range(len(paths))]
     for first, path in zip(firsts, paths):
-        for place, node in enumerate(path):
+        for index, node in enumerate(path):
             if node not in domain.bridges + domain.stations:
-                raise Refused(f"UnknownNode {first + place}")
+                raise Refused(f"UnknownNode {first + index}")
     for first, path in zip(firsts, paths):
         check_path(domain, path, first)
     for first, path in zip(firsts, paths):
-        for place, node in enumerate(path):
-            if node in path[:place]:
-                raise Refused(f"LoopingPath {first + place}")
+        for index, node in enumerate(path):
+            if node in path[:index]:
+                raise Refused(f"LoopingPath {first + index}")
     check_tree(paths)
 
 
@@ -197,10 +208,10 @@ def frames_in(promise, time):
     return -(-(time + promise.get("jitter", 0)) // promise["interval"]) * promise.get("frames", 1)
 
 
-def bound_of(link, streams):
+def bound_of(link, streams, overhead):
     """Returns the least time in which an access link sends all that its streams hand to it in that time, or None if there is none."""
     promised = [it for it in streams if "interval" in it]
-    other = max([link.other] + [min(it["octets"], LONGEST) for it in streams if "interval" not in it])
+    other = max([link.other] + [longest_frame(it["octets"], overhead) for it in streams if "interval" not in it])
     time = 1
     while True:
         need = sum(frames_in(it, time) * link.slot(it["size"]) for it in promised) + (link.slot(other) if other else 0)
@@ -262,27 +273,28 @@ class Edges:
     def __init__(self, domain, streams, part):
         self.entrances = entrances(domain, streams, part)
         on = {link: [it for it, at in zip(streams, self.entrances) if at and at[1] == link] for link in domain.access}
-        bounds = {link: bound_of(link, some) if any("interval" in it for it in some) else 0 for link, some in on.items()}
+        bounds = {link: bound_of(link, some, domain.overhead) if any("interval" in it for it in some) else 0 for link, some in on.items()}
         self.full = next((link.station for link in domain.access if bounds[link] is None), None)
-        pairs = [self.behind(stream, at and at[1], bounds) for stream, at in zip(streams, self.entrances)]
+        pairs = [self.at_edge(stream, at and at[1], bounds) for stream, at in zip(streams, self.entrances)]
         self.times, self.streams = [it[0] for it in pairs], [it[1] for it in pairs]
 
-    def behind(self, stream, link, bounds):
-        """Returns the times and the stream after its access link. A frame doesn't wait on a link that is full."""
-        if link is None:
+    def at_edge(self, stream, link, bounds):
+        """Returns the times and the stream after its access link. A frame doesn't wait on a link that is full.
+
+        How long a frame of a stream without traffic waits isn't known. So the stream begins after the link.
+        """
+        if link is None or "interval" not in stream:
             return (0, 0), stream
-        bound, size = bounds[link] or 0, stream.get("size") or min(stream["octets"], LONGEST)
-        short = min(stream.get("least-size", size if "interval" in stream else 64), size)
-        wait = max(bound - link.slot(size), 0) if "interval" in stream else 0
-        least, longest = link.way(short, link.delays[0]), link.way(size, link.delays[1])
-        stream = dict(stream)
+        bound, size = bounds[link] or 0, stream["size"]
+        short = min(stream.get("least-size", size), size)
+        wait = max(bound - link.slot(size), 0)
+        least, longest = link.travel_time(short, link.delays[0]), link.travel_time(size, link.delays[1])
+        own = frames_in(stream, bound)
+        others = max(bound - own * link.slot(size), 0) + max(own - 1, 0) * (link.slot(size) - link.slot(short))
+        spread = longest - least + (wait if stream.get("in-step") and "every" not in stream else min(wait, others))
+        stream = stream | {"jitter": stream.get("jitter", 0) + spread, "offset": stream.get("offset", 0) + least}
         if "deadline" in stream:
             stream["deadline"] = max(stream["deadline"] - longest - wait, 0)
-        if "interval" in stream:
-            own = frames_in(stream, bound)
-            others = max(bound - own * link.slot(size), 0) + max(own - 1, 0) * (link.slot(size) - link.slot(short))
-            spread = longest - least + (wait if stream.get("in-step") and "every" not in stream else min(wait, others))
-            stream |= {"jitter": stream.get("jitter", 0) + spread, "offset": stream.get("offset", 0) + least}
         return (least, longest + wait), stream
 
 
@@ -299,7 +311,7 @@ def settle_ends(domain, stream, entrance):
         if name not in domain.stations:
             raise Refused(f"NoListener {name}")
     for name in listeners:
-        if domain.first_way(bridge, name, lambda hop, link: True) is None:
+        if domain.first_path(bridge, name, lambda hop, link: True) is None:
             raise Refused(f"NoWay {name}")
     return bridge, listeners
 
@@ -330,10 +342,10 @@ def settle_one(domain, stream, entrance, names):
 def settle(domain, edges):
     """Returns all settled streams. Raises the first fault that doesn't depend on the cycle time."""
     settled, names = [], set()
-    for place, (stream, entrance) in enumerate(zip(edges.streams, edges.entrances)):
+    for index, (stream, entrance) in enumerate(zip(edges.streams, edges.entrances)):
         name = stream["name"]
         if not is_name(name):
-            raise Refused(f"cqf: stream {place + 1}: BadName")
+            raise Refused(f"cqf: stream {index + 1}: BadName")
         try:
             settled.append(settle_one(domain, stream, entrance, names))
         except Refused as fault:
@@ -342,21 +354,21 @@ def settle(domain, edges):
     return settled
 
 
-def needed(stream, cycle):
-    """Returns the octets that a stream with traffic needs in a cycle."""
-    return frames_in(stream, cycle) * stream["size"]
+def needed(stream, cycle, overhead):
+    """Returns the octets that gates count of what a stream with traffic needs in a cycle."""
+    return frames_in(stream, cycle) * (stream["size"] - overhead)
 
 
-def reserve(stream, cycle):
+def reserve(stream, cycle, overhead):
     """Returns the octets that a stream reserves in a cycle."""
     if "interval" not in stream:
         return stream["octets"]
-    octets = needed(stream, cycle)
+    octets = needed(stream, cycle, overhead)
     if octets > MOST_RESERVED:
         raise Refused(f"TooMuch {octets}")
     if stream.get("octets", octets) < octets:
         raise Refused(f"TooLittle {octets}")
-    return stream.get("octets", octets)
+    return stream.get("octets", max(octets, LEAST_RESERVED))
 
 
 def pace_on(stream, cycle, sync):
@@ -370,21 +382,21 @@ def pace_on(stream, cycle, sync):
     return math.gcd(stream["interval"] // cycle, ROUND), None
 
 
-def turns(every, phase, depth):
-    """Returns the cycles in which a stream's frames are at hop number `depth` of their paths."""
-    return range((phase + depth) % every, ROUND, every)
+def active_cycles(every, phase, hop_number):
+    """Returns the cycles in which a stream's frames are at hop number `hop_number` of their paths."""
+    return range((phase + hop_number) % every, ROUND, every)
 
 
-def least(left, link, every, phase, depth):
+def least(left, link, every, phase, hop_number):
     """Returns the least budget that a link has left in any of these cycles."""
-    return min(left[link][it] for it in turns(every, phase, depth))
+    return min(left[link][it] for it in active_cycles(every, phase, hop_number))
 
 
 def loads(domain, left, budgets, cost, every, phase, paths):
     """Returns the shares of links' budgets held in a stream's cycles with its cost, greatest first. A budget of 0 has an infinite share."""
     shares = []
-    for link, depth in domain.depths(paths).items():
-        held = budgets[link] - least(left, link, every, phase, depth) + cost
+    for link, hop_number in domain.hop_numbers(paths).items():
+        held = budgets[link] - least(left, link, every, phase, hop_number) + cost
         shares.append((0, fractions.Fraction(held, budgets[link])) if budgets[link] else (1, 0))
     return sorted(shares, reverse=True)
 
@@ -401,13 +413,13 @@ def find_paths(domain, ends, room, cost):
     bridge, listeners = ends
     paths = []
     for listener in listeners:
-        way = domain.first_way(bridge, listener, lambda hop, link: room(hop, link) >= cost)
-        if way is None:
-            anyhow = domain.first_way(bridge, listener, lambda hop, link: True)
+        found = domain.first_path(bridge, listener, lambda hop, link: room(hop, link) >= cost)
+        if found is None:
+            anyhow = domain.first_path(bridge, listener, lambda hop, link: True)
             hop, full = next((hop, it) for hop, it in enumerate(anyhow) if room(hop, it) < cost)
             start, end = domain.links[full][:2]
             raise Refused(f"Full {listener} {cost} {start}>{end} {room(hop, full)}")
-        paths.append([bridge] + [domain.links[link][1] for link in way])
+        paths.append([bridge] + [domain.links[link][1] for link in found])
     return paths
 
 
@@ -417,8 +429,8 @@ def with_room(domain, paths, ends, left, budgets, cost, every, phase):
         paths = find_paths(domain, ends, rooms(left, every, phase), cost)
     if phase is None:
         phase = min(range(every), key=lambda it: loads(domain, left, budgets, cost, every, it, paths))
-    for link, depth in domain.depths(paths).items():
-        room = least(left, link, every, phase, depth)
+    for link, hop_number in domain.hop_numbers(paths).items():
+        room = least(left, link, every, phase, hop_number)
         if room < cost:
             start, end = domain.links[link][:2]
             raise Refused(f"BudgetShort {start}>{end} {room}")
@@ -443,12 +455,12 @@ def place(domain, settled, left, cycle):
     """Places a stream, and subtracts its cost from what earlier streams left of the links' budgets, by link and cycle."""
     stream, paths, ends, deadline = settled
     every, phase = pace_on(stream, cycle, domain.sync)
-    octets, budgets = reserve(stream, cycle), domain.budgets(cycle)
-    cost = cost_of(octets)
+    octets, budgets = reserve(stream, cycle, domain.overhead), domain.budgets(cycle)
+    cost = cost_of(octets, domain.overhead)
     is_chosen = phase is None
     phase, paths = with_any_room(domain, paths, ends, left, budgets, cost, every, phase)
-    for link, depth in domain.depths(paths).items():
-        for it in turns(every, phase, depth):
+    for link, hop_number in domain.hop_numbers(paths).items():
+        for it in active_cycles(every, phase, hop_number):
             left[link][it] -= cost
     return stream | {"every": every, "phase": phase}, octets, paths, deadline, is_chosen
 
@@ -479,7 +491,7 @@ def order_after(settled, order, run):
 
 
 class Candidate:
-    """The result of planning with one cycle time, where at most so many other orders are tried."""
+    """The result of planning with one cycle time, trying at most `tries` other orders of placing."""
 
     def __init__(self, domain, settled, cycle, tries):
         self.cycle, self.placed, self.fault = cycle, [], None
@@ -517,10 +529,10 @@ class Candidate:
         for stream, _, paths, deadline, _ in self.placed:
             for path in paths if deadline is not None else ():
                 link = domain.number[tuple(path[-2:])]
-                told = domain.links[link][2]
-                costs = max(held[link][it] for it in turns(stream["every"], stream["phase"], len(path) - 1))
-                sending = span_of(costs, told["rate"]) - 12 * TICKS[told["rate"]] // 25
-                most = (len(path) - 1) * self.cycle + sending + delays_of(told)[1] + domain.sync
+                last = domain.links[link][2]
+                costs = max(held[link][it] for it in active_cycles(stream["every"], stream["phase"], len(path) - 1))
+                sending = span_of(costs, last["rate"]) - 12 * TICKS[last["rate"]] // 25
+                most = (len(path) - 1) * self.cycle + sending + delays_of(last)[1] + domain.sync
                 if deadline < most:
                     self.late += 1
                     self.fault = self.fault or f"{stream['name']}: Late {path[-1]} {most} {deadline}"
@@ -536,7 +548,7 @@ class Candidate:
         return ",".join(map(str, fields)) + "\n"
 
 
-TOP = "cycle guard sync bridges stations".split()
+TOP = "cycle guard sync gate-overhead bridges stations".split()
 LINK = "from to rate delay guard duplex other interface far-interface".split()
 STREAM = "name from to octets every phase in-step path paths interval frames size least-size jitter offset deadline mac vlan".split()
 
@@ -641,7 +653,7 @@ def without(network, out):
 
 
 def plan(network, is_table, tries=50, is_best=False):
-    """Returns the plan as a network, or a table as a text, where at most so many other orders are tried: for the first good cycle time, or the
+    """Returns the plan as a network, or a table as a text, trying at most `tries` other orders: for the first good cycle time, or the
     best. Raises the line of a refusal."""
     domain = Domain(network)
     check_values(network["streams"])
@@ -680,17 +692,18 @@ class Held:
         self.edges = Edges(self.domain, streams if self.domain.access else plain, "network")
         if self.edges.full and "access" in asks:
             raise Refused(f"cqf: network: AccessFull {self.edges.full}")
-        for place, stream in enumerate(self.edges.streams) if "traffic" in asks else ():
-            if "interval" in stream and stream["octets"] < needed(stream, self.cycle):
-                raise Refused(f"cqf: stream {place + 1}: BelowTraffic {stream['octets']} {needed(stream, self.cycle)}")
+        for index, stream in enumerate(self.edges.streams) if "traffic" in asks else ():
+            least_octets = needed(stream, self.cycle, self.domain.overhead) if "interval" in stream else 0
+            if stream["octets"] < least_octets:
+                raise Refused(f"cqf: stream {index + 1}: BelowTraffic {stream['octets']} {least_octets}")
         self.budgets = self.domain.budgets(self.cycle)
         self.left = [[it] * ROUND for it in self.budgets]
         self.names, self.users = set(), collections.Counter()
-        for place, stream in enumerate(self.edges.streams):
+        for index, stream in enumerate(self.edges.streams):
             try:
                 self.admit(stream, "budget" in asks)
             except Refused as fault:
-                raise Refused(f"cqf: stream {place + 1}: {fault}") from None
+                raise Refused(f"cqf: stream {index + 1}: {fault}") from None
 
     def admit(self, stream, asks_budget):
         if not is_name(stream["name"]):
@@ -700,21 +713,21 @@ class Held:
         check_paths(self.domain, paths)
         if stream["name"] in self.names:
             raise Refused("NameHeld")
-        every, phase, cost = stream.get("every", 1), stream.get("phase", 0), cost_of(stream["octets"])
-        depths = self.domain.depths(paths)
-        for link, depth in depths.items() if asks_budget else ():
-            room = least(self.left, link, every, phase, depth)
+        every, phase, cost = stream.get("every", 1), stream.get("phase", 0), cost_of(stream["octets"], self.domain.overhead)
+        hop_numbers = self.domain.hop_numbers(paths)
+        for link, hop_number in hop_numbers.items() if asks_budget else ():
+            room = least(self.left, link, every, phase, hop_number)
             if room < cost:
                 raise Refused(f"BudgetShort {link} {room}")
         self.names.add(stream["name"])
-        for link, depth in depths.items():
+        for link, hop_number in hop_numbers.items():
             self.users[link] += 1
-            for it in turns(every, phase, depth):
+            for it in active_cycles(every, phase, hop_number):
                 self.left[link][it] -= cost
 
-    def costs(self, link, stream, depth):
+    def costs(self, link, stream, hop_number):
         """Returns the most that a link holds in a cycle of a stream."""
-        return self.budgets[link] - least(self.left, link, stream.get("every", 1), stream.get("phase", 0), depth)
+        return self.budgets[link] - least(self.left, link, stream.get("every", 1), stream.get("phase", 0), hop_number)
 
 
 def percent(part, whole):
@@ -722,22 +735,23 @@ def percent(part, whole):
     return f"{1000 * part // whole // 10}.{1000 * part // whole % 10}" if whole else ""
 
 
-def fitting(left):
+def fitting(left, overhead):
     """Returns the greatest reservation that costs no more."""
     frames, rest = divmod(max(left, 0), 84)
-    return min(64 * frames + min(rest, 63), MOST_RESERVED) if frames else 0
+    most = min((64 - overhead) * frames + min(rest, 63 - overhead), MOST_RESERVED)
+    return most if most >= LEAST_RESERVED else 0
 
 
 def load_of(network):
     held = Held(network, ("traffic",))
     rows = ["link,rate,budget,held,left,fits,streams,used"]
-    for place, (start, end, link, _) in enumerate(held.domain.links):
-        budget, left = held.budgets[place], min(held.left[place])
+    for index, (start, end, link, _) in enumerate(held.domain.links):
+        budget, left = held.budgets[index], min(held.left[index])
         share = percent(budget - left, budget)
-        rows.append(f"{start}>{end},{link['rate']},{budget},{budget - left},{left},{fitting(left)},{held.users[place]},{share}")
+        rows.append(f"{start}>{end},{link['rate']},{budget},{budget - left},{left},{fitting(left, held.domain.overhead)},{held.users[index]},{share}")
     for link in held.domain.access:
         streams = [it for it, at in zip(held.written, held.edges.entrances) if at and at[1] == link]
-        budget, used = held.cycle * 25 // TICKS[link.rate], sum(access_cost(it, held.cycle) for it in streams)
+        budget, used = held.cycle * 25 // TICKS[link.rate], sum(access_cost(it, held.cycle, held.domain.overhead) for it in streams)
         rows.append(f"{link.station}>{link.bridge},{link.rate},{budget},{used},{budget - used},,{len(streams)},{percent(used, budget)}")
     return "".join(f"{it}\n" for it in rows)
 
@@ -745,16 +759,16 @@ def load_of(network):
 def stream_load_of(network):
     """Returns the rows of `load --streams`."""
     held = Held(network, ("traffic",))
-    rows, crossed = ["link,stream,octets,cost,every,share"], [held.domain.depths(paths_of(it)) for it in held.edges.streams]
-    for place, (start, end, _, _) in enumerate(held.domain.links):
-        for stream in greatest_first((it for it, links in zip(held.edges.streams, crossed) if place in links), lambda it: it["octets"]):
-            cost = cost_of(stream["octets"])
-            share = percent(cost, held.budgets[place])
+    rows, crossed = ["link,stream,octets,cost,every,share"], [held.domain.hop_numbers(paths_of(it)) for it in held.edges.streams]
+    for index, (start, end, _, _) in enumerate(held.domain.links):
+        for stream in greatest_first((it for it, links in zip(held.edges.streams, crossed) if index in links), lambda it: it["octets"]):
+            cost = cost_of(stream["octets"], held.domain.overhead)
+            share = percent(cost, held.budgets[index])
             rows.append(f"{start}>{end},{stream['name']},{stream['octets']},{cost},{stream.get('every', 1)},{share}")
     for link in held.domain.access:
         streams = [it for it, at in zip(held.written, held.edges.entrances) if at and at[1] == link]
-        for stream in greatest_first(streams, lambda it: access_cost(it, held.cycle)):
-            used = access_cost(stream, held.cycle)
+        for stream in greatest_first(streams, lambda it: access_cost(it, held.cycle, held.domain.overhead)):
+            used = access_cost(stream, held.cycle, held.domain.overhead)
             rows.append(f"{link.station}>{link.bridge},{stream['name']},,{used},,{percent(used, held.cycle * 25 // TICKS[link.rate])}")
     return "".join(f"{it}\n" for it in rows)
 
@@ -764,10 +778,10 @@ def greatest_first(items, figure):
     return sorted(items, key=lambda it: -figure(it))
 
 
-def access_cost(stream, cycle):
+def access_cost(stream, cycle, overhead):
     """Returns the octets that a stream takes of its access link in a cycle, as the mean of many."""
     if "interval" not in stream:
-        return -(-cost_of(stream["octets"]) // stream.get("every", 1))
+        return -(-cost_of(stream["octets"], overhead) // stream.get("every", 1))
     return -(-stream.get("frames", 1) * (stream["size"] + 20) * cycle // stream["interval"])
 
 

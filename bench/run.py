@@ -51,12 +51,12 @@ def least(program, words, input_file, output):
     """Returns the least processor seconds of three runs, their peak memory in MiB, and how many lines each writes."""
     costs = []
     for _ in range(3):
-        with open(input_file) as given, open(output, "w") as told:
-            costs.append(measured([program, *words], stdin=given, stdout=told))
+        with open(input_file) as given, open(output, "w") as written:
+            costs.append(measured([program, *words], stdin=given, stdout=written))
         if costs[-1].status:
             sys.exit(f"bench/run.py: cqf {' '.join(words)} failed")
-    with open(output) as told:
-        return min(it.processor_seconds for it in costs), max(it.mebibytes for it in costs), sum(1 for _ in told)
+    with open(output) as written:
+        return min(it.processor_seconds for it in costs), max(it.mebibytes for it in costs), sum(1 for _ in written)
 
 
 def measure(program, rate, count, work):
@@ -72,13 +72,13 @@ def measure(program, rate, count, work):
     read, _, _ = least(program, ["report", "--cycles", "1"], whole, output)
     closed, _, _ = least(program, ["report", *over], empty, output)
     summed, _, _ = least(program, ["report", *over], whole, output)
-    told, peak, lines = least(program, ["run", *over], whole, output)
+    run, peak, lines = least(program, ["run", *over], whole, output)
     parts = {
         "reading": read - nothing,
         "closing": closed - nothing,
         "running": summed - read - closed + nothing,
-        "writing": told - summed,
-        "all": told,
+        "writing": run - summed,
+        "all": run,
     }
     print(f"== {rate} Mb/s: {count} offers over {cycles} cycles, {lines} lines written, {peak:.1f} MiB at most")
     for part, seconds in parts.items():

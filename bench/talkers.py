@@ -6,7 +6,7 @@
 COUNT is the number of networks, 200 by default. The same SEED (1 by default) draws the same.
 
 Of each network that is planned: planning the plan changes nothing; every command takes it; and talkers that keep their words are simulated, with
-access links that send in four orders and with frames of no stream that get in the way. What comes to the edge bridges is offered to the plan:
+access links that send in four orders and with frames of no stream that get in the way. What arrives at the edge bridges is offered to the plan:
 `check` has to be well, and each frame has to be at each listener within what `latency` tells, and within its deadline, from its hand-over. The
 last line is `talkers: N passed, M failed`, of networks that were planned, and the status 1 where any failed. --kinds tells how often each outcome
 was drawn.
@@ -125,7 +125,7 @@ def hand_over(rng, stream, handed, end):
 
 
 def send(rng, edge, link):
-    """What comes to the edge bridge: instant, bridge, stream, octets, and when it was handed over."""
+    """What arrives at the edge bridge: instant, bridge, stream, octets, and when it was handed over."""
     jobs, waiting, now, order = sorted(link["handed"]), [], 0, rng.choice(["first", "last", "any", "one"])
     arrived, rate = [], link["rate"]
     while jobs or waiting:
@@ -134,10 +134,10 @@ def send(rng, edge, link):
         while jobs and jobs[0][0] <= now:
             waiting.append(jobs.pop(0))
         names = sorted({it[2] for it in waiting})
-        place = {"first": 0, "last": -1, "any": rng.randrange(len(waiting))}.get(order, 0)
+        index = {"first": 0, "last": -1, "any": rng.randrange(len(waiting))}.get(order, 0)
         if order == "one":
-            place = min(range(len(waiting)), key=lambda k: (waiting[k][2] == names[0], k))
-        at, _, stream, octets = waiting.pop(place)
+            index = min(range(len(waiting)), key=lambda k: (waiting[k][2] == names[0], k))
+        at, _, stream, octets = waiting.pop(index)
         arrived.append((now + sending_of(octets, rate) + rng.randint(*link["delays"]), edge, stream, octets, at))
         now += slot_of(octets, rate)
     return arrived
@@ -152,7 +152,7 @@ def disturbed(rng, link, now, due):
 
 
 def arrivals(rng, plan):
-    """What comes to all edge bridges, by instant."""
+    """What arrives at all edge bridges, by instant."""
     links, end = access_links(plan), (CYCLES - LAST) * plan["cycle"]
     for stream in plan["streams"]:
         if "interval" in stream:
@@ -207,7 +207,7 @@ def late(row, arrived, bounds):
     """What is wrong with a delivery; none where nothing is."""
     took, bound = int(row["whole"]) - arrived[int(row["frame"]) - 1][4], bounds[row["stream"], row["listener"]]
     if not int(bound["least"]) <= took <= int(bound["most"]):
-        return f"frame {row['frame']} of {row['stream']} took {took}, {bound['least']} to {bound['most']} are told"
+        return f"frame {row['frame']} of {row['stream']} took {took}, {bound['least']} to {bound['most']} are written"
     if bound["deadline"] and took > int(bound["deadline"]):
         return f"frame {row['frame']} of {row['stream']} took {took}, its deadline is {bound['deadline']}"
     return None

@@ -53,7 +53,7 @@ def main():
         ran = subprocess.run(toolchain.rt("ci", *names), cwd=room, stdin=subprocess.DEVNULL, stdout=subprocess.PIPE, stderr=subprocess.STDOUT, text=True, errors="replace")
     lines = [it for it in ran.stdout.splitlines() if re.search(r"NOT REFUSED|BAD EDIT|NOT TRIED|NOT PROVED|^rt: FAILED", it)]
     print("\n".join(lines))
-    print(f"{count} wrong bodies; " + (ran.stdout.strip().splitlines() or ["nothing was told"])[-1])
+    print(f"{count} wrong bodies; " + (ran.stdout.strip().splitlines() or ["no output"])[-1])
     return 1 if ran.returncode or lines else 0
 
 

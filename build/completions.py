@@ -23,7 +23,7 @@ HELP = "print help"
 
 
 class Text(Template):
-    """A text of a shell, with names behind `@`, which shells don't use for their variables."""
+    """A text of a shell, with names after `@`, which shells don't use for their variables."""
 
     delimiter = "@"
 
@@ -32,7 +32,7 @@ BASH = Text("""# Completes the words of cqf in bash.
 # @made
 
 _cqf() {
-    local IFS=$' \\t\\n' word=${COMP_WORDS[COMP_CWORD]} before='' own='' choices='' place option
+    local IFS=$' \\t\\n' word=${COMP_WORDS[COMP_CWORD]} before='' own='' choices='' index option
     COMPREPLY=()
     ((COMP_CWORD > 0)) && before=${COMP_WORDS[COMP_CWORD - 1]}
     # --format=tc is three words here
@@ -53,9 +53,9 @@ _cqf() {
 @own
     *) return ;;
     esac
-    for ((place = 2; place < COMP_CWORD; place++)); do
+    for ((index = 2; index < COMP_CWORD; index++)); do
         # all words after this one are files
-        if [[ ${COMP_WORDS[place]} == -- ]]; then
+        if [[ ${COMP_WORDS[index]} == -- ]]; then
             compopt -o default
             return
         fi

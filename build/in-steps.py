@@ -96,11 +96,11 @@ def hash_of(crate, kind):
 def weights(rt, crates):
     """Returns for each crate the number of lines of the longest chain of crates from it upward, itself included."""
     lines = {it.name: sum(open(file, "rb").read().count(b"\n") for file in rt.rtlib.files_of(it.folder)) for it in crates.values()}
-    behind = dict(lines)
+    weight = dict(lines)
     for it in reversed([*crates.values()]):
         for below in it.deps:
-            behind[below.name] = max(behind[below.name], behind[it.name] + lines[below.name])
-    return behind
+            weight[below.name] = max(weight[below.name], weight[it.name] + lines[below.name])
+    return weight
 
 
 class Passed:
@@ -128,9 +128,9 @@ class Passed:
 def steps_left(passed, rt, crates, given):
     """Returns the steps that haven't passed: first the proofs, those with the longest chain above them first; then the others, in the same order."""
     wanted = {low.name for name in given.crates or crates for low in [*crates[name].below(), crates[name]]}
-    behind = weights(rt, crates)
+    weight = weights(rt, crates)
     left = [(crates[name], kind) for name in wanted for kind in steps_of(crates[name], not given.without_edits)]
-    return sorted((it for it in left if not passed.has(*it)), key=lambda it: (it[1] != "proof", -behind[it[0].name]))
+    return sorted((it for it in left if not passed.has(*it)), key=lambda it: (it[1] != "proof", -weight[it[0].name]))
 
 
 def start(crate, kind):

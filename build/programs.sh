@@ -12,11 +12,11 @@ temporary=${TMPDIR:-/tmp}
 lines_of_crates() {
     awk -F: '
         !/^#/ && NF > 1 { split($1, words, " "); lines[words[1]] = $0; libraries[words[1]] = $2 }
-        function visit(name,    names, count, place) {
+        function visit(name,    names, count, k) {
             if (!(name in libraries) || name in seen) return
             seen[name] = 1
             count = split(libraries[name], names, " ")
-            for (place = 1; place <= count; place++) visit(names[place])
+            for (k = 1; k <= count; k++) visit(names[k])
             print lines[name]
         }
         END { visit("cqf") }
@@ -38,17 +38,17 @@ find_sources() {
 
 # prints the hash of the sources in a folder: of their names and contents, and of the lines of crates.txt for their crates
 hash_of() {
-    local told
-    told=$(cd "$1" && { lines_of_crates . && find_sources -print0 | LC_ALL=C sort -z | xargs -0 sha256sum; } | sha256sum) || return
-    echo "${told%% *}"
+    local sum
+    sum=$(cd "$1" && { lines_of_crates . && find_sources -print0 | LC_ALL=C sort -z | xargs -0 sha256sum; } | sha256sum) || return
+    echo "${sum%% *}"
 }
 
 # prints a stamp that stays the same unless a source is written, replaced, added or removed. It is a hash of names, sizes, inodes and times, and
 # takes a third of the time of `hash_of`
 stamp_of() {
-    local told
-    told=$(cd "$1" && { lines_of_crates . && find_sources -printf '%p %s %i %T@ %C@\n' | LC_ALL=C sort; } | sha256sum) || return
-    echo "${told%% *}"
+    local sum
+    sum=$(cd "$1" && { lines_of_crates . && find_sources -printf '%p %s %i %T@ %C@\n' | LC_ALL=C sort; } | sha256sum) || return
+    echo "${sum%% *}"
 }
 
 # checks whether a folder exists or can be made, and can be written
@@ -77,10 +77,10 @@ find_kept() {
 
 # sets `hash` to the hash of the sources here: the one that is kept with their present stamp, or else a new one
 find_hash() {
-    local stamp folder told
+    local stamp folder kept_stamp
     stamp=$(stamp_of "$top") || exit 2
     for folder in "$top/built" ${kept:+"$kept"}; do
-        [ -r "$folder/stamp" ] && read -r told hash <"$folder/stamp" && [ "$told" = "$stamp" ] && [ "${#hash}" -eq 64 ] && return
+        [ -r "$folder/stamp" ] && read -r kept_stamp hash <"$folder/stamp" && [ "$kept_stamp" = "$stamp" ] && [ "${#hash}" -eq 64 ] && return
     done
     hash=$(hash_of "$top") || exit 2
     [ -z "$kept" ] || { echo "$stamp $hash" >"$kept/stamp"; } 2>/dev/null || true
@@ -88,10 +88,10 @@ find_hash() {
 
 # sets `program` to the kept program of a name, `proved` or `quick`, that was built from the present sources; fails if none is kept
 find_program() {
-    local folder told
+    local folder built_of
     for folder in "$top/built" ${kept:+"$kept"}; do
         program=$folder/$1
-        [ -f "$program" ] && [ -x "$program" ] && [ -r "$program.sources" ] && read -r told <"$program.sources" && [ "$told" = "$hash" ] && return
+        [ -f "$program" ] && [ -x "$program" ] && [ -r "$program.sources" ] && read -r built_of <"$program.sources" && [ "$built_of" = "$hash" ] && return
     done
     return 1
 }

@@ -29,7 +29,7 @@ class Counts:
 
 
 def fault_of(trial: Trial) -> str | None:
-    """Runs a trial. Returns its fault, which is whatever exception ended it."""
+    """Runs a trial. Returns its fault, which is the exception that ended it."""
     name, run = trial
     try:
         run()

@@ -75,10 +75,20 @@ def gate() -> ModuleType:
     return made
 
 
+@functools.cache
+def known_in(top: Path) -> dict[str, object]:
+    """Returns a repository's crates that were looked up so far, by folder. Each crate is read once, whichever crates above it are."""
+    return {}
+
+
 def crate_of(name: str, top: str | Path = ".") -> object:
     """Returns a crate of a repository, by default of that in the working folder."""
     top = Path(top).resolve()
-    return library().Crate(str(top / "crates" / name), str(top), {})
+    folder = str(top / "crates" / name)
+    known = known_in(top)
+    if folder not in known:
+        known[folder] = library().Crate(folder, str(top), known)
+    return known[folder]
 
 
 def remember_stamps(made: ModuleType) -> None:

@@ -2,7 +2,7 @@
 # Made by build/completions.py from the program's table of commands; changes here are lost.
 
 _cqf() {
-    local IFS=$' \t\n' word=${COMP_WORDS[COMP_CWORD]} before='' own='' choices='' place option
+    local IFS=$' \t\n' word=${COMP_WORDS[COMP_CWORD]} before='' own='' choices='' index option
     COMPREPLY=()
     ((COMP_CWORD > 0)) && before=${COMP_WORDS[COMP_CWORD - 1]}
     # --format=tc is three words here
@@ -36,9 +36,9 @@ _cqf() {
     diff) own='-q --quiet --large --help' ;;
     *) return ;;
     esac
-    for ((place = 2; place < COMP_CWORD; place++)); do
+    for ((index = 2; index < COMP_CWORD; index++)); do
         # all words after this one are files
-        if [[ ${COMP_WORDS[place]} == -- ]]; then
+        if [[ ${COMP_WORDS[index]} == -- ]]; then
             compopt -o default
             return
         fi

@@ -67,7 +67,7 @@ def commands_of(block):
     return commands
 
 
-def is_told(found, wanted):
+def is_as_wanted(found, wanted):
     """Returns whether an output matches these lines."""
     pattern = "".join("(?:.*\n)*?" if line == ".." else re.escape(f"{line}\n") for line in wanted)
     return re.fullmatch(pattern, found) is not None
@@ -88,17 +88,17 @@ def run(program, command):
 def faults_of(program, block):
     """Yields the fault of each command of a block, or None."""
     commands = commands_of(block)
-    for place, (number, command, wanted) in enumerate(commands):
+    for index, (number, command, wanted) in enumerate(commands):
         if command == STATUS:
             continue
         status, found = run(program, command)
-        follows = commands[place + 1] if place + 1 < len(commands) else None
-        told = follows[2] if follows and follows[1] == STATUS else ["0"]
+        follows = commands[index + 1] if index + 1 < len(commands) else None
+        due = follows[2] if follows and follows[1] == STATUS else ["0"]
         fault = None
-        if not is_told(found, wanted):
+        if not is_as_wanted(found, wanted):
             fault = "it writes\n" + "".join(f"    {line}\n" for line in found.splitlines()[:40])
-        elif told != [str(status)]:
-            fault = f"status {status}, wanted {' '.join(told)}\n"
+        elif due != [str(status)]:
+            fault = f"status {status}, wanted {' '.join(due)}\n"
         yield fault and f"{number}: {command}\n  {fault}"
 
 

@@ -188,11 +188,11 @@ def completion_faults():
     """Yields the fault of each file of completions, or None. Yields a single fault if the table of commands can't be read."""
     ran = call([TOP / "build/completions.py", "--check"])
     said = ran.stdout + ran.stderr
-    told = {line.partition(":")[0]: line for line in said.splitlines()}
-    if ran.returncode != 0 and not told.keys() & set(COMPLETIONS):
+    faults_of = {line.partition(":")[0]: line for line in said.splitlines()}
+    if ran.returncode != 0 and not faults_of.keys() & set(COMPLETIONS):
         yield f"build/completions.py --check: status {ran.returncode}: {said.strip()}"
     else:
-        yield from map(told.get, COMPLETIONS)
+        yield from map(faults_of.get, COMPLETIONS)
 
 
 def faults():

@@ -93,10 +93,10 @@ def compare(cycles: int, text: str, picture: bytes, more: tuple[str, ...] = ()) 
     rows = [row.split(",") for row in book]
     offers = [row.split(",") for row in parts_of(text)[3].splitlines()[1:]]
     end = cycles * network_of(text)["cycle"]
-    told = {str(frame): f"frame {frame} of {stream}, {octets} octets" for frame, (_, _, stream, octets) in enumerate(offers, 1)}
+    named = {str(frame): f"frame {frame} of {stream}, {octets} octets" for frame, (_, _, stream, octets) in enumerate(offers, 1)}
     reasons = {row[3]: f": {row[5]}" for row in rows if row[0] == "drop"}
-    offered = [f"{told[str(frame)]}, offered at {row[0]}{reasons.get(str(frame), '')}" for frame, row in enumerate(offers, 1) if int(row[0]) < end]
-    starts = [f"{told[row[3]]}, at {row[5]}" for row in rows if row[0] == "start"]
+    offered = [f"{named[str(frame)]}, offered at {row[0]}{reasons.get(str(frame), '')}" for frame, row in enumerate(offers, 1) if int(row[0]) < end]
+    starts = [f"{named[row[3]]}, at {row[5]}" for row in rows if row[0] == "start"]
     others = [f"background frame {row[3]}, {row[4]} octets, at {row[5]}" for row in rows if row[0] == "background"]
     assert starts, "no start to draw"
     assert titles(groups["frames"], "s") == Counter(starts), "other boxes than starts"
@@ -116,9 +116,9 @@ def ends(words: list[str], status: int, line: str, text: bytes = b"") -> None:
     """Checks that ./draw ends with this status and without output. Standard error is one line that begins with this text, and perhaps
     indented lines that explain it."""
     ended = draw(words, text)
-    told = ended.stderr.decode()
-    others = told.splitlines()[1:]
-    is_one = told.startswith(line) and told.endswith("\n") and all(other.startswith("  ") for other in others)
+    errors = ended.stderr.decode()
+    others = errors.splitlines()[1:]
+    is_one = errors.startswith(line) and errors.endswith("\n") and all(other.startswith("  ") for other in others)
     assert ended.returncode == status and is_one and not ended.stdout, f"{words}: {ended}"
 
 
@@ -231,8 +231,8 @@ def rectangles(group: xml.Element) -> list[tuple[float, float, float, float]]:
 def check_apart(groups: dict[str, xml.Element]) -> None:
     """Checks that no node or label covers another one."""
     boxes = rectangles(groups["nodes"]) + rectangles(groups["labels"])
-    for place, one in enumerate(boxes):
-        for other in boxes[:place]:
+    for index, one in enumerate(boxes):
+        for other in boxes[:index]:
             covers = one[0] < other[1] and other[0] < one[1] and one[2] < other[3] and other[2] < one[3]
             assert not covers, f"{one} covers {other}"
 
@@ -346,8 +346,8 @@ def draw_ring_round() -> None:
     groups = plan_groups(["-"], dict(shapes())["a ring of 6"])
     middles = {texts(node, "name")[0]: complex(x + right, y + bottom) / 2 for node, (x, right, y, bottom) in zip(groups["nodes"], rectangles(groups["nodes"]))}
     ring = [middles[f"b{bridge}"] for bridge in range(6)]
-    sides = [abs(ring[place] - ring[place - 1]) for place in range(6)]
-    across = [abs(ring[place] - ring[place - 3]) for place in range(6)]
+    sides = [abs(ring[k] - ring[k - 1]) for k in range(6)]
+    across = [abs(ring[k] - ring[k - 3]) for k in range(6)]
     assert max(sides) < min(across) and max(sides) < 1.3 * min(sides), (sides, across)
 
 

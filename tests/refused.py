@@ -61,7 +61,7 @@ enum { WRITE = 1, WRITEV = 20, EXIT_GROUP = 231 };
 enum { WRITE = 64, WRITEV = 66, EXIT_GROUP = 94 };
 #endif
 enum { MARK = 7777777 };
-static long which, from, marked, asked, met, late, marks, told, ready;
+static long which, from, marked, asked, met, late, marks, wrote, ready;
 __attribute__((constructor)) static void begin(void) {
     const char *n = getenv("REFUSED");
     which = n ? atol(n) : 0;
@@ -70,7 +70,7 @@ __attribute__((constructor)) static void begin(void) {
     ready = 1;
 }
 static void end(void) {
-    const char *where = getenv("REFUSED_TOLD");
+    const char *where = getenv("REFUSED_REPORT");
     char line[128];
     if (!where) return;
     int file = creat(where, 0600), count = snprintf(line, sizeof line, "%ld %ld %ld %ld", asked, met, late, marks);
@@ -85,18 +85,18 @@ void _exit(int status) {
 void _Exit(int status) { _exit(status); }
 void quick_exit(int status) { _exit(status); }
 ssize_t write(int file, const void *bytes, size_t count) {
-    if (file == 1) told = 1;
+    if (file == 1) wrote = 1;
     return syscall(WRITE, (long)file, bytes, count);
 }
 ssize_t writev(int file, const void *parts, int count) {
-    if (file == 1) told = 1;
+    if (file == 1) wrote = 1;
     return syscall(WRITEV, (long)file, parts, (long)count);
 }
 static int refused(size_t octets) {
     if (!ready) return 0;
     if (marked && octets == MARK) { __atomic_fetch_add(&marks, 1, __ATOMIC_SEQ_CST); return 0; }
     if (marked && __atomic_load_n(&marks, __ATOMIC_SEQ_CST) != 1) return 0;
-    if (told) late = 1;
+    if (wrote) late = 1;
     long number = __atomic_fetch_add(&asked, 1, __ATOMIC_SEQ_CST) + 1;
     if (!which || (from ? number < which : number != which)) return 0;
     __atomic_fetch_add(&met, 1, __ATOMIC_SEQ_CST);
@@ -148,18 +148,18 @@ class Refusing:
         """Runs a program with one request refused, or with all from it on. Returns the run and what the library noted of it. Both are None if
         the run hangs. The note is None if a signal ended the run."""
         self.runs += 1
-        told = f"{self.room}/told-{self.runs}-{which}-{is_from}-{is_marked}-{time.monotonic_ns()}"
-        env = {**os.environ, "LD_PRELOAD": self.library, "REFUSED": str(which), "REFUSED_TOLD": told}
+        report = f"{self.room}/report-{self.runs}-{which}-{is_from}-{is_marked}-{time.monotonic_ns()}"
+        env = {**os.environ, "LD_PRELOAD": self.library, "REFUSED": str(which), "REFUSED_REPORT": report}
         env.update({"REFUSED_FROM": "1"} if is_from else {})
         env.update({"REFUSED_MARKED": "1"} if is_marked else {})
         try:
             ran = subprocess.run(called, input=text, capture_output=True, env=env, timeout=SECONDS, cwd=TOP)
         except subprocess.TimeoutExpired:
             return None, None
-        if not os.path.exists(told):
+        if not os.path.exists(report):
             return ran, None
-        met = Met(told)
-        os.remove(told)
+        met = Met(report)
+        os.remove(report)
         return ran, met
 
 
@@ -198,7 +198,7 @@ def try_call(refusing, program, name):
             runs += 1
             fault = fault_of_call(name, ran, met)
             if fault:
-                wrong.append(f"{name}, request {which}{' and all behind it' if is_from else ''} refused: {fault}")
+                wrong.append(f"{name}, request {which}{' and all after it' if is_from else ''} refused: {fault}")
             if met is None or not met.met or len(wrong) > 9:
                 break
     return noted.asked, runs, wrong
@@ -243,9 +243,9 @@ def try_whole(refusing, called, text, every=1, most=1_000_000, is_free=False, is
     wholes = [refusing.run(called, text) for _ in range(3 if is_on_threads else 1)]
     ends, faults, runs = {}, [], len(wholes)
     if any(ran is None or met is None or not met.asked or not is_done(ran) for ran, met in wholes):
-        return ends, runs, ["a run of which nothing is refused fails, or the library doesn't see it"]
+        return ends, runs, ["a run fails although nothing is refused, or the library doesn't see it"]
     right = None if is_free else (wholes[0][0].returncode, wholes[0][0].stdout, wholes[0][0].stderr)
-    faults += ["memory is asked for behind the first byte"] if any(met.late for _, met in wholes) else []
+    faults += ["memory is requested after the first byte"] if any(met.late for _, met in wholes) else []
     last = min(most, max(met.asked for _, met in wholes))
     with concurrent.futures.ThreadPoolExecutor(PROCESSORS) as pool:
         numbers = range(1, last + 1, every)
@@ -261,7 +261,7 @@ def try_whole(refusing, called, text, every=1, most=1_000_000, is_free=False, is
     return ends, runs, faults
 
 
-def told_ends(ends):
+def text_of_ends(ends):
     return ", ".join(f"{count} with status {status}" for status, count in sorted(ends.items()))
 
 
@@ -323,7 +323,7 @@ def gate(refusing, calls, program):
             ends, count, wrong = try_whole(refusing, called, text, 1, is_free=is_free, is_from=is_from)
             runs += count
             faults += [f"{name}: {it}" for it in wrong]
-            print(f"{name}{', from each on' if is_from else ''}: {count} runs, {told_ends(ends)}, {len(wrong)} wrong", flush=True)
+            print(f"{name}{', from each on' if is_from else ''}: {count} runs, {text_of_ends(ends)}, {len(wrong)} wrong", flush=True)
     for it in faults:
         print(it)
     print(f"it took {time.monotonic() - begun:.0f} s")
@@ -359,14 +359,14 @@ def main():
             return gate(refusing, given.program, absolute(given.names[0]))
         if given.calls:
             names, runs, faults = try_calls(refusing, given.program, given.names)
-            told = f"refused: {names} calls, {runs} runs, {len(faults)} wrong"
+            summary = f"refused: {names} calls, {runs} runs, {len(faults)} wrong"
         else:
             called = [given.program, *words[cut + 1 :]]
             ends, runs, faults = try_whole(refusing, called, sys.stdin.buffer.read(), given.every, given.most, given.free, given.is_from)
-            told = f"{sum(ends.values())} runs with a request refused: {told_ends(ends)}; {len(faults)} ended wrongly"
+            summary = f"{sum(ends.values())} runs with a request refused: {text_of_ends(ends)}; {len(faults)} ended wrongly"
     for it in faults:
         print(it)
-    print(told)
+    print(summary)
     return 1 if faults else 0
 
 

@@ -33,9 +33,9 @@ def difference(stream, found, wanted):
     if found in wanted:
         return None
     ours, theirs = found.split(b"\n"), wanted[0].split(b"\n")
-    place = next((k for k, (one, two) in enumerate(zip(ours, theirs)) if one != two), min(len(ours), len(theirs)))
-    line = lambda lines: repr(lines[place]) if place < len(lines) else "no line"
-    return f"{stream}, line {place + 1}: {line(ours)}, wanted {line(theirs)}"
+    index = next((k for k, (one, two) in enumerate(zip(ours, theirs)) if one != two), min(len(ours), len(theirs)))
+    line = lambda lines: repr(lines[index]) if index < len(lines) else "no line"
+    return f"{stream}, line {index + 1}: {line(ours)}, wanted {line(theirs)}"
 
 
 def fault_of(program, run, args):
@@ -50,8 +50,8 @@ def fault_of(program, run, args):
         return f"status: {done.returncode}, wanted {status}; it says {done.stderr[:200]!r}"
     outputs = [lines_of(it) for it in sorted(run.glob("stdout*"))] or [b""]
     faults = run / args.name.replace("args", "stderr", 1)
-    told = read(faults if faults.exists() else run / "stderr")
-    return difference("stdout", done.stdout, outputs) or difference("stderr", done.stderr, [told])
+    errors = read(faults if faults.exists() else run / "stderr")
+    return difference("stdout", done.stdout, outputs) or difference("stderr", done.stderr, [errors])
 
 
 def main():

@@ -45,7 +45,7 @@ Trials = Iterator[tuple[str, Callable[..., None]]]
 BEGINS = """#!/bin/bash
 echo "$BASHPID" >>"$NOTES/calls"
 cat >/dev/null
-touch "$TMPDIR/left-behind"
+touch "$TMPDIR/left-over"
 while [ -e "$NOTES/slow" ]; do sleep 0.05; done
 [ ! -e "$NOTES/broken" ] || { echo "2 passed, 1 failed"; exit 1; }
 """
@@ -73,7 +73,7 @@ APT_GET = """#!/bin/sh
 echo "$@" >>"$NOTES/apt-get"
 [ ! -e "$NOTES/no-packages" ]
 """
-CRATES = """# a program, its library, and a crate that it doesn't stand on
+CRATES = """# a program, its library, and a crate that it doesn't use
 low: arrayvec
 cqf: low
 other: low
@@ -194,8 +194,8 @@ class Repository:
     def builds(self) -> int:
         """Calls ./cqf, and returns how many builds that call made."""
         before = self.calls()
-        status, said, told = self.run("cqf", "a word", text="in")
-        assert (status, said) in ((7, "quick a word\nin"), (7, "proved a word\nin")), f"./cqf: {status}, {said!r}, {told!r}"
+        status, said, errors = self.run("cqf", "a word", text="in")
+        assert (status, said) in ((7, "quick a word\nin"), (7, "proved a word\nin")), f"./cqf: {status}, {said!r}, {errors!r}"
         return self.calls() - before
 
     def wait_for_call(self, count: int) -> None:
@@ -243,9 +243,9 @@ def same(found: object, wanted: object, what: str) -> None:
 
 
 def builds_once(it: Repository) -> None:
-    status, said, told = it.run("cqf", "a", "b c", text="in\n")
+    status, said, errors = it.run("cqf", "a", "b c", text="in\n")
     same((status, said), (7, "quick a b c\nin\n"), "the first call")
-    assert told.startswith("cqf: building the program unproved") and told.count("\n") == 1, told
+    assert errors.startswith("cqf: building the program unproved") and errors.count("\n") == 1, errors
     same(it.run("cqf", text="x"), (7, "quick\nx", ""), "the second call")
     same(it.calls(), 1, "builds")
     same(it.left(), [], "left")
@@ -255,8 +255,8 @@ def change(it: Repository, name: str, how: Callable[[Path], object], wanted: int
     """Checks that the call after a change makes this number of builds, and the next call none."""
     it.builds()
     how(it.top / name)
-    same(it.builds(), wanted, "builds behind the change")
-    same(it.builds(), 0, "builds behind that")
+    same(it.builds(), wanted, "builds after the change")
+    same(it.builds(), 0, "builds after that")
 
 
 def write_older(path: Path) -> None:
@@ -279,8 +279,8 @@ def add_older(path: Path) -> None:
     os.utime(path, (1, 1))
 
 
-def replace(before: str, behind: str) -> Callable[[Path], object]:
-    return lambda path: path.write_text(path.read_text().replace(before, behind))
+def replace(before: str, now: str) -> Callable[[Path], object]:
+    return lambda path: path.write_text(path.read_text().replace(before, now))
 
 
 def rename(path: Path) -> None:
@@ -314,22 +314,22 @@ def changes_under_way(it: Repository) -> None:
     (it.notes / "slow").unlink()
     started.communicate(timeout=SECONDS)
     same(it.builds(), 1, "builds of what changed")
-    same(it.builds(), 0, "builds behind that")
+    same(it.builds(), 0, "builds after that")
 
 
 def fails_to_build(it: Repository) -> None:
     (it.notes / "broken").touch()
-    status, said, told = it.run("cqf")
-    same((status, said, told.splitlines()[-1]), (2, "", "cqf: the build failed"), "a build that fails")
+    status, said, errors = it.run("cqf")
+    same((status, said, errors.splitlines()[-1]), (2, "", "cqf: the build failed"), "a build that fails")
     same(it.left(), [], "left")
     (it.notes / "broken").unlink()
-    same(it.builds(), 1, "builds behind that")
+    same(it.builds(), 1, "builds after that")
 
 
 def lacks_toolchain(it: Repository) -> None:
     (it.room / "tools/rt").unlink()
-    status, _, told = it.run("cqf")
-    assert status == 2 and "'rt' is not on the PATH" in told and told.count("\n") == 1, f"{status}, {told!r}"
+    status, _, errors = it.run("cqf")
+    assert status == 2 and "'rt' is not on the PATH" in errors and errors.count("\n") == 1, f"{status}, {errors!r}"
     assert it.run("test", "--all")[0] == 2, "the gate goes on"
 
 
@@ -337,22 +337,22 @@ def lacks_toolchain(it: Repository) -> None:
 
 
 def proves(it: Repository) -> None:
-    status, said, told = it.run("prove")
-    same((status, said), (0, ""), f"./prove, {told}")
-    assert "cqf: proving the 2 crates" in told and "cqf: proved cqf, crate 1 of 2" in told, told
+    status, said, errors = it.run("prove")
+    same((status, said), (0, ""), f"./prove, {errors}")
+    assert "cqf: proving the 2 crates" in errors and "cqf: proved cqf, crate 1 of 2" in errors, errors
     same(it.left(), [], "left")
-    same(it.run("cqf", "a", text="x"), (7, "proved a\nx", ""), "./cqf behind it")
+    same(it.run("cqf", "a", text="x"), (7, "proved a\nx", ""), "./cqf after it")
     same(it.run("prove"), (0, "", "cqf: the proved program is built\n"), "./prove once more")
     write_older(it.top / "crates/low/src/lib.rt")
-    same(it.run("cqf", "a", text="x")[:2], (7, "quick a\nx"), "./cqf behind a change")
-    same(it.run("prove")[0], 0, "./prove behind a change")
-    same(it.run("cqf", "a", text="x"), (7, "proved a\nx", ""), "./cqf behind that")
+    same(it.run("cqf", "a", text="x")[:2], (7, "quick a\nx"), "./cqf after a change")
+    same(it.run("prove")[0], 0, "./prove after a change")
+    same(it.run("cqf", "a", text="x"), (7, "proved a\nx", ""), "./cqf after that")
 
 
 def fails_to_prove(it: Repository) -> None:
     (it.notes / "broken").touch()
-    status, said, told = it.run("prove")
-    same((status, said, told.splitlines()[-1]), (2, "", "cqf: the program isn't proved"), "a proof that fails")
+    status, said, errors = it.run("prove")
+    same((status, said, errors.splitlines()[-1]), (2, "", "cqf: the program isn't proved"), "a proof that fails")
     same(it.left(), [], "left")
 
 
@@ -370,8 +370,8 @@ def installs(it: Repository) -> None:
     for destination, written in ((None, it.room / "pre fix"), (it.room / "image", it.room / "image/usr")):
         it.given |= {"DESTDIR": str(destination)} if destination else {}
         write(written / "share/man/man1/cqf.1", "earlier\n")
-        status, said, told = it.run("install", "/usr/" if destination else str(written))
-        same((status, said, told), (0, f"install: the proved program, its manual and its completions are in {written}\n", ""), "./install")
+        status, said, errors = it.run("install", "/usr/" if destination else str(written))
+        same((status, said, errors), (0, f"install: the proved program, its manual and its completions are in {written}\n", ""), "./install")
         found = {str(path.relative_to(written)): path.stat().st_mode & 0o777 for path in written.rglob("*") if path.is_file()}
         same(found, INSTALLED, "files")
         for name, place in zip(PAGES, [place for place in INSTALLED if place != "bin/cqf"]):
@@ -383,8 +383,8 @@ def installs_unproved(it: Repository) -> None:
     """Checks that ./install takes an unproved program only with --unproved, and builds none."""
     prefix = it.room / "prefix"
     for words, wanted in (([], "call ./prove, or take the unproved one by --unproved"), (["--unproved"], "call ./cqf --version")):
-        status, said, told = it.run("install", *words, str(prefix))
-        assert (status, said) == (2, "") and told.endswith(f"{wanted}\n") and told.count("\n") == 1, f"{words}: {status}, {told!r}"
+        status, said, errors = it.run("install", *words, str(prefix))
+        assert (status, said) == (2, "") and errors.endswith(f"{wanted}\n") and errors.count("\n") == 1, f"{words}: {status}, {errors!r}"
     same((it.calls(), prefix.exists()), (0, False), "builds, and a prefix")
     it.builds()
     same(it.run("install", str(prefix))[0], 2, "without the word")
@@ -398,8 +398,8 @@ def installs_nothing(it: Repository, hinder: Callable[[Repository, Path], object
     write(prefix / "bin/cqf", "earlier\n", True)
     hinder(it, prefix)
     before = tree(prefix)
-    status, said, told = it.run("install", "--unproved", str(prefix))
-    assert (status, said) == (1, "") and told.endswith("nothing is installed\n"), f"{status}, {said!r}, {told!r}"
+    status, said, errors = it.run("install", "--unproved", str(prefix))
+    assert (status, said) == (1, "") and errors.endswith("nothing is installed\n"), f"{status}, {said!r}, {errors!r}"
     same(tree(prefix), before, "below the prefix")
 
 
@@ -436,19 +436,19 @@ def ends_install(it: Repository) -> None:
 
 
 def installs_by_words(it: Repository) -> None:
-    status, said, told = it.run("install", "--help")
-    assert (status, told) == (0, "") and "--unproved PREFIX" in said, f"{status}, {said!r}, {told!r}"
+    status, said, errors = it.run("install", "--help")
+    assert (status, errors) == (0, "") and "--unproved PREFIX" in said, f"{status}, {said!r}, {errors!r}"
     for words in ([], ["prefix"], ["--proved", "/prefix"], ["/a", "/b"], [""]):
-        status, said, told = it.run("install", *words)
-        assert (status, said) == (2, "") and told.startswith("install: ") and told.count("\n") == 1, f"{words}: {status}, {told!r}"
+        status, said, errors = it.run("install", *words)
+        assert (status, said) == (2, "") and errors.startswith("install: ") and errors.count("\n") == 1, f"{words}: {status}, {errors!r}"
     it.given["DESTDIR"] = "image"
     same(it.run("install", "/usr")[0], 2, "DESTDIR that isn't from the root on")
 
 
 def completes() -> None:
     """Checks the completions of lines in bash."""
-    told = call(["bash", "-c", COMPLETES], "".join(f"{line}\n" for line in COMPLETED), cwd=TOP, timeout=SECONDS)
-    same((dict(zip(COMPLETED, told.stdout.split("\n"))), told.stderr), (COMPLETED, ""), "completions")
+    errors = call(["bash", "-c", COMPLETES], "".join(f"{line}\n" for line in COMPLETED), cwd=TOP, timeout=SECONDS)
+    same((dict(zip(COMPLETED, errors.stdout.split("\n"))), errors.stderr), (COMPLETED, ""), "completions")
 
 
 # Read-only folders
@@ -464,22 +464,22 @@ def reads_only(it: Repository, given: dict[str, str], place: str) -> None:
     """Checks that the builds of a read-only repository are kept in another place, and that the same sources are built once."""
     it.given |= {name: value.format(room=it.room) for name, value in given.items()}
     lock_up(it)
-    status, said, told = it.run("cqf", "a", text="x")
-    same((status, said), (7, "quick a\nx"), f"the first call, {told}")
+    status, said, errors = it.run("cqf", "a", text="x")
+    same((status, said), (7, "quick a\nx"), f"the first call, {errors}")
     where = next((it.room / place).glob("*/quick"), None)
     assert where is not None, f"no program in {place}"
-    same(told.splitlines()[0], f"cqf: {it.top}/built can't be written; what is built is kept in {where.parent}", "what it says")
-    assert "another build" not in told and told.count("\n") == 2, told
+    same(errors.splitlines()[0], f"cqf: {it.top}/built can't be written; what is built is kept in {where.parent}", "what it says")
+    assert "another build" not in errors and errors.count("\n") == 2, errors
     same(it.run("cqf", "a", text="x"), (7, "quick a\nx", ""), "the second call")
     same(it.calls(), 1, "builds")
     same(where.parent.stat().st_mode & 0o777, 0o700, "the mode of the folder")
     source = it.top / "crates/low/src/lib.rt"
     source.write_text("// changed\n")
-    same((it.builds(), it.builds()), (1, 0), "builds behind a change")
+    same((it.builds(), it.builds()), (1, 0), "builds after a change")
     same(sorted(path.name for path in where.parent.glob("*")), ["quick", "quick.lock", "quick.sources", "stamp"], "kept")
     same([path.name for path in (it.room / "tmp").glob("cqf-room*")], [], "left")
     same(it.run("prove")[0], 0, "./prove")
-    same(it.run("cqf", "a", text="x"), (7, "proved a\nx", ""), "./cqf behind it")
+    same(it.run("cqf", "a", text="x"), (7, "proved a\nx", ""), "./cqf after it")
 
 
 def reads_only_what_is_built(it: Repository) -> None:
@@ -491,8 +491,8 @@ def reads_only_what_is_built(it: Repository) -> None:
 def writes_nowhere(it: Repository) -> None:
     it.given |= {"HOME": "/proc", "TMPDIR": "/proc"}
     lock_up(it)
-    status, said, told = it.run("cqf")
-    assert (status, said) == (2, "") and told.startswith("cqf: no folder for a build") and told.count("\n") == 1, f"{status}, {told!r}"
+    status, said, errors = it.run("cqf")
+    assert (status, said) == (2, "") and errors.startswith("cqf: no folder for a build") and errors.count("\n") == 1, f"{status}, {errors!r}"
 
 
 def shares_no_folder(it: Repository) -> None:
@@ -509,8 +509,8 @@ def shares_no_folder(it: Repository) -> None:
 def finds_folder(it: Repository, name: str) -> None:
     """Checks that ./cqf reports a folder in place of a file that a build keeps, and builds nothing."""
     (it.top / "built" / name).mkdir(parents=True)
-    status, said, told = it.run("cqf")
-    same((status, said, told), (2, "", f"cqf: {it.top}/built/{name} is a folder, and a build is kept there: remove it\n"), "it ends with")
+    status, said, errors = it.run("cqf")
+    same((status, said, errors), (2, "", f"cqf: {it.top}/built/{name} is a folder, and a build is kept there: remove it\n"), "it ends with")
     same(it.calls(), 0, "builds")
 
 
@@ -559,7 +559,7 @@ def ends_waiting(it: Repository) -> None:
     same((it.calls(), it.left()), (1, []), "builds, and left")
 
 
-def ends_told(it: Repository, script: str, sent: signal.Signals, at_all: bool) -> None:
+def ends_when_signalled(it: Repository, script: str, sent: signal.Signals, at_all: bool) -> None:
     """Checks that a signal ends a build and all its processes at once. The build leaves no files, and the next one doesn't wait."""
     (it.notes / "slow").touch()
     started = it.start(script)
@@ -570,8 +570,8 @@ def ends_told(it: Repository, script: str, sent: signal.Signals, at_all: bool) -
     wait_for(lambda: not it.under_way(), "a process of the build goes on")
     same(it.left(), [], "left")
     (it.notes / "slow").unlink()
-    status, _, told = it.run(script, text="x")
-    same((status, "another build" in told), (0 if script == "prove" else 7, False), f"the next build, {told}")
+    status, _, errors = it.run(script, text="x")
+    same((status, "another build" in errors), (0 if script == "prove" else 7, False), f"the next build, {errors}")
 
 
 def ends_killed(it: Repository, script: str) -> None:
@@ -589,14 +589,14 @@ def ends_killed(it: Repository, script: str) -> None:
         os.kill(orphan, signal.SIGSTOP)
     (it.notes / "slow").unlink()
     try:
-        status, _, told = it.run(script, text="x")
+        status, _, errors = it.run(script, text="x")
     finally:
         for orphan in orphans:
             with suppress(ProcessLookupError):
                 os.kill(orphan, signal.SIGKILL)
     started.communicate(timeout=SECONDS)
-    same((status, "another build" in told), (0 if script == "prove" else 7, False), f"the next build, {told}")
-    same(it.left(), [], "left behind that")
+    same((status, "another build" in errors), (0 if script == "prove" else 7, False), f"the next build, {errors}")
+    same(it.left(), [], "left after that")
 
 
 # Tests
@@ -620,10 +620,10 @@ def passes_gate(it: Repository) -> None:
     """Checks that the last line of the gate is that of the proofs, and that its status is 1 if a test fails."""
     status, said, _ = it.run("test", "--all")
     same((status, said.splitlines()[-1]), (0, "3 passed, 0 failed"), "all passed")
-    for part, told in (("refused", "2 passed, 1 failed"), ("tc", "2 passed, 1 failed"), ("tc-kernel", "2 passed, 1 failed"), ("tc-kernel", "ended")):
-        (it.notes / part).write_text(f"{told}\n")
+    for part, errors in (("refused", "2 passed, 1 failed"), ("tc", "2 passed, 1 failed"), ("tc-kernel", "2 passed, 1 failed"), ("tc-kernel", "ended")):
+        (it.notes / part).write_text(f"{errors}\n")
         status, said, _ = it.run("test", "--all")
-        same((status, said.splitlines()[-1]), (1, "3 passed, 0 failed"), f"{part}: {told}")
+        same((status, said.splitlines()[-1]), (1, "3 passed, 0 failed"), f"{part}: {errors}")
         (it.notes / part).unlink()
     (it.notes / "broken").touch()
     status, said, _ = it.run("test", "--all")
@@ -651,11 +651,11 @@ def installs_packages(it: Repository) -> None:
 
 
 def takes_words(it: Repository) -> None:
-    status, said, told = it.run("test", "--help")
-    assert (status, told) == (0, "") and "./test --all" in said, f"{status}, {said!r}, {told!r}"
+    status, said, errors = it.run("test", "--help")
+    assert (status, errors) == (0, "") and "./test --all" in said, f"{status}, {said!r}, {errors!r}"
     for words in (["--al"], [""], ["--all", "--all"], ["runs"]):
-        status, said, told = it.run("test", *words)
-        assert (status, said) == (2, "") and told.startswith("test: ") and told.count("\n") == 1, f"{words}: {status}, {told!r}"
+        status, said, errors = it.run("test", *words)
+        assert (status, said) == (2, "") and errors.startswith("test: ") and errors.count("\n") == 1, f"{words}: {status}, {errors!r}"
     same(it.calls(), 0, "builds")
 
 
@@ -684,28 +684,28 @@ def draw(words: list[str], redirected: str = "", **more: object) -> tuple[int, s
 
 def draws_to(program: str, words: list[str], redirected: str, wanted: tuple[int, str]) -> None:
     """Checks that ./draw ends with this status and this text on standard error, and writes no output."""
-    status, said, told = draw(["--program", program, *words], redirected)
-    same((status, said, told), (wanted[0], "", wanted[1]), "it ends with")
+    status, said, errors = draw(["--program", program, *words], redirected)
+    same((status, said, errors), (wanted[0], "", wanted[1]), "it ends with")
 
 
 def draws_refused(program: str) -> None:
     """Checks that ./draw passes on the program's message if the program refuses the input."""
-    status, said, told = draw(["--program", program, "--cycles", "5"], "</dev/null")
-    same((status, said, told.split("\n")[0]), (1, "", "cqf: parts"), "it ends with")
+    status, said, errors = draw(["--program", program, "--cycles", "5"], "</dev/null")
+    same((status, said, errors.split("\n")[0]), (1, "", "cqf: parts"), "it ends with")
 
 
 def draws_unheard(program: str) -> None:
     """Checks that lines that can't be written on standard error change no status, and appear nowhere else."""
     for closed in ("2>&-", "2>/dev/full"):
         same(draw(["--program", program, "--cycles", "0"], closed), (2, "", ""), closed)
-        status, said, told = draw(["--program", program, *DRAWN], closed)
-        assert status == 0 and said.endswith("</svg>\n") and told == "", f"{closed}: {status}, {told!r}"
+        status, said, errors = draw(["--program", program, *DRAWN], closed)
+        assert status == 0 and said.endswith("</svg>\n") and errors == "", f"{closed}: {status}, {errors!r}"
 
 
 def draws_without_input(program: str) -> None:
     """Checks that ./draw draws files if standard input is closed."""
-    status, said, told = draw(["--program", program, *DRAWN], "<&-")
-    assert (status, told) == (0, "") and said.endswith("</svg>\n"), f"{status}, {told!r}"
+    status, said, errors = draw(["--program", program, *DRAWN], "<&-")
+    assert (status, errors) == (0, "") and said.endswith("</svg>\n"), f"{status}, {errors!r}"
 
 
 def draws_short_of_memory(program: str) -> None:
@@ -722,8 +722,8 @@ def draws_by(text: str, wanted: str) -> None:
     with tempfile.TemporaryDirectory() as folder:
         program = f"{folder}/program"
         write(program, text, True)
-        status, said, told = draw(["--program", program, *DRAWN])
-        same((status, said, told), (2, "", f"draw: {program}: {wanted}\n"), "it ends with")
+        status, said, errors = draw(["--program", program, *DRAWN])
+        same((status, said, errors), (2, "", f"draw: {program}: {wanted}\n"), "it ends with")
 
 
 def draws_into_a_pipe(program: str) -> None:
@@ -735,7 +735,7 @@ def draws_into_a_pipe(program: str) -> None:
     same((ran.returncode, ran.stderr), (4, b"draw: output fault\n"), "it ends with")
 
 
-def draws_until_told(program: str) -> None:
+def draws_until_signalled(program: str) -> None:
     """Checks that Ctrl-C ends ./draw without a message."""
     with tempfile.TemporaryDirectory() as folder:
         os.mkfifo(f"{folder}/input")
@@ -763,7 +763,7 @@ def in_repository(trial: Callable[..., None], *given: object) -> Callable[[], No
 
 
 def trials_of_builds() -> Trials:
-    yield "a build and a call behind it", builds_once
+    yield "a build and a call after it", builds_once
     for what, name, how, wanted in CHANGES:
         yield what, partial(change, name=name, how=how, wanted=wanted)
     yield "a source that changes while the program is built", changes_under_way
@@ -786,8 +786,8 @@ def trials_of_builds() -> Trials:
     yield "a wait that is ended", ends_waiting
     for script in ("cqf", "prove"):
         for sent in (signal.SIGTERM, signal.SIGINT, signal.SIGHUP):
-            yield f"./{script} with {sent.name}", partial(ends_told, script=script, sent=sent, at_all=False)
-        yield f"./{script} and Ctrl-C", partial(ends_told, script=script, sent=signal.SIGINT, at_all=True)
+            yield f"./{script} with {sent.name}", partial(ends_when_signalled, script=script, sent=sent, at_all=False)
+        yield f"./{script} and Ctrl-C", partial(ends_when_signalled, script=script, sent=signal.SIGINT, at_all=True)
         yield f"./{script} that is killed", partial(ends_killed, script=script)
 
 
@@ -824,7 +824,7 @@ def trials_of_draw(program: str) -> Iterator[Trial]:
     yield "an input that is refused", partial(draws_refused, program)
     yield "a word of two lines", partial(draws_to, program, ["--cycles", "5\n"], "", (2, "draw: argument --cycles: '5\\n' is no number from 1 to 32\n"))
     yield "short of memory", partial(draws_short_of_memory, program)
-    yield "Ctrl-C", partial(draws_until_told, program)
+    yield "Ctrl-C", partial(draws_until_signalled, program)
     for other, fault in (("/bin/true", "this isn't cqf"), ("/bin/cat", "this isn't cqf"), ("/none", "No such file or directory"), ("/", "Permission denied")):
         yield f"--program {other}", partial(draws_to, other, DRAWN, "", (2, f"draw: {other}: {fault}\n"))
     yield "a program of another name", partial(draws_by, "#!/bin/sh\necho other 1.0.0\n", "this isn't cqf")

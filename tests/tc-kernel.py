@@ -99,7 +99,7 @@ def main() -> int:
         print(f"tc-kernel: not run: there is no {lacking}" + (f"; install {' '.join(lacking.packages)}" if lacking.packages else ""))
         return NOT_RUN
     except machine.Ended as ended:
-        verdicts.tell("the machine comes to its end", False, str(ended))
+        verdicts.tell("the machine ends", False, str(ended))
     return verdicts.end()
 
 

@@ -228,9 +228,9 @@ def try_real(path, at, script, multiple, room):
         given = {**values_for(variables_of(lines), multiple), "TC": wrapper, "REAL_TC": real, "TRIED": tried}
         made = "".join(f"ip link add {name} type veth peer name p{k}; " for k, name in enumerate(interfaces_of(given)))
         done = call([*inside, "sh", "-ec", f'{made}exec sh "$@"', "sh", path, bridge], env=given)
-        told = [line.split(" ", 1) for line in Path(tried).read_text(encoding="utf-8").splitlines()]
+        tries = [line.split(" ", 1) for line in Path(tried).read_text(encoding="utf-8").splitlines()]
         # the script goes on if these are refused: they query the present state or a gate that doesn't exist, or add a qdisc that may exist
-        wrong = [words for kind, words in told if kind == "refused" and not words.startswith(("actions get ", "filter show ", "qdisc add "))]
+        wrong = [words for kind, words in tries if kind == "refused" and not words.startswith(("actions get ", "filter show ", "qdisc add "))]
         tell(f"{bridge} of {at} with the real tc", done.returncode == 0 and not wrong, "\n".join(wrong) + done.stdout + done.stderr)
 
 
@@ -307,7 +307,7 @@ class Refused(Exception):
     """The error message of a command that fails and changes nothing."""
 
 
-def behind(words, word):
+def word_after(words, word):
     return words[words.index(word) + 1] if word in words else None
 
 
@@ -373,12 +373,12 @@ class Standing:
         if program == "ip":
             return self.ip(words)
         if words[:2] == ("actions", "get"):
-            return self.get_gate(int(behind(words, "index")))
-        device = behind(words, "dev")
+            return self.get_gate(int(word_after(words, "index")))
+        device = word_after(words, "dev")
         if device not in self.at:
             raise Refused(f'Cannot find device "{device}"')
         if words[:2] == ("filter", "show"):
-            return self.show(self.at[device], behind(words, "chain"))
+            return self.show(self.at[device], word_after(words, "chain"))
         # a program's file has another name in each run
         self.changes.append(re.sub(r"object-file \S+", "object-file FILE", " ".join(words)))
         if len(self.changes) == self.refused:
@@ -412,14 +412,14 @@ class Standing:
         return [*gate_lines(order, action, count, count), ""]
 
     def show(self, at, chain):
-        lines, told = [], set()
+        lines, seen = [], set()
         for held in at["filters"]:
             if held["chain"] != chain:
                 continue
             head = f"filter protocol {held['protocol']} pref {held['pref']} {held['kind']} "
-            if held["pref"] not in told:
+            if held["pref"] not in seen:
                 lines.append(head)
-                told.add(held["pref"])
+                seen.add(held["pref"])
             keys = ["  vlan_id 10", "  dst_mac 01:00:5e:00:00:01", "  skip_sw", "  in_hw in_hw_count 1"] if held["kind"] == "flower" else ["  not_in_hw"]
             lines += [f"{head}handle {held['handle']:#x} ", *keys]
             for order, action in enumerate(held["actions"], 1):
@@ -440,7 +440,7 @@ class Standing:
 
     def change_filter(self, at, words):
         kind = next((word for word in words if word in ("flower", "matchall")), None)
-        chain, protocol, pref, handle = (behind(words, it) for it in ("chain", "protocol", "pref", "handle"))
+        chain, protocol, pref, handle = (word_after(words, it) for it in ("chain", "protocol", "pref", "handle"))
         like = [held for held in at["filters"] if (held["chain"], held["pref"]) == (chain, pref)]
         same = [held for held in like if handle is None or held["handle"] == int(handle, 0)]
         if not at["clsact"]:
@@ -456,12 +456,12 @@ class Standing:
 
     def actions_of(self, words):
         """Returns the actions of a new filter: its gate, and before that its program, if it has one. Reads the program's file as `tc` does."""
-        index = int(behind(words, "index"))
+        index = int(word_after(words, "index"))
         # a gate that already exists is used as it is, regardless of the given entries
         found = [action for action in self.gates() if action[1] == index]
         entries = [list(words[k + 1 : k + 5]) for k, word in enumerate(words) if word == "sched-entry"]
         gate = found[0] if found else ["gate", index, entries]
-        file = behind(words, "object-file")
+        file = word_after(words, "object-file")
         if not file:
             return [gate]
         if words[words.index("object-file") + 2 : words.index("gate")] != ("section", "tc", "pipe", "action"):
@@ -641,8 +641,8 @@ def try_refusals(bridge):
         before = bridge.lay()
         done = bridge.run({name: value})
         # for a chain, the line says which interface has no filter that leads there
-        told = "goto chain 5" if (name, value) == ("CHAIN", "5") else bridge.names.get(name, name)
-        bridge.tell(f"{name}={value} is refused", is_refusal(done, told) and bridge.is_untouched(before), done.stdout + done.stderr)
+        named = "goto chain 5" if (name, value) == ("CHAIN", "5") else bridge.names.get(name, name)
+        bridge.tell(f"{name}={value} is refused", is_refusal(done, named) and bridge.is_untouched(before), done.stdout + done.stderr)
     for words in ((), ("b", "a"), ("d",), ("",)):
         before = bridge.lay()
         done = bridge.run(words=words)
@@ -694,8 +694,8 @@ def try_sharing(bridge):
     done = bridge.run({"TC": "echo", "IP": "ip", "TALKER y": "lan4"})
     bridge.tell("another name of an interface is taken", done.returncode == 0 and bridge.is_untouched(before), done.stderr)
     done = bridge.run({"TC": "echo", "IP": "ip", "OUT a": "no-such"})
-    told = bridge.names["OUT a"]
-    bridge.tell("where IP is set it looks for them", is_refusal(done, told) and bridge.is_untouched(before), done.stdout + done.stderr)
+    named = bridge.names["OUT a"]
+    bridge.tell("where IP is set it looks for them", is_refusal(done, named) and bridge.is_untouched(before), done.stdout + done.stderr)
 
 
 def try_state(program, room, software):

@@ -200,7 +200,7 @@ static unsigned number_in(const unsigned char *text, long length)
 }
 
 /* prints the line of one captured frame; returns whether there was one */
-static int take_frame(const struct place *capture, long long behind_utc)
+static int take_frame(const struct place *capture, long long after_utc)
 {
     unsigned char text[2048];
     char control[512];
@@ -224,7 +224,7 @@ static int take_frame(const struct place *capture, long long behind_utc)
         tag = more.tp_status & TP_STATUS_VLAN_VALID ? TAG : 0;
     }
     printf("%s %s %u %lld %ld\n", capture->name, from.sll_pkttype == PACKET_OUTGOING ? "out" : "in", number_in(text, length),
-           (long long)at.tv_sec * SECOND + at.tv_nsec + behind_utc, length + tag + FCS);
+           (long long)at.tv_sec * SECOND + at.tv_nsec + after_utc, length + tag + FCS);
     return 1;
 }
 

@@ -214,8 +214,8 @@ def built(kernel: Kernel) -> dict[str, bytes]:
 def with_libraries(path: str, name: str) -> dict[str, bytes]:
     """Returns a program under a name, and the libraries that it needs, by their paths."""
     files = {name: Path(path).read_bytes()}
-    told = subprocess.run(["ldd", path], capture_output=True, text=True, check=False).stdout
-    return files | {it.lstrip("/"): Path(it).read_bytes() for it in re.findall(r"(/lib\S+)", told)}
+    listed = subprocess.run(["ldd", path], capture_output=True, text=True, check=False).stdout
+    return files | {it.lstrip("/"): Path(it).read_bytes() for it in re.findall(r"(/lib\S+)", listed)}
 
 
 def archive(files: dict[str, bytes]) -> bytes:

@@ -36,7 +36,7 @@ def at_host(plan: Plan, bridge: str) -> tuple[str, str]:
     return f"host.{plan.bridges.index(bridge)}", f"h{plan.bridges.index(bridge)}"
 
 
-def hosted_ways(plan: Plan) -> dict[tuple[str, str], list[str]]:
+def hosted_paths(plan: Plan) -> dict[tuple[str, str], list[str]]:
     """The paths of frames that belong to no stream: the path of the first stream from a bridge to a station."""
     ways: dict[tuple[str, str], list[str]] = {}
     for stream in plan.streams:
@@ -54,7 +54,7 @@ def lines_of(plan: Plan) -> Iterator[Line]:
             yield Line(ends, tuple((it["rate"], it["delay"]) for it in (link, back or link)))
     for number, (bridge, _) in enumerate(plan.talkers()):
         yield Line((at_talker(number), (bridge, plan.to_talker(bridge, number))), (TALKER, TALKER))
-    for bridge in sorted({it for it, _ in hosted_ways(plan)}):
+    for bridge in sorted({it for it, _ in hosted_paths(plan)}):
         yield Line((at_host(plan, bridge), (bridge, f"n{plan.bridges.index(bridge)}h")), (TALKER, TALKER))
 
 
@@ -78,7 +78,7 @@ def forwarding(plan: Plan, bridge: str) -> list[str]:
         outs = {plan.interface(*hop) for path in stream["paths"] for hop in zip(path, path[1:]) if hop[0] == bridge}
         lines += [f"mdb add dev br0 port {it} grp {plan.address(number)} permanent" for it in sorted(outs)]
     outs_of: dict[str, str] = {}
-    for path in hosted_ways(plan).values():
+    for path in hosted_paths(plan).values():
         if bridge in path:
             outs_of.setdefault(path[-1], plan.interface(bridge, path[path.index(bridge) + 1]))
     return lines + [f"fdb replace {station_address(plan, it)} dev {out} master static" for it, out in outs_of.items()]
@@ -117,7 +117,7 @@ class Other:
 def others(plan: Plan, cycles: int) -> list[Other]:
     """Frames that belong to no stream: in each cycle a third of what the slowest link of the path carries, and at most 20."""
     found = []
-    for path in hosted_ways(plan).values():
+    for path in hosted_paths(plan).values():
         slowest = min(plan.links[hop]["rate"] for hop in zip(path, path[1:]))
         count = min(20, max(1, plan.cycle * slowest // (8000 * 1542 * 3)))
         found += [Other((3 + cycle) * plan.cycle + k * (plan.cycle // count) + 777, tuple(path)) for cycle in range(cycles) for k in range(count)]

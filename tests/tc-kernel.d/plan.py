@@ -11,7 +11,7 @@ from common.running import call
 
 VLANS = (10, 11)
 # the first cycle with offers, and the number of cycles after the last one
-FIRST, BEHIND = 4, 12
+FIRST, MORE = 4, 12
 PORT = re.compile(r'^    port (\w+) "\$\{\1:-\}" (\S+) "interface of \S+ to (.*)"$')
 FRAMES = re.compile(r'^    frames \S+ "\$\{(\w+):-\}" "\$\{(\w+):-\}" (\S+)(?: (\d+))?$')
 
@@ -116,8 +116,8 @@ class Plan:
     def way_in(self, bridge: str, number: int) -> str:
         """Returns the interface at which a stream enters a bridge."""
         path = next(it for it in self.streams[number]["paths"] if bridge in it)
-        place = path.index(bridge)
-        return self.interface(bridge, path[place - 1]) if place else self.to_talker(bridge, self.talker(number))
+        hop = path.index(bridge)
+        return self.interface(bridge, path[hop - 1]) if hop else self.to_talker(bridge, self.talker(number))
 
     def address(self, number: int) -> str:
         return f"03:00:00:00:{(self.first_address + number) // 256:02x}:{(self.first_address + number) % 256:02x}"
@@ -170,26 +170,26 @@ class Plan:
         every, phase = self.streams[number].get("every", 1), self.streams[number].get("phase", 0)
         return [it for it in range(FIRST, FIRST + max(count, 2 * every)) if it % every == phase]
 
-    def sizes(self, number: int, turn: int, keeps_word: bool) -> list[int]:
-        """Returns the sizes of a stream's frames in a cycle of its own. In turn, these are: its reservation; 64 octets more; 200 octets less, then
+    def sizes(self, number: int, number_of_cycle: int, keeps_word: bool) -> list[int]:
+        """Returns the sizes of a stream's frames in a cycle of its own. In number_of_cycle, these are: its reservation; 64 octets more; 200 octets less, then
         a frame of 300, which exceeds the reservation, and one of 136, which doesn't; and a single frame. A talker that keeps its word sends only
         its reservation or the single frame."""
         octets = self.streams[number]["octets"]
         whole = list(frames_of(octets))
-        if turn % 4 == 1 and not keeps_word:
+        if number_of_cycle % 4 == 1 and not keeps_word:
             return [*whole, SHORTEST]
-        if turn % 4 == 2 and not keeps_word and octets - 200 >= SHORTEST:
+        if number_of_cycle % 4 == 2 and not keeps_word and octets - 200 >= SHORTEST:
             return [*frames_of(octets - 200), 300, 136]
-        return [min(octets, LONGEST)] if turn % 4 == 3 else whole
+        return [min(octets, LONGEST)] if number_of_cycle % 4 == 3 else whole
 
     def offers(self, cycles: int, keeps_word: bool = False) -> list[Offer]:
         """Returns the frames of some cycles, by time. A stream that pauses also has a frame in a cycle that isn't its own."""
         found = []
         for number, stream in enumerate(self.streams):
             own = self.own_cycles(number, cycles)
-            for turn, cycle in enumerate(own):
+            for number_of_cycle, cycle in enumerate(own):
                 begins = cycle * self.cycle + self.cycle // 20 + number * 1000
-                sizes = self.sizes(number, turn, keeps_word)
+                sizes = self.sizes(number, number_of_cycle, keeps_word)
                 found += [Offer(begins + k * (self.cycle // 40), number, octets) for k, octets in enumerate(sizes)]
             if stream.get("every", 1) > 1:
                 found.append(Offer((own[0] + 1) * self.cycle + self.cycle // 2, number, SHORTEST))
@@ -197,16 +197,16 @@ class Plan:
 
     def end(self, offers: list[Offer]) -> int:
         """Returns a cycle at which all frames have arrived."""
-        return offers[-1].at // self.cycle + BEHIND
+        return offers[-1].at // self.cycle + MORE
 
     def hops(self, offers: list[Offer], room: Path) -> tuple[dict[tuple[int, str], int], dict[int, str]]:
         """Returns what `cqf hops` reports of the offers, numbered from 1: each frame's cycle on each of its links, and the bridge that drops it."""
         rows = "".join(f"{it.at},{self.edge(it.stream)},{self.streams[it.stream]['name']},{it.octets}\n" for it in offers)
         (room / "offers.csv").write_text("at,bridge,stream,octets\n" + rows, encoding="utf-8")
         said = output_of(self.program, "hops", "--cycles", str(self.end(offers)), str(self.path), str(room / "offers.csv"))
-        told = list(csv.DictReader(io.StringIO(said)))
-        cycles = {(int(it["frame"]), it["where"]): int(it["cycle"]) for it in told if not it["dropped"]}
-        return cycles, {int(it["frame"]): it["where"] for it in told if it["dropped"]}
+        rows = list(csv.DictReader(io.StringIO(said)))
+        cycles = {(int(it["frame"]), it["where"]): int(it["cycle"]) for it in rows if not it["dropped"]}
+        return cycles, {int(it["frame"]): it["where"] for it in rows if it["dropped"]}
 
 
 def older(path: Path, room: Path) -> Path:

@@ -19,7 +19,7 @@ ADDRESS, VLAN = "03:00:00:00:00:01", 10
 LISTS = "sched-entry S BF 9000000 sched-entry S 00 1000000 sched-entry S 7F 9000000 sched-entry S 00 1000000"
 QUEUES = "num_tc 8 map 0 1 2 3 4 5 6 7 0 0 0 0 0 0 0 0 queues 1@0 1@1 1@2 1@3 1@4 1@5 1@6 1@7"
 OWN_SECONDS = 20
-# `cell NAME COMMANDS` makes a cell of three namespaces, of which the bridge's first runs commands; `send NAME` sends its frames
+# `cell NAME COMMANDS` makes a cell of three namespaces; that of the bridge first runs commands; `send NAME` sends its frames
 CELLS = f"""cell() {{
     for at in talker bridge station; do
         ip netns add "$1.$at"
@@ -86,7 +86,7 @@ class Difference:
 
 
 def both(octets: int) -> str:
-    """A gate with a class by the cycle, which passes so many octets in each cycle, -1 for any number."""
+    """A gate with a class by the cycle, which passes this number of octets in each cycle, -1 for any."""
     return f"gate index INDEX base-time 0 sched-entry open {CYCLE} 6 {octets} sched-entry open {CYCLE} 7 {octets}"
 
 
@@ -202,8 +202,8 @@ class Unoffloaded:
         if is_refused:
             print("differs: taprio with flags 0x2 is refused without offloads: Error: Device does not have a PTP clock.")
         left = differences(shown(files["bare/set.shown"]), {})
-        is_told = [it.split()[-1] for it in files["bare/set.status"].splitlines()] == ["1"] * count
-        verdicts.tell("the script for offloads then ends with status 1, and leaves nothing", is_refused and is_told and not left, f"{said} {left}")
+        says_so = [it.split()[-1] for it in files["bare/set.status"].splitlines()] == ["1"] * count
+        verdicts.tell("the script for offloads then ends with status 1, and leaves nothing", is_refused and says_so and not left, f"{said} {left}")
 
 
 def files() -> dict[str, str]:

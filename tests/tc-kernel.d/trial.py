@@ -9,7 +9,7 @@ from verdicts import Verdicts
 MODULES = "bridge sch_taprio sch_ingress act_gate cls_flower".split()
 # the number of cycles with offers
 CYCLES = 8
-# on so many bridges of a plan the driver refuses something, and the script runs again
+# the number of bridges of a plan on which the driver refuses something, and the script runs again
 BRIDGES = 2
 # what `tc` says if the driver refuses a gate or a list
 REFUSALS = ("Error: tsnsim: no room.", "Error: Device failed to setup taprio offload.")
@@ -114,8 +114,8 @@ class Trial:
         """Judges whether a command that fails leaves nothing of the run."""
         said, count = self.text("refused.said"), len(self.some)
         refusals = sum(said.count(it) for it in REFUSALS)
-        is_told = self.statuses("refused") == ["1"] * count and refusals == said.count(TAKEN_BACK) == count
-        self.verdicts.tell("if the driver refuses something, the script ends with status 1 and says so", is_told, said)
+        says_so = self.statuses("refused") == ["1"] * count and refusals == said.count(TAKEN_BACK) == count
+        self.verdicts.tell("if the driver refuses something, the script ends with status 1 and says so", says_so, said)
         left = self.differences("refused", {})
         self.verdicts.tell("then it leaves nothing of its own", not left, "; ".join(left))
 

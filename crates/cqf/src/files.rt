@@ -4,8 +4,8 @@ ghost use Rattle.std.specs.Prelude.{◌≤◌, ◌<◌, ◌^◌, IfOk, OnOk, len
 
 use crate::terminal::hint;
 use cqf_model::Limits;
-use cqf_output::{DONE, FAULT, REFUSED, Sink, Stop, Told, told_text, write_out};
-use cqf_program_engine::{Heard, Texts, engine, most_bytes, tell};
+use cqf_output::{CheckedSink, DONE, FAULT, REFUSED, Sink, Stop, write_out, written_text};
+use cqf_program_engine::{Heard, Texts, engine, most_bytes, write};
 use cqf_program_explanations::{NamedFile, explanation, notes, plan_notes};
 use cqf_program_files::{Front, cycles_of, front_of, renumbered};
 use cqf_program_offers::made_input;
@@ -87,7 +87,7 @@ fn read_standard(
     requires few { length texts.old.bytes ≤ most }
     ensures { OnOk result (length texts.new.bytes ≤ most) }
 {
-    let mut faults = Told::new(rt.stderr());
+    let mut faults = CheckedSink::new(rt.stderr());
     let mut input = rt.stdin();
     hint(&input, &mut faults);
     texts.read(alloc, most, &mut input)
@@ -112,8 +112,8 @@ fn read_files(rt: &HostRuntime, alloc: Global, most: usize, names: &[&str]) -> R
 
 /// Ends a run before it has begun.
 pub(crate) fn end(rt: &HostRuntime, stop: &Stop) -> ExitCode {
-    let (mut output, mut faults) = (Told::new(rt.stdout()), Told::new(rt.stderr()));
-    ExitCode::from(tell(stop, &mut output, &mut faults))
+    let (mut output, mut faults) = (CheckedSink::new(rt.stdout()), CheckedSink::new(rt.stderr()));
+    ExitCode::from(write(stop, &mut output, &mut faults))
 }
 
 /// Returns the files that the words name, with their texts.
@@ -123,10 +123,10 @@ fn sources_of<'t>(
     texts: &[&'t [u8]],
 ) -> Result<Vec<NamedFile<'t>>, AllocError> {
     let mut sources = Vec::new(alloc);
-    for place in 0..names.len().min(texts.len()) {
+    for index in 0..names.len().min(texts.len()) {
         sources.push(NamedFile {
-            name: names[place],
-            text: texts[place],
+            name: names[index],
+            text: texts[index],
         })?;
     }
     Ok(sources)
@@ -163,12 +163,12 @@ fn explain(rt: &HostRuntime, given: &FilesInput<'_>, line: &[u8]) {
         sources.as_slice(),
         line,
     ) {
-        write_out(&mut Told::new(rt.stderr()), text.as_slice());
+        write_out(&mut CheckedSink::new(rt.stderr()), text.as_slice());
     }
 }
 
 /// Writes the explanation of the line `cqf: parts`, for words that name no files if standard input is empty.
-pub(crate) fn explain_nothing<F: Sink>(alloc: Global, words: &[&str], faults: &mut Told<F>) {
+pub(crate) fn explain_nothing<F: Sink>(alloc: Global, words: &[&str], faults: &mut CheckedSink<F>) {
     let Some(command) = words.first() else {
         return;
     };
@@ -224,7 +224,7 @@ fn is_difference(status: u8, line: &[u8]) -> bool {
 /// Writes notes, if there are any.
 fn write_notes(rt: &HostRuntime, notes: &Option<Vec<u8>>) {
     if let Some(text) = notes {
-        write_out(&mut Told::new(rt.stderr()), text.as_slice());
+        write_out(&mut CheckedSink::new(rt.stderr()), text.as_slice());
     }
 }
 
@@ -233,7 +233,7 @@ fn write_notes(rt: &HostRuntime, notes: &Option<Vec<u8>>) {
 struct Ended {
     status: u8,
     /// The line that it prints about a fault.
-    told: Told<Vec<u8>>,
+    reported: CheckedSink<Vec<u8>>,
     /// The notes on the plan that it made, if they are wanted.
     plan_notes: Option<Vec<u8>>,
 }
@@ -246,12 +246,19 @@ fn run(
     words: &[&str],
     input: &[u8],
 ) -> Result<Ended, AllocError> {
-    let mut told = Told::new(Vec::with_capacity(alloc, ROOM)?);
-    let (mut heard, mut output) = (Heard::new(alloc, input), Told::new(rt.stdout()));
-    let status = engine(threads, alloc, words, &mut heard, &mut output, &mut told);
+    let mut reported = CheckedSink::new(Vec::with_capacity(alloc, ROOM)?);
+    let (mut heard, mut output) = (Heard::new(alloc, input), CheckedSink::new(rt.stdout()));
+    let status = engine(
+        threads,
+        alloc,
+        words,
+        &mut heard,
+        &mut output,
+        &mut reported,
+    );
     Ok(Ended {
         status,
-        told,
+        reported,
         plan_notes: None,
     })
 }
@@ -281,40 +288,40 @@ fn run_plan(
     input: &[u8],
 ) -> Result<Ended, AllocError> {
     let (alloc, words) = (given.alloc, given.operands.words());
-    let mut told = Told::new(Vec::with_capacity(alloc, ROOM)?);
-    let (mut heard, mut plan) = (Heard::new(alloc, input), Told::new(Vec::new(alloc)));
-    let status = engine(threads, alloc, words, &mut heard, &mut plan, &mut told);
-    let text = told_text(plan)?;
+    let mut reported = CheckedSink::new(Vec::with_capacity(alloc, ROOM)?);
+    let (mut heard, mut plan) = (Heard::new(alloc, input), CheckedSink::new(Vec::new(alloc)));
+    let status = engine(threads, alloc, words, &mut heard, &mut plan, &mut reported);
+    let text = written_text(plan)?;
     if status != DONE {
         return Ok(Ended {
             status,
-            told,
+            reported,
             plan_notes: None,
         });
     }
     let plan_notes = plan_notes_of(given, text.as_slice());
-    let (stop, mut output) = (Stop { status, text }, Told::new(rt.stdout()));
-    let status = tell(&stop, &mut output, &mut told);
+    let (stop, mut output) = (Stop { status, text }, CheckedSink::new(rt.stdout()));
+    let status = write(&stop, &mut output, &mut reported);
     Ok(Ended {
         status,
-        told,
+        reported,
         plan_notes,
     })
 }
 
 /// Returns the line about a run that ended with this status. In a refusal, after which no output was written, a line's number in the script
 /// is replaced by that in the file of calls. Returns an error if an allocation fails.
-fn line_told(
+fn line_written(
     alloc: Global,
     front: &Front,
     status: u8,
-    told: Vec<u8>,
+    reported: Vec<u8>,
 ) -> Result<Vec<u8>, AllocError> {
     match &front.numbers {
         Some(numbers) if status == REFUSED => {
-            renumbered(alloc, numbers.as_slice(), told.as_slice())
+            renumbered(alloc, numbers.as_slice(), reported.as_slice())
         }
-        _ => Ok(told),
+        _ => Ok(reported),
     }
 }
 
@@ -335,18 +342,18 @@ fn run_front(
     let Ok(
         Ended {
             status,
-            told,
+            reported,
             plan_notes,
         },
     ) = ended
     else {
         return end(rt, &Stop::memory(alloc));
     };
-    let line = line_told(alloc, front, status, told.into_writer());
+    let line = line_written(alloc, front, status, reported.into_writer());
     let Ok(line) = line else {
         return end(rt, &Stop::memory(alloc));
     };
-    write_out(&mut Told::new(rt.stderr()), line.as_slice());
+    write_out(&mut CheckedSink::new(rt.stderr()), line.as_slice());
     if status == REFUSED && !line.is_empty() {
         explain(rt, given, line.as_slice());
     }
@@ -423,7 +430,7 @@ fn refuse(rt: &HostRuntime, given: &FilesInput<'_>, stop: &Stop) -> ExitCode {
 /// gets the file's line number.
 fn refuse_made(rt: &HostRuntime, given: &FilesInput<'_>, front: &Front, stop: Stop) -> ExitCode {
     let Stop { status, text } = stop;
-    match line_told(given.alloc, front, status, text) {
+    match line_written(given.alloc, front, status, text) {
         Ok(text) => refuse(rt, given, &Stop { status, text }),
         Err(_) => end(rt, &Stop::memory(given.alloc)),
     }

@@ -28,7 +28,7 @@ mod files;
 mod terminal;
 
 use cqf_output::{REFUSED, Stop};
-use cqf_program_engine::{Heard, Told, engine};
+use cqf_program_engine::{CheckedSink, Heard, engine};
 use cqf_program_words::operands_of;
 use files::{end, explain_nothing, run_files};
 use std::alloc::Global;
@@ -42,14 +42,14 @@ use terminal::{hint_of_words, words_at};
 /// The environment with only the words after the program's name. The name may be anything, even bytes that aren't a text, since nothing
 /// reads it.
 #[derive(Drop)]
-struct BehindName<'r, R> {
+struct AfterName<'r, R> {
     rt: &'r R,
 }
 
-impl<R: Env> Env for BehindName<'_, R> {
+impl<R: Env> Env for AfterName<'_, R> {
     fn arg(&self, i: usize, buf: &mut [u8]) -> Result<usize, FillError> {
         match i.checked_add(1) {
-            Some(place) => self.rt.arg(place, buf),
+            Some(index) => self.rt.arg(index, buf),
             None => Err(FillError::NotPresent),
         }
     }
@@ -66,7 +66,7 @@ impl<R: Env> Env for BehindName<'_, R> {
 /// Returns the words with which the process was started, without the program's name.
 fn arguments<R: Env>(rt: &R, alloc: Global) -> io::Result<Vec<String>> {
     let mut words = Vec::new(alloc);
-    for word in std::env::args(&(BehindName { rt }, alloc))? {
+    for word in std::env::args(&(AfterName { rt }, alloc))? {
         words.push(word)?;
     }
     Ok(words)
@@ -79,10 +79,10 @@ fn run(
     alloc: Global,
     given: &[&str],
 ) -> ExitCode {
-    let mut faults = Told::new(rt.stderr());
+    let mut faults = CheckedSink::new(rt.stderr());
     let words = words_at(given, &rt.stdin());
     hint_of_words(alloc, words, &rt.stdin(), &mut faults);
-    let (mut input, mut output) = (Heard::new(alloc, rt.stdin()), Told::new(rt.stdout()));
+    let (mut input, mut output) = (Heard::new(alloc, rt.stdin()), CheckedSink::new(rt.stdout()));
     let status = engine(threads, alloc, words, &mut input, &mut output, &mut faults);
     if status == REFUSED && input.bytes().is_empty() {
         explain_nothing(alloc, words, &mut faults);

@@ -1,12 +1,12 @@
 //! What the program prints if standard input is a terminal.
 
-use cqf_output::{Sink, Told, write_out};
+use cqf_output::{CheckedSink, Sink, write_out};
 use cqf_program_words::read_words;
 use std::alloc::Global;
 use std::io::IsTerminal;
 
 /// If standard input is a terminal, prints that it is read now.
-pub(crate) fn hint<I: IsTerminal, F: Sink>(input: &I, faults: &mut Told<F>) {
+pub(crate) fn hint<I: IsTerminal, F: Sink>(input: &I, faults: &mut CheckedSink<F>) {
     if input.is_terminal() {
         write_out(faults, b"cqf: reading standard input to its end\n");
     }
@@ -27,7 +27,7 @@ pub(crate) fn hint_of_words<I: IsTerminal, F: Sink>(
     alloc: Global,
     words: &[&str],
     input: &I,
-    faults: &mut Told<F>,
+    faults: &mut CheckedSink<F>,
 ) {
     if read_words(alloc, words).is_ok() {
         hint(input, faults);

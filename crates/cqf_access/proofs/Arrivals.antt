@@ -4,7 +4,7 @@ use Rattle.std.proofs.Common.{mul-le-mul_right}
 use Rattle.std.proofs.lemmas.List.Elements.{All-contains}
 use Rattle.std.proofs.lemmas.Nat.{le-div}
 use Rattle.std.proofs.lemmas.Option.{slice_get-get_or, slice_get-map, slice_get_within}
-use Rattle.cqf_lists.proofs.Members.{all_from_members, contains_at, contains_map, place_of_member}
+use Rattle.cqf_lists.proofs.Members.{all_from_members, contains_at, contains_map, index_of_member}
 use Rattle.cqf_units.proofs.Cycles.{cycle_from, cycles_ordered}
 use Rattle.cqf_units.proofs.Times.{time_grows}
 use Rattle.cqf_model.specs.declared.frames.Offer.{Offer}
@@ -12,32 +12,32 @@ use Rattle.cqf_laws_timing.specs.Traffic.{Conforms, Traffic}
 use Rattle.cqf_access.specs.declared.edge.Delays.{Delays}
 use Rattle.cqf_access.specs.Access.{AccessLink, AccessLinkBoundsQueueing, AccessStream, Crossing, IsBound, IsSent, Other, handed, promises_of}
 use Rattle.cqf_access.specs.Arriving.{AreArrivals, EdgeConforms, EdgeConformsByClocks, FramesAreWholeWithin, GridIsShifted, GridsAreKept, GridsConform}
-use Rattle.cqf_access.specs.Arriving.{IsWholeAt, IsWholeWithin, at_edge, by_clock, edge_offset, longest_wait, spread_of, way_of}
+use Rattle.cqf_access.specs.Arriving.{IsWholeAt, IsWholeWithin, at_edge, by_clock, edge_offset, longest_wait, spread_of, travel_time}
 use Rattle.cqf_access.proofs.Spread.{apart_by, ends}
 
 pub frames_are_whole_within : AccessLinkBoundsQueueing → FramesAreWholeWithin
 frames_are_whole_within waits link streams others delays time s x at sent bound c k whole =
     let late = waits link streams others time s x sent bound c k in
-    let behind = sent.behind s x c k in
-    record { least = omega (arith, whole.least, behind); most = omega (arith, whole.most, late, behind) }
+    let following = sent.following s x c k in
+    record { least = omega (arith, whole.least, following); most = omega (arith, whole.most, late, following) }
 
 -- the transit time of a frame with more octets isn't shorter
-pub longer_way : (link : AccessLink) (delay p q : ℕ) → p ≤ q → way_of link delay p ≤ way_of link delay q
-longer_way link delay p q more = omega (arith, time_grows (p + 8) (q + 8) link.octet_time (omega (arith, more)))
+pub longer_travel : (link : AccessLink) (delay p q : ℕ) → p ≤ q → travel_time link delay p ≤ travel_time link delay q
+longer_travel link delay p q more = omega (arith, time_grows (p + 8) (q + 8) link.octet_time (omega (arith, more)))
 
 -- the longest transit time of one frame exceeds the shortest of another by at most the spread, if their sizes are within the limits
-spread_way : (link : AccessLink) (delays : Delays) (shortest size p q : ℕ) → p ≤ size → shortest ≤ q →
-    way_of link delays.most.0 p ≤ way_of link delays.least.0 q + spread_of link delays shortest size
-spread_way link delays shortest size p q small large =
-    numbers (way_of link delays.most.0 p) (way_of link delays.most.0 size) (way_of link delays.least.0 q) (way_of link delays.least.0 shortest)
-    (longer_way link delays.most.0 p size small) (longer_way link delays.least.0 shortest q large)
+spread_travel : (link : AccessLink) (delays : Delays) (shortest size p q : ℕ) → p ≤ size → shortest ≤ q →
+    travel_time link delays.most.0 p ≤ travel_time link delays.least.0 q + spread_of link delays shortest size
+spread_travel link delays shortest size p q small large =
+    numbers (travel_time link delays.most.0 p) (travel_time link delays.most.0 size) (travel_time link delays.least.0 q) (travel_time link delays.least.0 shortest)
+    (longer_travel link delays.most.0 p size small) (longer_travel link delays.least.0 shortest q large)
   where
     numbers : (first most second least : ℕ) → first ≤ most → least ≤ second → first ≤ second + (most - least)
     numbers first most second least a b = omega (arith, a, b)
 
 -- there is an element at each index of a list
-pub at_place : {X : Type 0} (xs : List X) (k : ℕ) (d : X) → k < length xs → (x : X) × (slice_get xs k ≡ Some x)
-at_place xs k d l = (get_or xs k d, slice_get-get_or xs k d l)
+pub at_index : {X : Type 0} (xs : List X) (k : ℕ) (d : X) → k < length xs → (x : X) × (slice_get xs k ≡ Some x)
+at_index xs k d l = (get_or xs k d, slice_get-get_or xs k d l)
 
 module _ (waits : AccessLinkBoundsQueueing) (link : AccessLink) (streams : List AccessStream) (others : List Other) (delays : Delays) (time shortest : ℕ)
     (s : AccessStream) (sent : IsSent link streams others) (bound : IsBound link (promises_of streams) time) (c : Contains streams s) where
@@ -52,9 +52,9 @@ module _ (waits : AccessLinkBoundsQueueing) (link : AccessLink) (streams : List 
       (are : AreArrivals link delays sync s.crossings arrived) where
     sizes : All (λ (a : Offer). a.octets ≤ s.promise.size) arrived
     sizes = all_from_members (λ (a : Offer). a.octets ≤ s.promise.size) arrived (λ a k.
-        let p = place_of_member arrived a k in
+        let p = index_of_member arrived a k in
         let r = are.each p.0 a p.1 in
-        omega (arith, r.octets, no_larger r.crossing (contains_at s.crossings (are.place p.0) r.crossing r.there)))
+        omega (arith, r.octets, no_larger r.crossing (contains_at s.crossings (are.index p.0) r.crossing r.there)))
 
     -- the frame that is handed over at an index
     handed_at : (k : ℕ) (x : Crossing) → slice_get s.crossings k ≡ Some x → slice_get (handed s) k ≡ Some x.frame
@@ -71,10 +71,10 @@ module _ (waits : AccessLinkBoundsQueueing) (link : AccessLink) (streams : List 
         let more : gap / s.promise.frames ≤ (k - i) / s.promise.frames =
         cycles_ordered s.promise.frames gap (k - i) (sent.promised s c).some_frames (omega (arith, far)) in
         let blocks = mul-le-mul_right s.promise.interval more in
-        let way = spread_way link delays shortest s.promise.size x.frame.octets y.frame.octets (no_larger x kx) (least y ky) in
-        put_together first last x.frame.at.0 y.frame.at.0 (way_of link delays.most.0 x.frame.octets) (way_of link delays.least.0 y.frame.octets)
+        let travel = spread_travel link delays shortest s.promise.size x.frame.octets y.frame.octets (no_larger x kx) (least y ky) in
+        put_together first last x.frame.at.0 y.frame.at.0 (travel_time link delays.most.0 x.frame.octets) (travel_time link delays.least.0 y.frame.octets)
         (longest_wait link time s.promise) (spread_of link delays shortest s.promise.size) s.promise.jitter (gap / s.promise.frames * s.promise.interval)
-        ((k - i) / s.promise.frames * s.promise.interval) (within x first kx one).most (within y last ky other).least way spaced blocks
+        ((k - i) / s.promise.frames * s.promise.interval) (within x first kx one).most (within y last ky other).least travel spaced blocks
       where
         put_together : (wx wy rx ry ox oy wait more jitter few all : ℕ) → wx ≤ rx + ox + wait → ry + oy ≤ wy → ox ≤ oy + more → rx + all ≤ ry + jitter →
             few ≤ all → wx + few ≤ wy + (jitter + (wait + more))
@@ -85,13 +85,13 @@ module _ (waits : AccessLinkBoundsQueueing) (link : AccessLink) (streams : List 
     spaced i k a b order e f =
         let inside : k < length arrived = slice_get_within arrived k b f in
         let upto : i + (k - i) ≡ k = omega (arith, order) in
-        let r = ends are.place i (k - i) in
-        let far = apart_by are.place i (k - i) r (λ j l from less last. are.once j l less (omega (arith, last, upto, inside))) in
-        let u = at_place arrived r.low a (omega (arith, r.low_upto, upto, inside)) in
-        let v = at_place arrived r.high a (omega (arith, r.high_upto, upto, inside)) in
+        let r = ends are.index i (k - i) in
+        let far = apart_by are.index i (k - i) r (λ j l from less last. are.once j l less (omega (arith, last, upto, inside))) in
+        let u = at_index arrived r.low a (omega (arith, r.low_upto, upto, inside)) in
+        let v = at_index arrived r.high a (omega (arith, r.high_upto, upto, inside)) in
         let x = are.each r.low u.0 u.1 in
         let y = are.each r.high v.0 v.1 in
-        let both = two x.crossing y.crossing x.at y.at (are.place r.low) (are.place r.high) (k - i) x.whole y.whole x.there y.there far in
+        let both = two x.crossing y.crossing x.at y.at (are.index r.low) (are.index r.high) (k - i) x.whole y.whole x.there y.there far in
         let first = are.ordered i r.low a u.0 r.low_from e u.1 in
         let last = are.ordered r.high k v.0 b (omega (arith, r.high_upto, upto)) v.1 f in
         omega (arith, both, first, last, x.clocks.no_sooner, y.clocks.no_later)
@@ -122,8 +122,8 @@ pub shifted : AccessLinkBoundsQueueing → (link : AccessLink) (streams : List A
 shifted waits link streams others delays time shortest offset block s x at sent bound c k least from upto whole =
     let within = frames_are_whole_within waits link streams others delays time s x at sent bound c k whole in
     let size = no_larger waits link streams others delays time shortest s sent bound c x k in
-    let up = spread_way link delays shortest s.promise.size x.frame.octets shortest size (omega arith) in
-    let down = longer_way link delays.least.0 shortest x.frame.octets least in
+    let up = spread_travel link delays shortest s.promise.size x.frame.octets shortest size (omega arith) in
+    let down = longer_travel link delays.least.0 shortest x.frame.octets least in
     (omega (arith, within.least, down, from), omega (arith, within.most, up, upto))
 
 pub grid_is_shifted : AccessLinkBoundsQueueing → GridIsShifted
@@ -142,19 +142,19 @@ grids_conform offset t sent is g = record { sizes = g.sizes; spaced = spaced_by_
     spaced_by_grid i k a b order e f =
         let inside : k < length sent = slice_get_within sent k b f in
         let upto : i + (k - i) ≡ k = omega (arith, order) in
-        let r = ends g.place i (k - i) in
-        let far = apart_by g.place i (k - i) r (λ j l from less last. g.once j l less (omega (arith, last, upto, inside))) in
-        let u = at_place sent r.low a (omega (arith, r.low_upto, upto, inside)) in
-        let v = at_place sent r.high a (omega (arith, r.high_upto, upto, inside)) in
+        let r = ends g.index i (k - i) in
+        let far = apart_by g.index i (k - i) r (λ j l from less last. g.once j l less (omega (arith, last, upto, inside))) in
+        let u = at_index sent r.low a (omega (arith, r.low_upto, upto, inside)) in
+        let v = at_index sent r.high a (omega (arith, r.high_upto, upto, inside)) in
         let first = g.ordered i r.low a u.0 r.low_from e u.1 in
         let last = g.ordered r.high k v.0 b (omega (arith, r.high_upto, upto)) v.1 f in
-        let blocks : g.place r.low / t.frames + (k - i) / t.frames ≤ g.place r.high / t.frames =
-        le-div (g.place r.low / t.frames + (k - i) / t.frames) (g.place r.high) t.frames is.some_frames
-        (omega (arith, cycle_from t.frames (g.place r.low), cycle_from t.frames (k - i), far)) in
+        let blocks : g.index r.low / t.frames + (k - i) / t.frames ≤ g.index r.high / t.frames =
+        le-div (g.index r.low / t.frames + (k - i) / t.frames) (g.index r.high) t.frames is.some_frames
+        (omega (arith, cycle_from t.frames (g.index r.low), cycle_from t.frames (k - i), far)) in
         let more = mul-le-mul_right t.interval blocks in
         omega (arith, first, last, g.most r.low u.0 u.1, g.least r.high v.0 v.1, more)
 
 pub grids_are_kept : GridsAreKept
 grids_are_kept offset t sent a g k =
-    let at = place_of_member sent a k in
-    record { block = g.place at.0 / t.frames; least = g.least at.0 a at.1; most = g.most at.0 a at.1 }
+    let at = index_of_member sent a k in
+    record { block = g.index at.0 / t.frames; least = g.least at.0 a at.1; most = g.most at.0 a at.1 }

@@ -49,10 +49,10 @@ laid_promises link from (t ∷ ts) = ap (λ (us : List Traffic). t ∷ us) (laid
 
 -- one of the streams
 record IsLaid (link : AccessLink) (from : ℕ) (ts : List Traffic) (s : AccessStream) : Type 0 where
-  place : ℕ
-  is : s ≡ one_laid link place s.promise
-  from_then : from ≤ place
-  upto_then : place + all_of link s.promise ≤ from + total link ts
+  index : ℕ
+  is : s ≡ one_laid link index s.promise
+  from_then : from ≤ index
+  upto_then : index + all_of link s.promise ≤ from + total link ts
   member : Contains ts s.promise
 
 is_laid : (link : AccessLink) (from : ℕ) (ts : List Traffic) (s : AccessStream) → Contains (laid link from ts) s → IsLaid link from ts s
@@ -66,11 +66,11 @@ is_laid link from (t ∷ ts) s c = elim (contains_cases (one_laid link from t) (
     sum = sum_by-cons (λ (u : Traffic). all_of link u) t ts
 
     here : IsLaid link from (t ∷ ts) (one_laid link from t)
-    here = record { place = from; is = refl; from_then = omega arith; upto_then = omega (arith, sum); member = contains_here t ts }
+    here = record { index = from; is = refl; from_then = omega arith; upto_then = omega (arith, sum); member = contains_here t ts }
 
     later : IsLaid link (from + all_of link t) ts s → IsLaid link from (t ∷ ts) s
     later r = record {
-      place = r.place;
+      index = r.index;
       is = r.is;
       from_then = omega (arith, r.from_then);
       upto_then = omega (arith, sum, r.upto_then);
@@ -89,16 +89,16 @@ last_laid link from (u ∷ before) t =
 
 -- a frame of such a stream
 record IsOfLaid (link : AccessLink) (from : ℕ) (t : Traffic) (x : Crossing) : Type 0 where
-  place : ℕ
-  few : place < t.frames
+  index : ℕ
+  few : index < t.frames
   frame : x.frame ≡ frame_of t
-  start : x.start ≡ from + place * taken_of link t.size
+  start : x.start ≡ from + index * taken_of link t.size
 
 of_laid : (link : AccessLink) (from : ℕ) (t : Traffic) (x : Crossing) → Contains (one_laid link from t).crossings x → IsOfLaid link from t x
 of_laid link from t x c =
     let w = contains_from_below (λ k. crossing_of link from t k ∷ []) t.frames x c in
     let e : crossing_of link from t w.0 ≡ x = contains_one (crossing_of link from t w.0) x w.2 in
-    record { place = w.0; few = w.1; frame = ap (λ (y : Crossing). y.frame) (sym e); start = ap (λ (y : Crossing). y.start) (sym e) }
+    record { index = w.0; few = w.1; frame = ap (λ (y : Crossing). y.frame) (sym e); start = ap (λ (y : Crossing). y.start) (sym e) }
 
 -- its talker keeps its promise
 one_conforms : (link : AccessLink) (from : ℕ) (t : Traffic) → Conforms t (handed (one_laid link from t))
@@ -130,7 +130,7 @@ covered : (link : AccessLink) (from : ℕ) (ts : List Traffic) (at : ℕ) → 0 
 covered link from [] at some early late = absurd (omega (arith, early, late))
 covered link from (t ∷ ts) at some early late = elim (cases_lt at (from + all_of link t)) [
   | inl before ↦ here before
-  | inr behind ↦ widened (covered link (from + all_of link t) ts at some behind (omega (arith, late, sum_by-cons (λ (u : Traffic). all_of link u) t ts)))
+  | inr following ↦ widened (covered link (from + all_of link t) ts at some following (omega (arith, late, sum_by-cons (λ (u : Traffic). all_of link u) t ts)))
 ]
   where
     here : at < from + all_of link t → StreamIsUnderWay link (laid link from (t ∷ ts)) at
@@ -185,8 +185,8 @@ module _ (link : AccessLink) (ts : List Traffic) (some : 0 < link.octet_time) (a
       (x.frame.at.0 ≡ 0) × (taken_by_other link ≤ x.start) × (x.start ≤ taken_by_other link + total link ts)
   frame_is s x c k =
       let r = is_laid link (taken_by_other link) ts s c in
-      let f = of_laid link r.place s.promise x (subst (λ (q : AccessStream). Contains q.crossings x) r.is k) in
-      let less : f.place * taken_of link s.promise.size ≤ all_of link s.promise = mul-le-mul_right (taken_of link s.promise.size) (omega (arith, f.few)) in (
+      let f = of_laid link r.index s.promise x (subst (λ (q : AccessStream). Contains q.crossings x) r.is k) in
+      let less : f.index * taken_of link s.promise.size ≤ all_of link s.promise = mul-le-mul_right (taken_of link s.promise.size) (omega (arith, f.few)) in (
         ap (λ (a : Offer). a.at.0) f.frame,
         omega (arith, f.start, r.from_then),
         omega (arith, f.start, less, r.upto_then),
@@ -198,8 +198,8 @@ module _ (link : AccessLink) (ts : List Traffic) (some : 0 < link.octet_time) (a
     promised = λ s c. are s.promise (is_laid link (taken_by_other link) ts s c).member;
     kept = λ s c.
         let r = is_laid link (taken_by_other link) ts s c in
-        subst (λ (q : AccessStream). Conforms s.promise (handed q)) (sym r.is) (one_conforms link r.place s.promise);
-    behind = λ s x c k. omega (arith, (frame_is s x c k).0);
+        subst (λ (q : AccessStream). Conforms s.promise (handed q)) (sym r.is) (one_conforms link r.index s.promise);
+    following = λ s x c k. omega (arith, (frame_is s x c k).0);
     works = λ s x at c k early before. elim (cases_lt at (taken_by_other link)) [
       | inl first ↦ inr (other_first link link.other at first)
       | inr later ↦ inl (covered link (taken_by_other link) ts at some later (omega (arith, before, (frame_is s x c k).2)))

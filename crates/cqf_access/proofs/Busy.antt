@@ -126,20 +126,20 @@ module _ (link : AccessLink) (streams : List AccessStream) (others : List Other)
 
     -- another frame that is under way didn't start later
     other_first : (o : Other) (at : ℕ) → Contains others o → last.at ≤ at → at < x.start → IsUnderWay link o.start o.octets at → at < last.at + taken_by_other link
-    other_first o at c from upto way =
+    other_first o at c from upto travel =
         let short : idle_after o.start o.octets link.octet_time ≤ o.start + taken_by_other link = omega (arith, sent.small o c) in
         elim (cases_lt last.at o.start) [
           | inl later ↦ absurd (never later)
-          | inr early ↦ omega (arith, way.1, short, early)
+          | inr early ↦ omega (arith, travel.1, short, early)
         ]
       where
         -- otherwise it would have started while a frame of a stream was left
         never : last.at < o.start → ⊥
         never later =
-            let l = left_until o.start later (omega (arith, way.0, upto)) in
+            let l = left_until o.start later (omega (arith, travel.0, upto)) in
             let longer : o.start < idle_after o.start o.octets link.octet_time = omega (arith, takes o.octets) in
             elim (sent.apart l.stream l.crossing o l.is_stream l.is_crossing c) [
-              | inl behind ↦ omega (arith, sent.yields l.stream l.crossing o l.is_stream l.is_crossing c l.before, behind, longer)
+              | inl following ↦ omega (arith, sent.yields l.stream l.crossing o l.is_stream l.is_crossing c l.before, following, longer)
               | inr before ↦ omega (arith, before, l.after)
             ]
 
@@ -157,7 +157,7 @@ module _ (link : AccessLink) (streams : List AccessStream) (others : List Other)
               is_stream = y.is_stream;
               is_crossing = y.is_crossing;
               from_then = no_sooner y.stream y.crossing at y.is_stream y.is_crossing from y.under_way.1;
-              handed = omega (arith, sent.behind y.stream y.crossing y.is_stream y.is_crossing, y.under_way.0);
+              handed = omega (arith, sent.following y.stream y.crossing y.is_stream y.is_crossing, y.under_way.0);
               under_way = y.under_way;
             })
             | inr o ↦ inl (other_first o.one at o.is_one from upto o.under_way)

@@ -29,19 +29,19 @@ pub too_many : (low few rooms from room : ℕ) (at start : ℕ → ℕ) → 0 < 
     ((k : ℕ) → k < suc (few + rooms) → start k < from + rooms * room) →
     ((j k : ℕ) → j < k → k < suc (few + rooms) → at j ≡ at k → ⊥) →
     ((j k : ℕ) → j < k → k < suc (few + rooms) → (start j + room ≤ start k) ⊎ (start k + room ≤ start j)) → ⊥
-too_many low few rooms from room at start some least later sooner apart turns = crowded f.0 (few + rooms) small different
+too_many low few rooms from room at start some least later sooner apart active_cycles = crowded f.0 (few + rooms) small different
   where
-    Place : ℕ → ℕ → Type 0
-    Place k v = HasRoom low few from room (at k) (start k) v
+    Index : ℕ → ℕ → Type 0
+    Index k v = HasRoom low few from room (at k) (start k) v
 
-    has : (k : ℕ) → k < suc (few + rooms) → (v : ℕ) × Place k v
+    has : (k : ℕ) → k < suc (few + rooms) → (v : ℕ) × Index k v
     has k l = elim (cases_lt (at k) (low + few)) [
       | inl early ↦ (at k - low, record { which = inl (early, omega (arith, least k l)) })
       | inr late ↦ (few + (start k - from) / room, record { which = inr (late, omega arith) })
     ]
 
-    f : (g : ℕ → ℕ) × ((k : ℕ) → k < suc (few + rooms) → Place k (g k))
-    f = chosen (suc (few + rooms)) Place has
+    f : (g : ℕ → ℕ) × ((k : ℕ) → k < suc (few + rooms) → Index k (g k))
+    f = chosen (suc (few + rooms)) Index has
 
     small : (k : ℕ) → k < suc (few + rooms) → f.0 k < few + rooms
     small k l = elim ((f.1 k l).which) [
@@ -67,7 +67,7 @@ too_many low few rooms from room at start some least later sooner apart turns = 
           ]
           | inr p ↦ elim ((f.1 k l).which) [
             | inl q ↦ omega (arith, q.0, q.1, p.1, e)
-            | inr q ↦ elim (turns j k less l) [
+            | inr q ↦ elim (active_cycles j k less l) [
               | inl sooner ↦ omega (arith, next_room (start j) (start k) (later j m p.0) sooner, p.1, q.1, e)
               | inr sooner ↦ omega (arith, next_room (start k) (start j) (later k l q.0) sooner, p.1, q.1, e)
             ]

@@ -14,17 +14,17 @@ use Rattle.cqf_model.specs.declared.frames.Offer.{Offer}
 use Rattle.cqf_laws_timing.specs.Traffic.{SkippingConforms, most_frames}
 use Rattle.cqf_access.specs.declared.edge.Delays.{Delays}
 use Rattle.cqf_access.specs.Access.{AccessLink, AccessLinkBoundsQueueing, AccessStream, Crossing, IsBound, IsSent, Other, handed, promises_of, taken_of}
-use Rattle.cqf_access.specs.Arriving.{AreArrivals, Arrives, spread_of, way_of}
+use Rattle.cqf_access.specs.Arriving.{AreArrivals, Arrives, spread_of, travel_time}
 use Rattle.cqf_access.specs.Closer.{AreInTurn, EdgeConformsCloser, EdgeConformsCloserByClocks, closer_at_edge, closer_wait}
-use Rattle.cqf_access.proofs.Arrivals.{at_place, edge_conforms_by_clocks, longer_way, one_clock}
+use Rattle.cqf_access.proofs.Arrivals.{at_index, edge_conforms_by_clocks, longer_travel, one_clock}
 use Rattle.cqf_access.proofs.Busy.{IsLastIdle, last_idle, over_when_idle, stops_later}
 use Rattle.cqf_access.proofs.Chosen.{chosen, too_many}
-use Rattle.cqf_access.proofs.Queueing.{IsBehindOwn, frame_is_behind_own, no_larger}
+use Rattle.cqf_access.proofs.Queueing.{IsAfterOwn, frame_is_after_own, no_larger}
 use Rattle.cqf_access.proofs.Spread.{Ends, ends}
 use Rattle.cqf_access.proofs.Windows.{ahead_in, is_ahead, is_of}
 
 module _ (skips : SkippingConforms) (link : AccessLink) (streams : List AccessStream) (others : List Other) (delays : Delays) (time shortest : ℕ)
-    (s : AccessStream) (sent : IsSent link streams others) (turns : AreInTurn link s.crossings) (bound : IsBound link (promises_of streams) time)
+    (s : AccessStream) (sent : IsSent link streams others) (active_cycles : AreInTurn link s.crossings) (bound : IsBound link (promises_of streams) time)
     (c : Contains streams s) (least : (x : Crossing) → Contains s.crossings x → shortest ≤ x.frame.octets) (sync : ℕ) (arrived : List Offer)
     (are : AreArrivals link delays sync s.crossings arrived) where
   handed_at : (k : ℕ) (x : Crossing) → slice_get s.crossings k ≡ Some x → slice_get (handed s) k ≡ Some x.frame
@@ -34,8 +34,8 @@ module _ (skips : SkippingConforms) (link : AccessLink) (streams : List AccessSt
   module _ (i many : ℕ) (b : Offer) (inside : i + many < length arrived)
       (latest : (j : ℕ) (a : Offer) → j ≤ i + many → slice_get arrived j ≡ Some a → a.at.0 ≤ b.at.0)
       (y : Crossing) (y_there : Contains s.crossings y)
-      (first : (j : ℕ) (x : Crossing) → i ≤ j → j ≤ i + many → slice_get s.crossings (are.place j) ≡ Some x → y.start ≤ x.start)
-      (y_sooner : y.start + way_of link delays.least.0 shortest ≤ b.at.0 + sync)
+      (first : (j : ℕ) (x : Crossing) → i ≤ j → j ≤ i + many → slice_get s.crossings (are.index j) ≡ Some x → y.start ≤ x.start)
+      (y_sooner : y.start + travel_time link delays.least.0 shortest ≤ b.at.0 + sync)
       (last : IsLastIdle link streams y.frame.at.0) where
     -- how many of the stream's frames start before it, since the link was idle
     abbrev ahead : ℕ
@@ -46,9 +46,9 @@ module _ (skips : SkippingConforms) (link : AccessLink) (streams : List AccessSt
       crossing : Crossing
       there : slice_get s.crossings p ≡ Some crossing
       from : last.at ≤ crossing.frame.at.0
-      sooner : crossing.start + way_of link delays.least.0 shortest ≤ b.at.0 + sync
+      sooner : crossing.start + travel_time link delays.least.0 shortest ≤ b.at.0 + sync
       which : ((crossing.start < y.start) × (rank (is_ahead last.at time y.start) s.crossings p ≡ r))
-          ⊎ ((ahead ≤ r) × (y.start ≤ crossing.start) × (p ≡ are.place (i + (r - ahead))))
+          ⊎ ((ahead ≤ r) × (y.start ≤ crossing.start) × (p ≡ are.index (i + (r - ahead))))
 
     one_ahead : (r : ℕ) → r < ahead → (p : ℕ) × IsOne r p
     one_ahead r l =
@@ -75,7 +75,7 @@ module _ (skips : SkippingConforms) (link : AccessLink) (streams : List AccessSt
         over_when_idle link streams last.at s x last.idle c k before,
         stops_later link streams others sent x,
         later,
-        sent.behind s y c y_there,
+        sent.following s y c y_there,
         last.early,
       ))
       | inr e ↦ e
@@ -85,17 +85,17 @@ module _ (skips : SkippingConforms) (link : AccessLink) (streams : List AccessSt
     one_arrived r m l =
         let j : ℕ = i + (r - ahead) in
         let in_row : j ≤ i + many = omega (arith, l, m) in
-        let a = at_place arrived j b (omega (arith, in_row, inside)) in
+        let a = at_index arrived j b (omega (arith, in_row, inside)) in
         let x = are.each j a.0 a.1 in
-        let k = contains_at s.crossings (are.place j) x.crossing x.there in
+        let k = contains_at s.crossings (are.index j) x.crossing x.there in
         let later = first j x.crossing (omega arith) in_row x.there in
-        let way = longer_way link delays.least.0 shortest x.crossing.frame.octets (least x.crossing k) in (
-          are.place j,
+        let travel = longer_travel link delays.least.0 shortest x.crossing.frame.octets (least x.crossing k) in (
+          are.index j,
           record {
             crossing = x.crossing;
             there = x.there;
             from = from_idle x.crossing k later;
-            sooner = omega (arith, way, x.whole.least, x.clocks.no_later, latest j a.0 in_row a.1);
+            sooner = omega (arith, travel, x.whole.least, x.clocks.no_later, latest j a.0 in_row a.1);
             which = inr (m, later, refl);
           },
         )
@@ -128,15 +128,15 @@ module _ (skips : SkippingConforms) (link : AccessLink) (streams : List AccessSt
         ]
 
     -- of two frames at different indexes, one starts at least a shortest frame after the other
-    behind_each : (x z : Crossing) (p q : ℕ) → slice_get s.crossings p ≡ Some x → slice_get s.crossings q ≡ Some z → (p ≡ q → ⊥) →
+    after_each : (x z : Crossing) (p q : ℕ) → slice_get s.crossings p ≡ Some x → slice_get s.crossings q ≡ Some z → (p ≡ q → ⊥) →
         (x.start + taken_of link shortest ≤ z.start) ⊎ (z.start + taken_of link shortest ≤ x.start)
-    behind_each x z p q e f other =
+    after_each x z p q e f other =
         let long_x = time_grows (shortest + 20) (x.frame.octets + 20) link.octet_time (omega (arith, least x (contains_at s.crossings p x e))) in
         let long_z = time_grows (shortest + 20) (z.frame.octets + 20) link.octet_time (omega (arith, least z (contains_at s.crossings q z f))) in
         elim (cases_lt p q) [
-          | inl less ↦ either x.start z.start (taken_of link shortest) (taken_of link x.frame.octets) (taken_of link z.frame.octets) long_x long_z (turns p q x z less e f)
+          | inl less ↦ either x.start z.start (taken_of link shortest) (taken_of link x.frame.octets) (taken_of link z.frame.octets) long_x long_z (active_cycles p q x z less e f)
           | inr more ↦ elim (cases_lt q p) [
-            | inl less ↦ swapped (either z.start x.start (taken_of link shortest) (taken_of link z.frame.octets) (taken_of link x.frame.octets) long_z long_x (turns q p z x less f e))
+            | inl less ↦ swapped (either z.start x.start (taken_of link shortest) (taken_of link z.frame.octets) (taken_of link x.frame.octets) long_z long_x (active_cycles q p z x less f e))
             | inr m ↦ absurd (other (omega (arith, more, m)))
           ]
         ]
@@ -152,7 +152,7 @@ module _ (skips : SkippingConforms) (link : AccessLink) (streams : List AccessSt
 
     -- so there is room for no more of them than there are intervals and frames ahead
     crowd : (blocks : ℕ) → 0 < s.promise.frames → many ≡ blocks * s.promise.frames →
-        ((x h : Crossing) → last.at ≤ h.frame.at.0 → x.start + way_of link delays.least.0 shortest ≤ b.at.0 + sync →
+        ((x h : Crossing) → last.at ≤ h.frame.at.0 → x.start + travel_time link delays.least.0 shortest ≤ b.at.0 + sync →
         x.start < (h.frame.at.0 + blocks * s.promise.interval - s.promise.jitter)
         + ahead * taken_of link shortest) → ⊥
     crowd blocks fills long early =
@@ -191,8 +191,8 @@ module _ (skips : SkippingConforms) (link : AccessLink) (streams : List AccessSt
             let spaced = (sent.kept s c).spaced low.0 (at.0 r) h.frame x.frame (low.1 r l) (handed_at low.0 h low.2.1.there) (handed_at (at.0 r) x (at.1 r l).there) in
             let more : blocks ≤ (at.0 r - low.0) / s.promise.frames = le-div blocks (at.0 r - low.0) s.promise.frames fills (omega (arith, far, long)) in
             let blocks_more = mul-le-mul_right s.promise.interval more in
-            let behind = sent.behind s x c (contains_at s.crossings (at.0 r) x (at.1 r l).there) in
-            omega (arith, spaced, blocks_more, behind, start_is r l)
+            let following = sent.following s x c (contains_at s.crossings (at.0 r) x (at.1 r l).there) in
+            omega (arith, spaced, blocks_more, following, start_is r l)
 
         sooner : (r : ℕ) → r < suc (many + ahead) → start r < from + ahead * room
         sooner r l = omega (arith, early (at.1 r l).crossing h low.2.1.from (at.1 r l).sooner, start_is r l)
@@ -201,7 +201,7 @@ module _ (skips : SkippingConforms) (link : AccessLink) (streams : List AccessSt
             (start j + room ≤ start k) ⊎ (start k + room ≤ start j)
         turned j k less l =
             let m : j < suc (many + ahead) = omega (arith, less, l) in
-            elim (behind_each (at.1 j m).crossing (at.1 k l).crossing (at.0 j) (at.0 k) (at.1 j m).there (at.1 k l).there
+            elim (after_each (at.1 j m).crossing (at.1 k l).crossing (at.0 j) (at.0 k) (at.1 j m).there (at.1 k l).there
             (apart j k (at.0 j) (at.0 k) (at.1 j m) (at.1 k l) less l)) [
               | inl t ↦ inl (omega (arith, t, start_is j m, start_is k l))
               | inr t ↦ inr (omega (arith, t, start_is j m, start_is k l))
@@ -237,44 +237,44 @@ module _ (skips : SkippingConforms) (link : AccessLink) (streams : List AccessSt
       d : Crossing
       d = (are.each i a e).crossing
 
-      r : Ends (λ j. (get_or s.crossings (are.place j) d).start) i many
-      r = ends (λ j. (get_or s.crossings (are.place j) d).start) i many
+      r : Ends (λ j. (get_or s.crossings (are.index j) d).start) i many
+      r = ends (λ j. (get_or s.crossings (are.index j) d).start) i many
 
       u : (x : Offer) × (slice_get arrived r.low ≡ Some x)
-      u = at_place arrived r.low a (omega (arith, r.low_upto, in_row, inside))
+      u = at_index arrived r.low a (omega (arith, r.low_upto, in_row, inside))
 
-      arrives : Arrives link delays sync s.crossings (are.place r.low) u.0
+      arrives : Arrives link delays sync s.crossings (are.index r.low) u.0
       arrives = are.each r.low u.0 u.1
 
       y : Crossing
       y = arrives.crossing
 
       y_there : Contains s.crossings y
-      y_there = contains_at s.crossings (are.place r.low) y arrives.there
+      y_there = contains_at s.crossings (are.index r.low) y arrives.there
 
-      first : (j : ℕ) (x : Crossing) → i ≤ j → j ≤ i + many → slice_get s.crossings (are.place j) ≡ Some x → y.start ≤ x.start
+      first : (j : ℕ) (x : Crossing) → i ≤ j → j ≤ i + many → slice_get s.crossings (are.index j) ≡ Some x → y.start ≤ x.start
       first j x from upto g =
           let n : ℕ = j - i in
           let at : i + n ≡ j = omega (arith, from) in
-          let x_is = ap (λ (z : Crossing). z.start) (get_or_from_slice_get s.crossings (are.place j) x d g) in
-          let y_is = ap (λ (z : Crossing). z.start) (get_or_from_slice_get s.crossings (are.place r.low) y d arrives.there) in
-          omega (arith, r.least n (omega (arith, at, upto)), ap (λ l. (get_or s.crossings (are.place l) d).start) at, x_is, y_is)
+          let x_is = ap (λ (z : Crossing). z.start) (get_or_from_slice_get s.crossings (are.index j) x d g) in
+          let y_is = ap (λ (z : Crossing). z.start) (get_or_from_slice_get s.crossings (are.index r.low) y d arrives.there) in
+          omega (arith, r.least n (omega (arith, at, upto)), ap (λ l. (get_or s.crossings (are.index l) d).start) at, x_is, y_is)
 
-      y_sooner : y.start + way_of link delays.least.0 shortest ≤ b.at.0 + sync
+      y_sooner : y.start + travel_time link delays.least.0 shortest ≤ b.at.0 + sync
       y_sooner =
-          let way = longer_way link delays.least.0 shortest y.frame.octets (least y y_there) in
-          omega (arith, way, arrives.whole.least, arrives.clocks.no_later, latest r.low u.0 r.low_upto u.1)
+          let travel = longer_travel link delays.least.0 shortest y.frame.octets (least y y_there) in
+          omega (arith, travel, arrives.whole.least, arrives.clocks.no_later, latest r.low u.0 r.low_upto u.1)
 
       last : IsLastIdle link streams y.frame.at.0
       last = last_idle link streams y.frame.at.0
 
-      own : IsBehindOwn link time last.at s y
-      own = frame_is_behind_own skips link streams others time s y sent bound c y_there last
+      own : IsAfterOwn link time last.at s y
+      own = frame_is_after_own skips link streams others time s y sent bound c y_there last
 
-      y_late : a.at.0 ≤ y.start + way_of link delays.most.0 s.promise.size + sync
+      y_late : a.at.0 ≤ y.start + travel_time link delays.most.0 s.promise.size + sync
       y_late =
-          let way = longer_way link delays.most.0 y.frame.octets s.promise.size (no_larger skips link streams others sent s y c y_there) in
-          omega (arith, way, arrives.whole.most, arrives.clocks.no_sooner, are.ordered i r.low a u.0 r.low_from e u.1)
+          let travel = longer_travel link delays.most.0 y.frame.octets s.promise.size (no_larger skips link streams others sent s y c y_there) in
+          omega (arith, travel, arrives.whole.most, arrives.clocks.no_sooner, are.ordered i r.low a u.0 r.low_from e u.1)
 
       numbers : (a b y x h at blocks jitter sync time ahead most size short longest least : ℕ) → short ≤ size → ahead + 1 ≤ most →
           y + most * size ≤ at + time + ahead * size → a ≤ y + longest + sync →
@@ -290,24 +290,24 @@ module _ (skips : SkippingConforms) (link : AccessLink) (streams : List AccessSt
           omega (arith, taken, own, more, starts, y_late, late, from, sooner)
 
       early : b.at.0 + jitter < a.at.0 + blocks * s.promise.interval → (x h : Crossing) → last.at ≤ h.frame.at.0 →
-          x.start + way_of link delays.least.0 shortest ≤ b.at.0 + sync →
+          x.start + travel_time link delays.least.0 shortest ≤ b.at.0 + sync →
           x.start < (h.frame.at.0 + blocks * s.promise.interval - s.promise.jitter) + length (ahead_in last.at time y.start s) * taken_of link shortest
       early late x h from sooner =
           numbers a.at.0 b.at.0 y.start x.start h.frame.at.0 last.at (blocks * s.promise.interval) s.promise.jitter sync time
           (length (ahead_in last.at time y.start s)) (most_frames time s.promise) (taken_of link s.promise.size) (taken_of link shortest)
-          (way_of link delays.most.0 s.promise.size) (way_of link delays.least.0 shortest) shorter own.few own.starts y_late late from sooner
+          (travel_time link delays.most.0 s.promise.size) (travel_time link delays.least.0 shortest) shorter own.few own.starts y_late late from sooner
         where
           shorter : taken_of link shortest ≤ taken_of link s.promise.size
           shorter = time_grows (shortest + 20) (s.promise.size + 20) link.octet_time
               (omega (arith, least y y_there, no_larger skips link streams others sent s y c y_there))
 
 pub edge_conforms_closer_by_clocks : SkippingConforms → AccessLinkBoundsQueueing → EdgeConformsCloserByClocks
-edge_conforms_closer_by_clocks skips waits link streams others delays time shortest sync s arrived sent turns bound c least are = record {
+edge_conforms_closer_by_clocks skips waits link streams others delays time shortest sync s arrived sent active_cycles bound c least are = record {
   sizes = (edge_conforms_by_clocks waits link streams others delays time shortest sync s arrived sent bound c least are).sizes;
-  spaced = spaced skips link streams others delays time shortest s sent turns bound c least sync arrived are;
+  spaced = spaced skips link streams others delays time shortest s sent active_cycles bound c least sync arrived are;
 }
 
 pub edge_conforms_closer : SkippingConforms → AccessLinkBoundsQueueing → EdgeConformsCloser
-edge_conforms_closer skips waits link streams others delays time shortest s arrived sent turns bound c least are =
+edge_conforms_closer skips waits link streams others delays time shortest s arrived sent active_cycles bound c least are =
     one_clock (closer_at_edge link delays time shortest s.promise) arrived
-    (edge_conforms_closer_by_clocks skips waits link streams others delays time shortest 0 s arrived sent turns bound c least are)
+    (edge_conforms_closer_by_clocks skips waits link streams others delays time shortest 0 s arrived sent active_cycles bound c least are)

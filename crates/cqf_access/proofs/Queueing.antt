@@ -17,7 +17,7 @@ use Rattle.cqf_access.proofs.Busy.{IsCovered, IsLastIdle, covered_until, last_id
 
 -- when a frame starts: after the frames of its own stream that were handed over since an instant and started before it, if other streams
 -- take no more than the bound leaves them
-pub record IsBehindOwn (link : AccessLink) (time at : ℕ) (s : AccessStream) (x : Crossing) : Type 0 where
+pub record IsAfterOwn (link : AccessLink) (time at : ℕ) (s : AccessStream) (x : Crossing) : Type 0 where
   pub few : length (ahead_in at time x.start s) + 1 ≤ most_frames time s.promise
   pub early : x.start < at + time
   pub starts : x.start + taken_within link time s.promise ≤ at + time + length (ahead_in at time x.start s) * taken_of link s.promise.size
@@ -184,7 +184,7 @@ module _ (skips : SkippingConforms) (link : AccessLink) (streams : List AccessSt
       where
         none : last.at + time ≤ x.frame.at.0 → ⊥
         none past_it =
-            let upto : last.at + time ≤ x.start = omega (arith, past_it, sent.behind s x c k) in
+            let upto : last.at + time ≤ x.start = omega (arith, past_it, sent.following s x c k) in
             let l = left_until link streams others sent s x c k last (last.at + time) (omega (arith, bound.positive)) upto in
             let from : last.at ≤ l.crossing.frame.at.0 = elim (cases_lt l.crossing.frame.at.0 last.at) [
               | inl sooner ↦ absurd (omega (
@@ -206,8 +206,8 @@ module _ (skips : SkippingConforms) (link : AccessLink) (streams : List AccessSt
     some : 0 < size
     some = takes link streams others sent s.promise.size
 
-    behind : x.frame.at.0 ≤ x.start
-    behind = sent.behind s x c k
+    following : x.frame.at.0 ≤ x.start
+    following = sent.following s x c k
 
     inside : Contains (handed_in last.at time s) x
     inside = in_window last.at time s x k last.early of_window
@@ -224,7 +224,7 @@ module _ (skips : SkippingConforms) (link : AccessLink) (streams : List AccessSt
           absurd (omega (arith, over, some))
       | inr early ↦
           let n = x.start - last.at in
-          let whole : last.at + n ≡ x.start = omega (arith, behind, last.early) in
+          let whole : last.at + n ≡ x.start = omega (arith, following, last.early) in
           let over = fits last.at n time size s x bound (omega (arith, early)) (covered_so n (omega (arith, whole))) c inside
           (unseen n (omega (arith, whole))) in
           omega (arith, over, whole)
@@ -235,10 +235,10 @@ module _ (skips : SkippingConforms) (link : AccessLink) (streams : List AccessSt
     starts = omega (arith, starts_in_window, last.early)
 
     -- it waits for the frames of its own stream that start before it, and for the most that others take
-    starts_behind : IsBehindOwn link time last.at s x
-    starts_behind =
+    starts_after : IsAfterOwn link time last.at s x
+    starts_after =
         let n = x.start - last.at in
-        let whole : last.at + n ≡ x.start = omega (arith, behind, last.early) in
+        let whole : last.at + n ≡ x.start = omega (arith, following, last.early) in
         let ahead = inner_ahead last.at n time s c in
         let same : length (ahead_in last.at time (last.at + n) s) ≡ length (ahead_in last.at time x.start s) = ap (λ e. length (ahead_in last.at time e s)) whole in
         let few : length (ahead_in last.at time x.start s) + 1 ≤ most_frames time s.promise =
@@ -271,7 +271,7 @@ pub access_link_bounds_queueing : SkippingConforms → AccessLinkBoundsQueueing
 access_link_bounds_queueing skips link streams others time s x sent bound c k =
     starts skips link streams others sent time bound s x c k (last_idle link streams x.frame.at.0)
 
-pub frame_is_behind_own : SkippingConforms → (link : AccessLink) (streams : List AccessStream) (others : List Other) (time : ℕ) (s : AccessStream)
+pub frame_is_after_own : SkippingConforms → (link : AccessLink) (streams : List AccessStream) (others : List Other) (time : ℕ) (s : AccessStream)
     (x : Crossing) → IsSent link streams others → IsBound link (promises_of streams) time → Contains streams s → Contains s.crossings x →
-    (last : IsLastIdle link streams x.frame.at.0) → IsBehindOwn link time last.at s x
-frame_is_behind_own skips link streams others time s x sent bound c k last = starts_behind skips link streams others sent time bound s x c k last
+    (last : IsLastIdle link streams x.frame.at.0) → IsAfterOwn link time last.at s x
+frame_is_after_own skips link streams others time s x sent bound c k last = starts_after skips link streams others sent time bound s x c k last

@@ -58,8 +58,8 @@ pub record OtherIsUnderWay (link : AccessLink) (others : List Other) (at : ℕ) 
   pub is_one : Contains others one
   pub under_way : IsUnderWay link one.start one.octets at
 
--- how the link sends: in any order, even for the frames of one stream. It isn't required that no two frames of streams, and no two others,
--- are under way at once
+-- how the link sends: in any order, even for the frames of one stream. Two frames of streams may be under way at once here, and so may two
+-- frames of no stream, since the laws don't depend on it
 pub record IsSent (link : AccessLink) (streams : List AccessStream) (others : List Other) : Type 0 where
   -- an octet takes time
   pub takes_time : 0 < link.octet_time
@@ -67,7 +67,7 @@ pub record IsSent (link : AccessLink) (streams : List AccessStream) (others : Li
   pub promised : (s : AccessStream) → Contains streams s → IsTraffic s.promise
   pub kept : (s : AccessStream) → Contains streams s → Conforms s.promise (handed s)
   -- no frame starts before it is handed over
-  pub behind : (s : AccessStream) (x : Crossing) → Contains streams s → Contains s.crossings x → x.frame.at.0 ≤ x.start
+  pub following : (s : AccessStream) (x : Crossing) → Contains streams s → Contains s.crossings x → x.frame.at.0 ≤ x.start
   -- the link is never idle while a frame of a stream waits
   pub works : (s : AccessStream) (x : Crossing) (at : ℕ) → Contains streams s → Contains s.crossings x → x.frame.at.0 ≤ at → at < x.start →
       StreamIsUnderWay link streams at ⊎ OtherIsUnderWay link others at
@@ -80,7 +80,7 @@ pub record IsSent (link : AccessLink) (streams : List AccessStream) (others : Li
   pub yields : (s : AccessStream) (x : Crossing) (o : Other) → Contains streams s → Contains s.crossings x → Contains others o →
       x.frame.at.0 < o.start → x.start ≤ o.start
 
--- the most that a stream takes of the link, of what it hands over within a time
+-- the most time that a stream takes of the link for what it hands over within a time
 abbrev pub taken_within : AccessLink → ℕ → Traffic → ℕ
 taken_within link time t = most_frames time t * taken_of link t.size
 

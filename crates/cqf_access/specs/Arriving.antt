@@ -13,8 +13,8 @@ pub record IsWholeAt (link : AccessLink) (delays : Delays) (x : Crossing) (at : 
 
 -- the time from the hand-over of a frame that doesn't wait until it is whole at the edge bridge, given the link's delay and the frame's
 -- octets: its transit time
-abbrev pub way_of : AccessLink → ℕ → ℕ → ℕ
-way_of link delay octets = ending_of 0 octets link.octet_time + delay
+abbrev pub travel_time : AccessLink → ℕ → ℕ → ℕ
+travel_time link delay octets = ending_of 0 octets link.octet_time + delay
 
 -- the longest wait of a frame of a stream
 abbrev pub longest_wait : AccessLink → ℕ → Traffic → ℕ
@@ -23,8 +23,8 @@ longest_wait link time t = time - taken_of link t.size
 -- a frame is whole, after its hand-over, no earlier than its shortest transit time, and no later than its longest transit time plus the
 -- longest wait. And this is so for each frame
 pub record IsWholeWithin (link : AccessLink) (delays : Delays) (time : ℕ) (t : Traffic) (x : Crossing) (at : ℕ) : Type 0 where
-  pub least : x.frame.at.0 + way_of link delays.least.0 x.frame.octets ≤ at
-  pub most : at ≤ x.frame.at.0 + way_of link delays.most.0 x.frame.octets + longest_wait link time t
+  pub least : x.frame.at.0 + travel_time link delays.least.0 x.frame.octets ≤ at
+  pub most : at ≤ x.frame.at.0 + travel_time link delays.most.0 x.frame.octets + longest_wait link time t
 
 abbrev pub FramesAreWholeWithin : Type 0
 FramesAreWholeWithin =
@@ -34,7 +34,7 @@ FramesAreWholeWithin =
 
 -- by how much the longest transit time of a largest frame exceeds the shortest transit time of a shortest frame
 abbrev pub spread_of : AccessLink → Delays → ℕ → ℕ → ℕ
-spread_of link delays shortest size = way_of link delays.most.0 size - way_of link delays.least.0 shortest
+spread_of link delays shortest size = travel_time link delays.most.0 size - travel_time link delays.least.0 shortest
 
 -- the stream's promise at the edge bridge, if none of its frames has fewer octets than `shortest`: the same, but a frame can be later by
 -- the longest wait and by the spread of transit times
@@ -62,18 +62,18 @@ by_clock sync t = record {
 
 -- what the edge bridge receives of a stream: some of the frames, each once, in the order in which they are whole by its clock. This clock
 -- and the talker's differ by at most `sync`
-pub record Arrives (link : AccessLink) (delays : Delays) (sync : ℕ) (crossings : List Crossing) (place : ℕ) (a : Offer) : Type 0 where
+pub record Arrives (link : AccessLink) (delays : Delays) (sync : ℕ) (crossings : List Crossing) (index : ℕ) (a : Offer) : Type 0 where
   pub crossing : Crossing
-  pub there : slice_get crossings place ≡ Some crossing
+  pub there : slice_get crossings index ≡ Some crossing
   pub at : ℕ
   pub whole : IsWholeAt link delays crossing at
   pub clocks : AreWithin sync at a.at.0
   pub octets : a.octets ≡ crossing.frame.octets
 
 pub record AreArrivals (link : AccessLink) (delays : Delays) (sync : ℕ) (crossings : List Crossing) (arrived : List Offer) : Type 0 where
-  pub place : ℕ → ℕ
-  pub each : (k : ℕ) (a : Offer) → slice_get arrived k ≡ Some a → Arrives link delays sync crossings (place k) a
-  pub once : (i k : ℕ) → i < k → k < length arrived → place i ≡ place k → ⊥
+  pub index : ℕ → ℕ
+  pub each : (k : ℕ) (a : Offer) → slice_get arrived k ≡ Some a → Arrives link delays sync crossings (index k) a
+  pub once : (i k : ℕ) → i < k → k < length arrived → index i ≡ index k → ⊥
   pub ordered : (i k : ℕ) (a b : Offer) → i ≤ k → slice_get arrived i ≡ Some a → slice_get arrived k ≡ Some b → a.at.0 ≤ b.at.0
 
 -- in any order in which the link sends, and with any delays of the frames, the talker keeps a promise there: by another clock the one for
@@ -100,7 +100,7 @@ pub record IsOnGrid (offset interval jitter at : ℕ) : Type 0 where
 
 -- if a stream is handed over on a grid, its grid at the edge bridge begins later by the shortest transit time of a shortest frame
 abbrev pub edge_offset : AccessLink → Delays → ℕ → ℕ → ℕ
-edge_offset link delays shortest offset = offset + way_of link delays.least.0 shortest
+edge_offset link delays shortest offset = offset + travel_time link delays.least.0 shortest
 
 -- each frame is whole on this grid, in the interval in which it was handed over
 abbrev pub GridIsShifted : Type 0
@@ -115,14 +115,14 @@ GridIsShifted =
 -- an interval of the grid. It comes no earlier than its interval begins, and later by at most the jitter. Frames of later intervals may
 -- overtake it
 pub record AreByGrid (offset : ℕ) (t : Traffic) (sent : List Offer) : Type 0 where
-  pub place : ℕ → ℕ
-  pub once : (i k : ℕ) → i < k → k < length sent → place i ≡ place k → ⊥
-  pub least : (k : ℕ) (a : Offer) → slice_get sent k ≡ Some a → offset + place k / t.frames * t.interval ≤ a.at.0
-  pub most : (k : ℕ) (a : Offer) → slice_get sent k ≡ Some a → a.at.0 ≤ offset + place k / t.frames * t.interval + t.jitter
+  pub index : ℕ → ℕ
+  pub once : (i k : ℕ) → i < k → k < length sent → index i ≡ index k → ⊥
+  pub least : (k : ℕ) (a : Offer) → slice_get sent k ≡ Some a → offset + index k / t.frames * t.interval ≤ a.at.0
+  pub most : (k : ℕ) (a : Offer) → slice_get sent k ≡ Some a → a.at.0 ≤ offset + index k / t.frames * t.interval + t.jitter
   pub sizes : All (λ (a : Offer). a.octets ≤ t.size) sent
   pub ordered : (i k : ℕ) (a b : Offer) → i ≤ k → slice_get sent i ≡ Some a → slice_get sent k ≡ Some b → a.at.0 ≤ b.at.0
 
--- such a talker keeps its promise at the hand-over
+-- a talker that hands frames over by a regular grid keeps its promise at the hand-over
 abbrev pub GridsConform : Type 0
 GridsConform = (offset : ℕ) (t : Traffic) (sent : List Offer) → IsTraffic t → AreByGrid offset t sent → Conforms t sent
 

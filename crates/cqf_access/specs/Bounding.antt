@@ -8,7 +8,7 @@ use Rattle.cqf_laws_timing.specs.Traffic.{Traffic}
 use Rattle.cqf_traffic.specs.TrafficText.{TrafficText, promise_of}
 use Rattle.cqf_access.specs.Access.{AccessLink, IsBound}
 
--- a link with this rate
+-- a link with this rate, and with frames of no stream up to this size, if there may be any
 abbrev pub link_of : Rate → Option Octets → AccessLink
 link_of rate other = record { octet_time = ticks_of_octet rate; other = option_map (λ (o : Octets). o.0) other }
 

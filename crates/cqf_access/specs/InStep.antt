@@ -15,8 +15,8 @@ pub record KeepsStep (cycle_time sync offset : ℕ) (t : Traffic) : Type 0 where
   pub early : sync ≤ offset % cycle_time
   pub late : offset % cycle_time + t.jitter + sync < cycle_time
 
--- if a stream keeps step by its grid and its promise at the edge bridge, each frame that is handed over on a grid is whole there in the
--- cycle in which its interval begins on the grid there, by each such clock
+-- if a stream keeps step at the edge bridge, by its grid and its promise there, each frame that is handed over on a grid keeps its cycle.
+-- By each such clock it is whole at the edge bridge in the cycle in which its interval begins on the grid there
 abbrev pub EdgeKeepsStep : Type 0
 EdgeKeepsStep =
     (link : AccessLink) (streams : List AccessStream) (others : List Other) (delays : Delays) (time shortest offset cycle_time sync : ℕ) (s : AccessStream)
@@ -31,8 +31,8 @@ AreOnGrid offset s = (x : Crossing) → Contains s.crossings x → IsOnGrid offs
 
 -- if, in addition, each interval is a multiple of `every` cycles long, all that arrives of the stream comes in every `every`-th cycle by
 -- the edge bridge's clock, counted from the cycle in which its grid there begins
-abbrev pub EdgeComesInTurns : Type 0
-EdgeComesInTurns =
+abbrev pub EdgeComesInActiveCycles : Type 0
+EdgeComesInActiveCycles =
     (link : AccessLink) (streams : List AccessStream) (others : List Other) (delays : Delays) (time shortest offset cycle_time every sync : ℕ)
     (s : AccessStream) (arrived : List Offer) (a : Offer) → IsSent link streams others → IsBound link (promises_of streams) time →
     Contains streams s → ((x : Crossing) → Contains s.crossings x → shortest ≤ x.frame.octets) → AreOnGrid offset s →

@@ -1,7 +1,7 @@
 //! The promise that a talker keeps at its edge bridge.
 ghost use Rattle.std.specs.Prelude.{◌≡◌, ◌+◌, ◌≤◌, ◌^◌};
 ghost use Rattle.cqf_traffic.specs.TrafficText.{promise_of};
-ghost use Rattle.cqf_access.specs.Arriving.{at_edge, edge_offset, longest_wait, spread_of, way_of};
+ghost use Rattle.cqf_access.specs.Arriving.{at_edge, edge_offset, longest_wait, spread_of, travel_time};
 ghost use Rattle.cqf_access.specs.Bounding.{link_of};
 ghost use Rattle.cqf_access.specs.Closer.{closer_at_edge, closer_wait};
 
@@ -17,9 +17,9 @@ pub struct Delays {
 }
 
 /// Returns the transit time of a frame with this number of octets and this delay, if it doesn't wait.
-fn way_of(rate: Rate, delay: Nanos, octets: Octets) -> Nanos
+fn travel_time(rate: Rate, delay: Nanos, octets: Octets) -> Nanos
     requires short { delay.0 ≤ 2 ^ 32 }
-    ensures value { result.0 ≡ way_of (link_of rate None) delay.0 octets.0 }
+    ensures value { result.0 ≡ travel_time (link_of rate None) delay.0 octets.0 }
     ensures short { result.0 ≤ 2 ^ 43 }
 {
     Nanos(time_of(u64::from(octets.0) + 8, rate) + delay.0)
@@ -52,8 +52,8 @@ fn spread_of(rate: Rate, delays: Delays, shortest: Octets, promise: Traffic) -> 
     ensures value { result.0 ≡ spread_of (link_of rate None) delays shortest.0 promise.size }
     ensures small { result.0 ≤ 2 ^ 43 }
 {
-    let longest = way_of(rate, delays.most, promise.size()).0;
-    let spread = longest.saturating_sub(way_of(rate, delays.least, shortest).0);
+    let longest = travel_time(rate, delays.most, promise.size()).0;
+    let spread = longest.saturating_sub(travel_time(rate, delays.least, shortest).0);
     Nanos(spread)
 }
 
@@ -67,9 +67,9 @@ fn jitter_with(rate: Rate, delays: Delays, wait: Nanos, shortest: Octets, promis
     Nanos(promise.jitter().0 + wait.0 + spread_of(rate, delays, shortest, promise).0)
 }
 
-/// Returns the jitter of a talker's promise at the edge bridge. Its access link sends one frame after the other, no frame waits longer than
-/// the bound allows ([`access_bound`]), and no frame of the stream is shorter than `shortest`. The bound and the delays are at most 2^32
-/// ns.
+/// Returns the jitter of a talker's promise at the edge bridge, in nanoseconds. Its access link sends one frame after the other, no frame
+/// waits longer than the bound allows ([`access_bound`]), and no frame of the stream is shorter than `shortest`. The bound and the delays
+/// are at most 2^32 ns.
 ///
 /// [`access_bound`]: crate::access_bound
 pub fn edge_jitter(
@@ -88,8 +88,8 @@ pub fn edge_jitter(
     jitter_with(rate, delays, wait, shortest, promise)
 }
 
-/// Returns how late a frame can be on its stream's grid at the edge bridge, under the same conditions. This includes the frame's whole
-/// wait. The frames of a talker in step must stay in their cycles with this jitter.
+/// Returns how late a frame can be on its stream's grid at the edge bridge, in nanoseconds, under the conditions of [`edge_jitter`]. This
+/// includes the frame's whole wait. The frames of a talker in step must stay in their cycles with this jitter.
 pub fn grid_jitter(
     rate: Rate,
     delays: Delays,
@@ -106,10 +106,11 @@ pub fn grid_jitter(
     jitter_with(rate, delays, wait, shortest, promise)
 }
 
-/// Returns the offset of a stream's grid at the edge bridge. No frame of the stream is shorter than `shortest`.
+/// Returns the offset of a stream's grid at the edge bridge, in nanoseconds. No frame of the stream is shorter than `shortest`, and the
+/// least delay is at most 2^32 ns.
 pub fn edge_offset(rate: Rate, delays: Delays, shortest: Octets, promise: Traffic) -> Nanos
     requires short { delays.least.0 ≤ 2 ^ 32 }
     ensures { result.0 ≡ edge_offset (link_of rate None) delays shortest.0 promise.offset }
 {
-    Nanos(promise.offset().0 + way_of(rate, delays.least, shortest).0)
+    Nanos(promise.offset().0 + travel_time(rate, delays.least, shortest).0)
 }

@@ -2,21 +2,21 @@
 ghost use Rattle.cqf_access.specs.Access.{AccessLinkBoundsQueueing};
 ghost use Rattle.cqf_access.specs.Arriving.{EdgeConforms, EdgeConformsByClocks, FramesAreWholeWithin, GridIsShifted, GridsAreKept, GridsConform};
 ghost use Rattle.cqf_access.specs.Closer.{EdgeConformsCloser, EdgeConformsCloserByClocks};
-ghost use Rattle.cqf_access.specs.InStep.{EdgeComesInTurns, EdgeKeepsStep};
+ghost use Rattle.cqf_access.specs.InStep.{EdgeComesInActiveCycles, EdgeKeepsStep};
 ghost use Rattle.cqf_access.specs.Reached.{LeastBoundIsReached};
 
 use cqf_laws_timing::conforming_offers_fit_a_cycle;
 
-/// Law: a talker that hands frames over by a regular grid, each late by at most the jitter, keeps its promise (after IEEE Std 802.1Q-2018,
-/// 46.2.3.5).
+/// Proves that a talker that hands frames over by a regular grid, each late by at most the jitter, keeps its promise (after IEEE Std
+/// 802.1Q-2018, 46.2.3.5).
 pub fn grids_conform()
     ensures conforms { GridsConform }
     ensures kept { GridsAreKept }
 {}
 
-/// Law: no frame of a stream waits longer on its talker's access link than a bound allows, in any order in which the link sends. The bound
-/// is computed from the promises of all the station's streams. So the frame is whole at the edge bridge within a time that follows from the
-/// bound.
+/// Proves that no frame of a stream waits longer on its talker's access link than a bound allows, in any order in which the link sends. The
+/// bound is computed from the promises of all the station's streams. So the frame is whole at the edge bridge within a time that follows
+/// from the bound.
 pub fn access_link_bounds_queueing()
     ensures waits { AccessLinkBoundsQueueing }
     ensures whole { FramesAreWholeWithin }
@@ -24,14 +24,14 @@ pub fn access_link_bounds_queueing()
     conforming_offers_fit_a_cycle();
 }
 
-/// Law: if the least bound plus each stream's jitter is at most the stream's interval, there is a link on which a frame waits as long as
-/// the bound allows.
+/// Proves that if the least bound plus each stream's jitter is at most the stream's interval, there is a link on which a frame waits as
+/// long as the bound allows.
 pub fn least_bound_is_reached()
     ensures { LeastBoundIsReached }
 {}
 
-/// Law: a talker that keeps its promise at the hand-over keeps one at the edge bridge, also by the clock there: the same promise with a
-/// greater jitter, and on a grid that begins later.
+/// Proves that a talker that keeps its promise at the hand-over keeps one at the edge bridge, also by the clock there: the same promise
+/// with a greater jitter, and on a grid that begins later.
 pub fn edge_conforms()
     ensures conforms { EdgeConforms }
     ensures clocks { EdgeConformsByClocks }
@@ -40,17 +40,18 @@ pub fn edge_conforms()
     access_link_bounds_queueing();
 }
 
-/// Law: if that jitter leaves each frame in its cycle, by each clock that is possible at the edge bridge, all that a talker hands over on a
-/// grid comes there in its cycle on the grid. So it comes in every `every`-th cycle if its interval is a multiple of `every` cycles long.
+/// Proves that if that jitter leaves each frame in its cycle, by each clock that is possible at the edge bridge, all that a talker hands
+/// over on a grid comes there in its cycle on the grid. So it comes in every `every`-th cycle if its interval is a multiple of `every`
+/// cycles long.
 pub fn edge_keeps_step()
     ensures step { EdgeKeepsStep }
-    ensures turns { EdgeComesInTurns }
+    ensures active_cycles { EdgeComesInActiveCycles }
 {
     access_link_bounds_queueing();
 }
 
-/// Law: if the link sends a stream's frames one after the other, the jitter at the edge bridge doesn't include the part of a wait for the
-/// stream's own frames that is the same in each interval. It includes only the possible difference in their lengths.
+/// Proves that if the link sends a stream's frames one after the other, the jitter at the edge bridge doesn't include the part of a wait
+/// for the stream's own frames that is the same in each interval. It includes only the possible difference in their lengths.
 pub fn edge_conforms_closer()
     ensures conforms { EdgeConformsCloser }
     ensures clocks { EdgeConformsCloserByClocks }

@@ -52,7 +52,7 @@ apart addresses none i k before inside same =
       a = gate_index addresses i;
       b = gate_index addresses k;
       at_twin = index_at addresses i (omega arith);
-      at_place = index_at addresses k inside;
+      at_index = index_at addresses k inside;
       equal = eq-eqb (gate_index addresses i) (gate_index addresses k) same;
     })
 

@@ -1,4 +1,4 @@
 pub mod Seen
 mod Apart
 mod MacLemmas
-pub mod Behind
+pub mod After

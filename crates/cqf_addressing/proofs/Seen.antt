@@ -11,10 +11,10 @@ use Rattle.cqf_addressing.specs.declared.streams.StreamAddress.{StreamAddress}
 use Rattle.cqf_addressing.specs.Streams.{first_again, first_gate_twice, gate_of, gates_from}
 
 -- one more gate index after others
-gates_behind : (number : ℕ) (front : List StreamAddress) (x : StreamAddress) → gates_from number (front ++ x ∷ []) ≡ gates_from number front ++ gate_of (number + length front) x ∷ []
-gates_behind number [] x = ap (λ (n : ℕ). gate_of n x ∷ []) (omega arith)
-gates_behind number (y ∷ front) x =
-    ap (λ (rest : List ℕ). gate_of number y ∷ rest) (gates_behind (number + 1) front x)
+gates_after : (number : ℕ) (front : List StreamAddress) (x : StreamAddress) → gates_from number (front ++ x ∷ []) ≡ gates_from number front ++ gate_of (number + length front) x ∷ []
+gates_after number [] x = ap (λ (n : ℕ). gate_of n x ∷ []) (omega arith)
+gates_after number (y ∷ front) x =
+    ap (λ (rest : List ℕ). gate_of number y ∷ rest) (gates_after (number + 1) front x)
     ∙ ap (λ (n : ℕ). gate_of number y ∷ (gates_from (number + 1) front ++ gate_of n x ∷ [])) (omega arith)
 
 length-gates : (number : ℕ) (addresses : List StreamAddress) → length (gates_from number addresses) ≡ length addresses
@@ -58,7 +58,7 @@ module _ (addresses : List StreamAddress) (k : ℕ) (x : StreamAddress) (inside 
   one_more : gates_before addresses (k + 1) ≡ gates_before addresses k ++ gate_of k x ∷ []
   one_more =
       ap (gates_from 0) (take_more addresses k x inside ∙ ap (λ (y : StreamAddress). take k addresses ++ y ∷ []) (sym at))
-      ∙ gates_behind 0 (take k addresses) x
+      ∙ gates_after 0 (take k addresses) x
       ∙ ap (λ (n : ℕ). gates_before addresses k ++ gate_of n x ∷ []) (omega (arith, length-take-le k addresses (omega arith)))
 
   -- the gate indexes from this stream on
@@ -68,10 +68,10 @@ module _ (addresses : List StreamAddress) (k : ℕ) (x : StreamAddress) (inside 
       ∙ ap (λ (n : ℕ). gate_of k x ∷ gates_from (k + 1) (drop n addresses)) (sym (add-one k))
 
   -- reported at this stream: its gate index, if an earlier stream has it
-  told_here : cond (stood (gate_of k x) (gates_before addresses k)) (Some (length (gates_before addresses k) + 1, gate_of k x))
+  reported_here : cond (stood (gate_of k x) (gates_before addresses k)) (Some (length (gates_before addresses k) + 1, gate_of k x))
       (first_again (gates_before addresses k ++ gate_of k x ∷ []) (gates_from (k + 1) (drop (k + 1) addresses)))
       ≡ first_again (gates_before addresses k) (gates_from k (drop k addresses))
-  told_here = ap (first_again (gates_before addresses k)) (sym from_here)
+  reported_here = ap (first_again (gates_before addresses k)) (sym from_here)
 
   module _ (seen : List Bool) (now : HasSeen addresses k seen) (gate : ℕ) (is : gate ≡ gate_of k x) (range : 65535 < gate → gate ≡ k + 1) where
     -- the record of a gate index says whether it occurred
@@ -82,11 +82,11 @@ module _ (addresses : List StreamAddress) (k : ℕ) (x : StreamAddress) (inside 
     ]
 
     -- a repeated index is reported
-    pub told_twice : get_or seen gate false ≡ true → first_gate_twice addresses ≡ Some (k + 1, gate)
-    told_twice found =
+    pub reported_twice : get_or seen gate false ≡ true → first_gate_twice addresses ≡ Some (k + 1, gate)
+    reported_twice found =
         let here : stood (gate_of k x) (gates_before addresses k) ≡ true = ap (λ (g : ℕ). stood g (gates_before addresses k)) (sym is) ∙ sym noted_where_stood ∙ found in
         let long : length (gates_before addresses k) ≡ k = length-gates 0 (take k addresses) ∙ length-take-le k addresses (omega arith) in
-        sym now.rest ∙ sym told_here
+        sym now.rest ∙ sym reported_here
         ∙ ap (λ (b : Bool). cond b (Some (length (gates_before addresses k) + 1, gate_of k x))
         (first_again (gates_before addresses k ++ gate_of k x ∷ []) (gates_from (k + 1) (drop (k + 1) addresses)))) here
         ∙ (λ i. Some (long i + 1, sym is i))
@@ -137,11 +137,11 @@ module _ (addresses : List StreamAddress) (k : ℕ) (x : StreamAddress) (inside 
               ap (λ (gates : List ℕ). first_again gates (gates_from (k + 1) (drop (k + 1) addresses))) one_more
               ∙ ap (λ (b : Bool). cond b (Some (length (gates_before addresses k) + 1, gate_of k x))
               (first_again (gates_before addresses k ++ gate_of k x ∷ []) (gates_from (k + 1) (drop (k + 1) addresses)))) (sym here)
-              ∙ told_here ∙ now.rest;
+              ∙ reported_here ∙ now.rest;
         }
 
 -- after the last stream nothing is reported
-pub told_none : (addresses : List StreamAddress) (k : ℕ) (seen : List Bool) → HasSeen addresses k seen → length addresses ≤ k →
+pub reported_none : (addresses : List StreamAddress) (k : ℕ) (seen : List Bool) → HasSeen addresses k seen → length addresses ≤ k →
     first_gate_twice addresses ≡ None
-told_none addresses k seen now past =
+reported_none addresses k seen now past =
     sym now.rest ∙ ap (λ (left : List StreamAddress). first_again (gates_before addresses k) (gates_from k left)) (drop_all k addresses past)

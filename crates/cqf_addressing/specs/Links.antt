@@ -22,7 +22,7 @@ link_from table =
     and_then (interface_at FarInterface table) (λ far.
     Ok (record { near = near; far = far })))
 
--- the same link back: its interfaces change places
+-- the same link in its other direction: its interfaces are exchanged
 abbrev pub back_from : Members → Result LinkInterfaces AddressingFault
 back_from table = and_then (link_from table) (λ there. Ok (record { near = there.far; far = there.near }))
 
@@ -37,7 +37,7 @@ is_station stations key table = option_map_or (λ name. is_named name stations) 
 abbrev pub is_duplex : Members → Bool
 is_duplex table = unwrap_or (option_and_then as_bool (get_member (codes "duplex") table)) false
 
--- a link's directions that begin at no station, there before back. Its interfaces are looked at in any case
+-- a link's directions that begin at no station, the written one first. Its interfaces are read in any case
 abbrev pub there_from : Items → Members → Result (List LinkInterfaces) AddressingFault
 there_from stations table = and_then (link_from table) (λ there. Ok (if is_station stations key.From table then [] else there ∷ []))
 

@@ -25,7 +25,7 @@ abbrev pub octet_of : ℕ → ℕ → Option ℕ
 octet_of high low = if is_digit high 16 && is_digit low 16 then Some (16 * digit_value high + digit_value low) else None
 
 abbrev pub octet_at : List ℕ → ℕ → Option ℕ
-octet_at text place = octet_of (slice_index text place) (slice_index text (place + 1))
+octet_at text index = octet_of (slice_index text index) (slice_index text (index + 1))
 
 -- whether there is a `:` between any two neighboring octets
 abbrev pub has_colons : List ℕ → Bool

@@ -45,7 +45,7 @@ impl From<Memory> for AddressingFault {
     }
 }
 
-/// Converts a failed allocation for a value likewise.
+/// Converts a failed allocation of a value into a fault.
 impl<T: Drop> From<AllocFailed<T>> for AddressingFault {
     ghost use Rattle.cqf_topology.specs.declared.toml_faults.TomlFault.TheVariants as toml;
     ghost use Rattle.cqf_addressing.specs.declared.faults.AddressingFault.TheVariants as variant;

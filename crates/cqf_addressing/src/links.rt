@@ -32,7 +32,7 @@ fn read_link(table: &Table) -> Result<LinkInterfaces, AddressingFault>
     Ok(LinkInterfaces { near, far })
 }
 
-/// The interfaces of the same link back.
+/// Reads the interfaces of the same link in its other direction.
 fn read_back(table: &Table) -> Result<LinkInterfaces, AddressingFault>
     ensures { result ≡ back_from (table_view table.now) }
 {
@@ -43,7 +43,7 @@ fn read_back(table: &Table) -> Result<LinkInterfaces, AddressingFault>
     })
 }
 
-/// Whether a value is this text.
+/// Returns whether a value is this text.
 fn is_text(value: &Value, text: &str) -> bool
     ensures { result ≡ option_map_or (bytes_eq text.now) (as_str (view value.now)) false }
 {
@@ -53,7 +53,7 @@ fn is_text(value: &Value, text: &str) -> bool
     }
 }
 
-/// Whether the name is one of the stations.
+/// Returns whether the name is one of the stations.
 fn is_named(name: &str, stations: &[Value]) -> bool
     ensures { result ≡ is_named name.now (items_view stations.now) }
 {
@@ -109,7 +109,7 @@ fn put_there(
     Ok(())
 }
 
-/// Puts those of the same link back, where it has that direction and that begins at no station.
+/// Puts the interfaces of a link in its other direction after others, if it has that direction and that direction begins at no station.
 fn put_back(
     links: &mut Vec<LinkInterfaces>,
     stations: &[Value],
@@ -142,7 +142,7 @@ fn put_link(
     put_back(links, stations, table)
 }
 
-/// Puts those of an element of the array of links.
+/// Puts the interfaces of an element of the array of links after others, in each direction that begins at no station.
 fn put_element(
     links: &mut Vec<LinkInterfaces>,
     stations: &[Value],
@@ -194,15 +194,15 @@ fn interfaces_of_table(alloc: Global, table: &Table) -> Result<Vec<LinkInterface
     all_links_in(alloc, stations_of(table), values)
 }
 
-/// Returns the interfaces of the links of a text that begin at a bridge, by number. An element that is `duplex` is two links, the one back
-/// directly after the other, with its interfaces exchanged. A link that begins at a station has no number.
+/// Returns the interfaces of the links of a text that begin at a bridge, by number. An element that is `duplex` is two links: the one in
+/// the other direction comes directly after the first, with the interfaces exchanged. A link that begins at a station has no number.
 ///
 /// Only the stations, the array of links and these keys of each link are read: `from`, `to`,
 /// `duplex`, and `interface` and `far-interface`, each a text of the form of an [`InterfaceName`].
 ///
 /// # Errors
-/// `NotToml`. `Missing` or `BadValue` with `links` if it isn't an array of tables. `BadValue` with the first key, in reading order, that
-/// has another value. `Memory` if an allocation fails.
+/// `NotToml` if the text isn't TOML. `Missing` or `BadValue` with `links` if it isn't an array of tables. `BadValue` with the first key, in
+/// reading order, that has another value. `Memory` if an allocation fails.
 pub fn read_link_interfaces(
     alloc: Global,
     text: &[u8],

@@ -47,12 +47,12 @@ fn hex_value(byte: u8) -> Option<u8>
 }
 
 /// Returns the octet that is written as two hexadecimal digits at an index.
-fn octet_at(text: &[u8], place: usize) -> Option<u8>
-    requires { place + 1 < length text.now }
-    ensures { result ≡ octet_at text.now place }
+fn octet_at(text: &[u8], index: usize) -> Option<u8>
+    requires { index + 1 < length text.now }
+    ensures { result ≡ octet_at text.now index }
 {
-    let high = hex_value(text[place])?;
-    let low = hex_value(text[place + 1])?;
+    let high = hex_value(text[index])?;
+    let low = hex_value(text[index + 1])?;
     Some(16 * high + low)
 }
 

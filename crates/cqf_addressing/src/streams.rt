@@ -84,8 +84,9 @@ fn addresses_of_table(
 /// `x-gate`, an integer from 1 to the number of streams that may be held within the limits.
 ///
 /// # Errors
-/// `NotToml`. `Missing` or `BadValue` with `streams` if it isn't an array of tables. `BadValue` with the first key, in reading order, that
-/// has another value. `GateTwice` with the first stream whose gate has the index of an earlier one. `Memory` if an allocation fails.
+/// `NotToml` if the text isn't TOML. `Missing` or `BadValue` with `streams` if it isn't an array of tables. `BadValue` with the first key,
+/// in reading order, that has another value. `GateTwice` with the first stream whose gate has the index of an earlier one. `Memory` if an
+/// allocation fails.
 pub fn read_stream_addresses(
     alloc: Global,
     limits: Limits,

@@ -5,14 +5,14 @@ ghost use Rattle.cqf_addressing.specs.Streams.{first_gate_twice, gate_of};
 use crate::StreamAddress;
 
 /// Returns the gate index of the stream at an index, from 0.
-fn gate_of(place: usize, address: &StreamAddress) -> usize
-    requires { place + 1 < 2 ^ 64 }
-    ensures value { result ≡ gate_of place address.now }
-    ensures range { 65535 < result → result ≡ place + 1 }
+fn gate_of(index: usize, address: &StreamAddress) -> usize
+    requires { index + 1 < 2 ^ 64 }
+    ensures value { result ≡ gate_of index address.now }
+    ensures range { 65535 < result → result ≡ index + 1 }
 {
     match address.gate {
         Some(gate) => usize::from(gate),
-        None => place + 1,
+        None => index + 1,
     }
 }
 
@@ -41,10 +41,10 @@ pub(crate) fn first_gate_twice(addresses: &[StreamAddress]) -> Option<(usize, us
     ensures { result ≡ first_gate_twice addresses.now }
 {
     let mut seen = [false; 65536];
-    for (place, address) in addresses.iter().enumerate() {
-        let gate = gate_of(place, address);
+    for (index, address) in addresses.iter().enumerate() {
+        let gate = gate_of(index, address);
         if is_seen(&seen, gate) {
-            return Some((place + 1, gate));
+            return Some((index + 1, gate));
         }
         note(&mut seen, gate);
     }

@@ -15,13 +15,13 @@ use Rattle.cqf_model.specs.declared.topology.Node.{Node}
 use Rattle.cqf_model.specs.Domain.{Domain, is_text, node_named, same_node}
 use Rattle.cqf_model.proofs.Links.{same_node_itself, same_node_true}
 use Rattle.cqf_model.proofs.Texts.{is_text_itself, is_text_same, named_once}
-use Rattle.cqf_lists.proofs.Places.{first_stays}
+use Rattle.cqf_lists.proofs.Indices.{first_stays}
 use Rattle.cqf_lists.specs.Lists.{least, each_below}
 use Rattle.cqf_lists.proofs.Least.{least_none, or_else_none, unmapped_none}
-use Rattle.cqf_model.specs.History.{Branch, broken_place, first_place, is_bridge, is_broken_at, is_loop_at, is_same, link_at, node_at}
+use Rattle.cqf_model.specs.History.{Branch, broken_index, first_index, is_bridge, is_broken_at, is_loop_at, is_same, link_at, node_at}
 use Rattle.cqf_model.specs.Limits.{nodes_within}
 use Rattle.cqf_lists.proofs.Any.{list_any-map}
-use Rattle.cqf_admission.specs.Branches.{branch_of, branches_of, places_of}
+use Rattle.cqf_admission.specs.Branches.{branch_of, branches_of, indices_of}
 
 -- if no number below a bound passes, there is no least one
 none_listed : (test : ℕ → Bool) (n : ℕ) → ((k : ℕ) → k < n → test k ≡ false) → each_below (λ k. if test k then k ∷ [] else []) n ≡ []
@@ -51,15 +51,15 @@ pub least_found : (test : ℕ → Bool) (n k : ℕ) → k < n → test k ≡ tru
 least_found test n k h t below = sym (least_is test n k h t below)
 
 -- whether a node occurred earlier, found by comparing names
-looping_is : {S : Type 0} (bytes : S → List ℕ) (d : Domain) (path earlier : List S) (place : ℕ) (node : Option Node) (stands : Bool) →
-    stands ≡ list_any (λ name. is_same (node_named d (bytes name)) node) earlier → earlier ≡ take place path → node ≡ node_at d (map bytes path) place →
-    stands ≡ is_loop_at d (map bytes path) place
-looping_is {S} bytes d path earlier place node stands found front here =
+looping_is : {S : Type 0} (bytes : S → List ℕ) (d : Domain) (path earlier : List S) (index : ℕ) (node : Option Node) (stands : Bool) →
+    stands ≡ list_any (λ name. is_same (node_named d (bytes name)) node) earlier → earlier ≡ take index path → node ≡ node_at d (map bytes path) index →
+    stands ≡ is_loop_at d (map bytes path) index
+looping_is {S} bytes d path earlier index node stands found front here =
     found
     ∙ ap (λ (xs : List S). list_any (λ name. is_same (node_named d (bytes name)) node) xs) front
-    ∙ sym (list_any-map (λ name. is_same (node_named d name) node) bytes (take place path))
-    ∙ ap (λ (names : List (List ℕ)). list_any (λ name. is_same (node_named d name) node) names) (sym (take-map bytes place path))
-    ∙ ap (λ (n : Option Node). list_any (λ name. is_same (node_named d name) n) (take place (map bytes path))) here
+    ∙ sym (list_any-map (λ name. is_same (node_named d name) node) bytes (take index path))
+    ∙ ap (λ (names : List (List ℕ)). list_any (λ name. is_same (node_named d name) node) names) (sym (take-map bytes index path))
+    ∙ ap (λ (n : Option Node). list_any (λ name. is_same (node_named d name) n) (take index (map bytes path))) here
 
 -- two names are equal if and only if their nodes are the same
 same_by_name : (d : Domain) (a b : List ℕ) (node : Node) → node_named d a ≡ Some node → is_text a b ≡ is_same (node_named d b) (Some node)
@@ -91,28 +91,28 @@ none_stand d [] = refl
 none_stand d (name ∷ names) = rw (same_as_none (node_named d name), none_stand d names) refl
 
 -- a missing node didn't occur earlier
-not_looping : (d : Domain) (branch : Branch) (place : ℕ) → node_at d branch place ≡ None → false ≡ is_loop_at d branch place
-not_looping d branch place none =
-    sym (ap (λ (n : Option Node). list_any (λ name. is_same (node_named d name) n) (take place branch)) none ∙ none_stand d (take place branch))
+not_looping : (d : Domain) (branch : Branch) (index : ℕ) → node_at d branch index ≡ None → false ≡ is_loop_at d branch index
+not_looping d branch index none =
+    sym (ap (λ (n : Option Node). list_any (λ name. is_same (node_named d name) n) (take index branch)) none ∙ none_stand d (take index branch))
 
 -- after the last node of a path, none occurred earlier
-pub not_looping_past : {S : Type 0} (bytes : S → List ℕ) (d : Domain) (path : List S) (place : ℕ) → length path ≤ place
-    → false ≡ is_loop_at d (map bytes path) place
-not_looping_past bytes d path place past =
-    not_looping d (map bytes path) place
+pub not_looping_past : {S : Type 0} (bytes : S → List ℕ) (d : Domain) (path : List S) (index : ℕ) → length path ≤ index
+    → false ≡ is_loop_at d (map bytes path) index
+not_looping_past bytes d path index past =
+    not_looping d (map bytes path) index
     (ap (λ (o : Option (List ℕ)). option_map_or (λ name. node_named d name) o None)
-    (slice_get_past (map bytes path) place (omega (arith, length-map path bytes))))
+    (slice_get_past (map bytes path) index (omega (arith, length-map path bytes))))
 
 -- the node at an index is that of the name there
-pub node_of_name : {S : Type 0} (bytes : S → List ℕ) (d : Domain) (path : List S) (place : ℕ) (name : S) → place < length path
-    → name ≡ get_or path place name → node_at d (map bytes path) place ≡ node_named d (bytes name)
-node_of_name bytes d path place name inside is =
+pub node_of_name : {S : Type 0} (bytes : S → List ℕ) (d : Domain) (path : List S) (index : ℕ) (name : S) → index < length path
+    → name ≡ get_or path index name → node_at d (map bytes path) index ≡ node_named d (bytes name)
+node_of_name bytes d path index name inside is =
     ap (λ (o : Option (List ℕ)). option_map_or (λ text. node_named d text) o None)
-    (slice_get-map bytes path place ∙ ap (option_map bytes) (slice_get_read path (length path) place name refl inside is))
+    (slice_get-map bytes path index ∙ ap (option_map bytes) (slice_get_read path (length path) index name refl inside is))
 
 -- if there is no node at an index, none occurred earlier
-pub not_looping_unknown : (d : Domain) (branch : Branch) (place : ℕ) → is_none (node_at d branch place) ≡ true → false ≡ is_loop_at d branch place
-not_looping_unknown d branch place unknown = not_looping d branch place (none_there (node_at d branch place) unknown)
+pub not_looping_unknown : (d : Domain) (branch : Branch) (index : ℕ) → is_none (node_at d branch index) ≡ true → false ≡ is_loop_at d branch index
+not_looping_unknown d branch index unknown = not_looping d branch index (none_there (node_at d branch index) unknown)
   where
     -- if the test finds no node, there is none
     none_there : (node : Option Node) → is_none node ≡ true → node ≡ None
@@ -120,19 +120,19 @@ not_looping_unknown d branch place unknown = not_looping d branch place (none_th
     none_there (Some node) h = absurd cc
 
 -- a known node occurred earlier if and only if its name did
-pub looping_by_name : {S : Type 0} (bytes : S → List ℕ) (d : Domain) (path earlier : List S) (place : ℕ) (name : S) (stands : Bool)
-    → place < length path → name ≡ get_or path place name → is_none (node_named d (bytes name)) ≡ false
-    → stands ≡ list_any (λ other. is_text (bytes name) (bytes other)) earlier → earlier ≡ take place path → stands ≡ is_loop_at d (map bytes path) place
-looping_by_name {S} bytes d path earlier place name stands inside is known found front = by (node_named d (bytes name)) refl known
+pub looping_by_name : {S : Type 0} (bytes : S → List ℕ) (d : Domain) (path earlier : List S) (index : ℕ) (name : S) (stands : Bool)
+    → index < length path → name ≡ get_or path index name → is_none (node_named d (bytes name)) ≡ false
+    → stands ≡ list_any (λ other. is_text (bytes name) (bytes other)) earlier → earlier ≡ take index path → stands ≡ is_loop_at d (map bytes path) index
+looping_by_name {S} bytes d path earlier index name stands inside is known found front = by (node_named d (bytes name)) refl known
   where
     -- the name occurred earlier if and only if its node did
-    by : (node : Option Node) → node_named d (bytes name) ≡ node → is_none node ≡ false → stands ≡ is_loop_at d (map bytes path) place
+    by : (node : Option Node) → node_named d (bytes name) ≡ node → is_none node ≡ false → stands ≡ is_loop_at d (map bytes path) index
     by None here none = absurd cc
     by (Some node) here none =
         let tests : (λ (other : S). is_text (bytes name) (bytes other)) ≡ (λ (other : S). is_same (node_named d (bytes other)) (Some node)) =
         (λ i. λ (other : S). same_by_name d (bytes name) (bytes other) node here i) in
-        looping_is bytes d path earlier place (Some node) stands (found ∙ ap (λ (test : S → Bool). list_any test earlier) tests) front
-        (sym (node_of_name bytes d path place name inside is ∙ here))
+        looping_is bytes d path earlier index (Some node) stands (found ∙ ap (λ (test : S → Bool). list_any test earlier) tests) front
+        (sym (node_of_name bytes d path index name inside is ∙ here))
 
 -- a branch that isn't broken has at most 65 nodes
 few_nodes : (d : Domain) (branch : Branch) → least (is_broken_at d branch) (length branch + 1) ≡ None → length branch ≤ 65
@@ -150,30 +150,30 @@ few_nodes d branch e =
     ]
 
 -- if no index is broken, each branch has at most 65 nodes
-few_in_each : (d : Domain) (paths : List Branch) → first_place (is_broken_at d) paths ≡ None → All (λ (branch : Branch). length branch ≤ 65) paths
+few_in_each : (d : Domain) (paths : List Branch) → first_index (is_broken_at d) paths ≡ None → All (λ (branch : Branch). length branch ≤ 65) paths
 few_in_each d [] e = All-nil (λ (branch : Branch). length branch ≤ 65)
 few_in_each d (x ∷ paths) e =
-    let parts = or_else_none (least (is_broken_at d x) (length x + 1)) (option_map (λ place. length x + place) (first_place (is_broken_at d) paths)) e in
+    let parts = or_else_none (least (is_broken_at d x) (length x + 1)) (option_map (λ index. length x + index) (first_index (is_broken_at d) paths)) e in
     All-cons (λ (branch : Branch). length branch ≤ 65) x paths (few_nodes d x parts.0)
-    (few_in_each d paths (unmapped_none (λ place. length x + place) (first_place (is_broken_at d) paths) parts.1))
+    (few_in_each d paths (unmapped_none (λ index. length x + index) (first_index (is_broken_at d) paths) parts.1))
 
 -- if the branches are whole, each has at most 65 nodes
-pub few_in_all : (d : Domain) (paths : List Branch) → broken_place d paths ≡ None → All (λ (branch : Branch). length branch ≤ 65) paths
+pub few_in_all : (d : Domain) (paths : List Branch) → broken_index d paths ≡ None → All (λ (branch : Branch). length branch ≤ 65) paths
 few_in_all d [] e = absurd cc
 few_in_all d (x ∷ paths) e = few_in_each d (x ∷ paths) e
 
 -- the number of names in a branch and in those after it
-places_more : (p : Vec (String Global) Global) (paths : List (Vec (String Global) Global)) →
-    places_of (branches_of (p ∷ paths)) ≡ length p.items + places_of (branches_of paths)
-places_more p paths =
+indices_more : (p : Vec (String Global) Global) (paths : List (Vec (String Global) Global)) →
+    indices_of (branches_of (p ∷ paths)) ≡ length p.items + indices_of (branches_of paths)
+indices_more p paths =
     length-append (branch_of p.items) (flat_map (λ b. b) (branches_of paths))
-    ∙ ap (λ (n : ℕ). n + places_of (branches_of paths)) (length-map p.items string_bytes)
+    ∙ ap (λ (n : ℕ). n + indices_of (branches_of paths)) (length-map p.items string_bytes)
 
 -- the names in the branches before a branch, and its own, are among those of all
-pub places_within : (paths : List (Vec (String Global) Global)) (index : ℕ) (branch : Vec (String Global) Global) → index < length paths →
-    get_or paths index branch ≡ branch → places_of (branches_of (take index paths)) + length branch.items ≤ places_of (branches_of paths)
-places_within [] index branch inside is = absurd (omega (arith, inside))
-places_within (p ∷ paths) zero branch inside is =
-    omega (arith, places_more p paths, ap (λ (b : Vec (String Global) Global). length b.items) is)
-places_within (p ∷ paths) (suc index) branch inside is =
-    omega (arith, places_more p paths, places_more p (take index paths), places_within paths index branch (omega (arith, inside)) is)
+pub indices_within : (paths : List (Vec (String Global) Global)) (index : ℕ) (branch : Vec (String Global) Global) → index < length paths →
+    get_or paths index branch ≡ branch → indices_of (branches_of (take index paths)) + length branch.items ≤ indices_of (branches_of paths)
+indices_within [] index branch inside is = absurd (omega (arith, inside))
+indices_within (p ∷ paths) zero branch inside is =
+    omega (arith, indices_more p paths, ap (λ (b : Vec (String Global) Global). length b.items) is)
+indices_within (p ∷ paths) (suc index) branch inside is =
+    omega (arith, indices_more p paths, indices_more p (take index paths), indices_within paths index branch (omega (arith, inside)) is)

@@ -20,8 +20,8 @@ use Rattle.cqf_admission.specs.LineLaws.{AdministratorsAreCounted, AreTheAdminis
 use Rattle.cqf_admission.specs.LineLaws.{HasNoForm, IsActFor, IsFaultOfLine, ScriptsAreTheirLines, WritesOrder}
 use Rattle.cqf_admission.specs.LineLaws.{other_lines_before, seal_lines_before}
 use Rattle.cqf_model.specs.Limits.{most_calls}
-use Rattle.cqf_admission.specs.Script.{Called, act_for, administrators, call_of_line, call_of_order, call_of_seal, called_behind, calls_from}
-use Rattle.cqf_admission.specs.Script.{request_named, sealed_behind, seats_up_to}
+use Rattle.cqf_admission.specs.Script.{Called, act_for, administrators, call_of_line, call_of_order, call_of_seal, called_after, calls_from}
+use Rattle.cqf_admission.specs.Script.{request_named, sealed_after, seats_up_to}
 use Rattle.cqf_admission.proofs.Few.{parted, stepped, there, unless}
 
 -- ---- what is called for
@@ -91,18 +91,18 @@ module _ (requests : List Asked) (seat cycles number sealed called : ℕ) (line 
   bad_line : HasNoForm line → call_of_line requests seat cycles number sealed called line ≡ Err (BadLine number)
   bad_line h = ap by_seal h.no_seal ∙ ap by_order h.no_order
 
-module _ (requests : List Asked) (cycles : ℕ) (lines : List (List ℕ)) (place : ℕ) (line : List ℕ) where
+module _ (requests : List Asked) (cycles : ℕ) (lines : List (List ℕ)) (index : ℕ) (line : List ℕ) where
   -- what the line at an index gives
   abbrev given : Result Called ScriptFault
-  given = call_of_line requests (administrators lines) cycles (place + 1) (seal_lines_before lines place) (other_lines_before lines place) line
+  given = call_of_line requests (administrators lines) cycles (index + 1) (seal_lines_before lines index) (other_lines_before lines index) line
 
   -- if the line calls for something, that is its call
-  calls_to : (call : Called) → CallsFor requests cycles lines place line call → given ≡ Ok call
+  calls_to : (call : Called) → CallsFor requests cycles lines index line call → given ≡ Ok call
   calls_to call w =
       let seat = administrators lines in
-      let number = place + 1 in
-      let sealed = seal_lines_before lines place in
-      let called = other_lines_before lines place in
+      let number = index + 1 in
+      let sealed = seal_lines_before lines index in
+      let called = other_lines_before lines index in
       elim w [
         | inl s ↦ (
             let same : (seat, Seals) ≡ call = λ i. (sym s.seat i, sym s.act i) in
@@ -118,17 +118,17 @@ module _ (requests : List Asked) (cycles : ℕ) (lines : List (List ℕ)) (place
       ]
 
   -- its call is what the line calls for
-  calls_of_line : (call : Called) → given ≡ Ok call → CallsFor requests cycles lines place line call
+  calls_of_line : (call : Called) → given ≡ Ok call → CallsFor requests cycles lines index line call
   calls_of_line call e = by_test (is_seal_line line) refl
     where
       -- by whether it is a Seal
-      by_test : (b : Bool) → is_seal_line line ≡ b → CallsFor requests cycles lines place line call
+      by_test : (b : Bool) → is_seal_line line ≡ b → CallsFor requests cycles lines index line call
       by_test true t =
           let seat = administrators lines in
-          let number = place + 1 in
-          let sealed = seal_lines_before lines place in
+          let number = index + 1 in
+          let sealed = seal_lines_before lines index in
           let found = unless (nat_le cycles sealed) (TooMany number) (seat, Seals) call
-          (sym (seal_line requests seat cycles number sealed (other_lines_before lines place) line t) ∙ e) in
+          (sym (seal_line requests seat cycles number sealed (other_lines_before lines index) line t) ∙ e) in
           inl (record {
             seal = t;
             room = leb-false cycles sealed found.0;
@@ -137,9 +137,9 @@ module _ (requests : List Asked) (cycles : ℕ) (lines : List (List ℕ)) (place
           })
       by_test false off =
           let seat = administrators lines in
-          let number = place + 1 in
-          let sealed = seal_lines_before lines place in
-          let called = other_lines_before lines place in
+          let number = index + 1 in
+          let sealed = seal_lines_before lines index in
+          let called = other_lines_before lines index in
           let step = stepped (ok_or (order_of_line line) (BadLine number)) (call_of_order requests number called) call
           (sym (ap (by_seal requests seat cycles number sealed called line) off) ∙ e) in
           let order : Written = step.0 in
@@ -158,15 +158,15 @@ module _ (requests : List Asked) (cycles : ℕ) (lines : List (List ℕ)) (place
           })
 
   -- what is wrong with the line is its fault
-  fault_to : (fault : ScriptFault) → IsFaultOfLine requests cycles lines place line fault → given ≡ Err fault
+  fault_to : (fault : ScriptFault) → IsFaultOfLine requests cycles lines index line fault → given ≡ Err fault
   fault_to (BadLine n) w =
-      bad_line requests (administrators lines) cycles (place + 1) (seal_lines_before lines place) (other_lines_before lines place) line w.1
+      bad_line requests (administrators lines) cycles (index + 1) (seal_lines_before lines index) (other_lines_before lines index) line w.1
       ∙ ap (λ (k : ℕ). Err (BadLine k)) (sym w.0)
   fault_to (UnknownStream n) w =
       let seat = administrators lines in
-      let number = place + 1 in
-      let sealed = seal_lines_before lines place in
-      let called = other_lines_before lines place in
+      let number = index + 1 in
+      let sealed = seal_lines_before lines index in
+      let called = other_lines_before lines index in
       let order = w.1.order in
       let none : act_for requests order.wish order.name ≡ None =
       ap (λ (wish : Wish). act_for requests wish order.name) w.1.admits ∙ ap (option_map (λ (asked : Asked). Admits asked)) w.1.none in
@@ -175,9 +175,9 @@ module _ (requests : List Asked) (cycles : ℕ) (lines : List (List ℕ)) (place
       ∙ ap (λ (k : ℕ). Err (UnknownStream k)) (sym w.0)
   fault_to (TooMany n) w =
       let seat = administrators lines in
-      let number = place + 1 in
-      let sealed = seal_lines_before lines place in
-      let called = other_lines_before lines place in
+      let number = index + 1 in
+      let sealed = seal_lines_before lines index in
+      let called = other_lines_before lines index in
       elim w.1 [
         | inl s ↦
             seal_line requests seat cycles number sealed called line s.seal
@@ -192,21 +192,21 @@ module _ (requests : List Asked) (cycles : ℕ) (lines : List (List ℕ)) (place
   fault_to Memory w = absurd w
 
   -- its fault is what is wrong with the line
-  fault_of_line : (fault : ScriptFault) → given ≡ Err fault → IsFaultOfLine requests cycles lines place line fault
+  fault_of_line : (fault : ScriptFault) → given ≡ Err fault → IsFaultOfLine requests cycles lines index line fault
   fault_of_line fault e = by_test (is_seal_line line) refl
     where
       -- an order may be one too many, or for a stream that isn't among the requests
       by_found : (order : Written) (a : Option Act) → WritesOrder line order → act_for requests order.wish order.name ≡ a →
-          by_act requests (administrators lines) cycles (place + 1) (seal_lines_before lines place) (other_lines_before lines place) line order a ≡ Err fault →
-          IsFaultOfLine requests cycles lines place line fault
+          by_act requests (administrators lines) cycles (index + 1) (seal_lines_before lines index) (other_lines_before lines index) line order a ≡ Err fault →
+          IsFaultOfLine requests cycles lines index line fault
       by_found order None w f h =
           let none = no_act requests order.wish order.name f in
-          subst (λ (x : ScriptFault). IsFaultOfLine requests cycles lines place line x) (same_fault Called (UnknownStream (place + 1)) fault h)
+          subst (λ (x : ScriptFault). IsFaultOfLine requests cycles lines index line x) (same_fault Called (UnknownStream (index + 1)) fault h)
           (refl, record { order = order; writes = w; admits = none.0; none = none.1 })
       by_found order (Some act) w f h =
-          let called = other_lines_before lines place in
-          let r = refused (nat_le most_calls called) (TooMany (place + 1)) fault (order.seat, act) h in
-          subst (λ (x : ScriptFault). IsFaultOfLine requests cycles lines place line x) r.1 (
+          let called = other_lines_before lines index in
+          let r = refused (nat_le most_calls called) (TooMany (index + 1)) fault (order.seat, act) h in
+          subst (λ (x : ScriptFault). IsFaultOfLine requests cycles lines index line x) r.1 (
             refl,
             inr (record {
               order = order;
@@ -219,27 +219,27 @@ module _ (requests : List Asked) (cycles : ℕ) (lines : List (List ℕ)) (place
 
       -- a line that isn't a Seal may not be an order
       by_written : (o : Option Written) → is_seal_line line ≡ false → order_of_line line ≡ o →
-          by_order requests (administrators lines) cycles (place + 1) (seal_lines_before lines place) (other_lines_before lines place) line o ≡ Err fault →
-          IsFaultOfLine requests cycles lines place line fault
+          by_order requests (administrators lines) cycles (index + 1) (seal_lines_before lines index) (other_lines_before lines index) line o ≡ Err fault →
+          IsFaultOfLine requests cycles lines index line fault
       by_written None off f h =
-          subst (λ (x : ScriptFault). IsFaultOfLine requests cycles lines place line x) (same_fault Called (BadLine (place + 1)) fault h)
+          subst (λ (x : ScriptFault). IsFaultOfLine requests cycles lines index line x) (same_fault Called (BadLine (index + 1)) fault h)
           (refl, record { no_seal = off; no_order = f })
       by_written (Some order) off f h =
           by_found order (act_for requests order.wish order.name) (record { no_seal = off; written = f }) refl h
 
       -- a Seal may be one too many
-      by_test : (b : Bool) → is_seal_line line ≡ b → IsFaultOfLine requests cycles lines place line fault
+      by_test : (b : Bool) → is_seal_line line ≡ b → IsFaultOfLine requests cycles lines index line fault
       by_test true t =
           let seat = administrators lines in
-          let number = place + 1 in
-          let sealed = seal_lines_before lines place in
+          let number = index + 1 in
+          let sealed = seal_lines_before lines index in
           let r = refused (nat_le cycles sealed) (TooMany number) fault (seat, Seals)
-          (sym (seal_line requests seat cycles number sealed (other_lines_before lines place) line t) ∙ e) in
-          subst (λ (x : ScriptFault). IsFaultOfLine requests cycles lines place line x) r.1
+          (sym (seal_line requests seat cycles number sealed (other_lines_before lines index) line t) ∙ e) in
+          subst (λ (x : ScriptFault). IsFaultOfLine requests cycles lines index line x) r.1
           (refl, inl (record { seal = t; full = leb-true cycles sealed r.0 }))
       by_test false off =
           by_written (order_of_line line) off refl
-          (sym (ap (by_seal requests (administrators lines) cycles (place + 1) (seal_lines_before lines place) (other_lines_before lines place) line) off)
+          (sym (ap (by_seal requests (administrators lines) cycles (index + 1) (seal_lines_before lines index) (other_lines_before lines index) line) off)
           ∙ e)
 
 -- ---- line after line
@@ -252,14 +252,14 @@ abbrev others_in : List (List ℕ) → ℕ
 others_in lines = count_by (λ line. not (is_seal_line line)) lines
 
 -- one more line before others
-seal_behind : (b : Bool) (sealed n : ℕ) → sealed + (cond b 1 0 + n) ≡ cond b (sealed + 1) sealed + n
-seal_behind true sealed n = omega arith
-seal_behind false sealed n = omega arith
+seal_after : (b : Bool) (sealed n : ℕ) → sealed + (cond b 1 0 + n) ≡ cond b (sealed + 1) sealed + n
+seal_after true sealed n = omega arith
+seal_after false sealed n = omega arith
 
 -- the same for a line that isn't a Seal
-call_behind : (b : Bool) (called n : ℕ) → called + (cond (not b) 1 0 + n) ≡ cond b called (called + 1) + n
-call_behind true called n = omega arith
-call_behind false called n = omega arith
+call_after : (b : Bool) (called n : ℕ) → called + (cond (not b) 1 0 + n) ≡ cond b called (called + 1) + n
+call_after true called n = omega arith
+call_after false called n = omega arith
 
 module _ (requests : List Asked) (seat cycles : ℕ) where
   -- what a line at an index of some lines gives, after the lines before these
@@ -279,15 +279,15 @@ module _ (requests : List Asked) (seat cycles : ℕ) where
   -- a later line
   at_next : (number sealed called : ℕ) (first : List ℕ) (lines : List (List ℕ)) (k : ℕ) (line : List ℕ) →
       at number sealed called (first ∷ lines) (suc k) line
-      ≡ at (number + 1) (sealed_behind sealed first) (called_behind called first) lines k line
+      ≡ at (number + 1) (sealed_after sealed first) (called_after called first) lines k line
   at_next number sealed called first lines k line =
       let n : number + suc k ≡ number + 1 + k = omega arith in
-      let s : sealed + seals_in (first ∷ take k lines) ≡ sealed_behind sealed first + seals_in (take k lines) =
+      let s : sealed + seals_in (first ∷ take k lines) ≡ sealed_after sealed first + seals_in (take k lines) =
       ap (λ (m : ℕ). sealed + m) (sum_by-cons (λ (x : List ℕ). cond (is_seal_line x) 1 0) first (take k lines))
-      ∙ seal_behind (is_seal_line first) sealed (seals_in (take k lines)) in
-      let c : called + others_in (first ∷ take k lines) ≡ called_behind called first + others_in (take k lines) =
+      ∙ seal_after (is_seal_line first) sealed (seals_in (take k lines)) in
+      let c : called + others_in (first ∷ take k lines) ≡ called_after called first + others_in (take k lines) =
       ap (λ (m : ℕ). called + m) (sum_by-cons (λ (x : List ℕ). cond (not (is_seal_line x)) 1 0) first (take k lines))
-      ∙ call_behind (is_seal_line first) called (others_in (take k lines)) in
+      ∙ call_after (is_seal_line first) called (others_in (take k lines)) in
       λ i. call_of_line requests seat cycles (n i) (s i) (c i) line
 
   -- some calls are those of some lines, one for each line
@@ -304,13 +304,13 @@ module _ (requests : List Asked) (seat cycles : ℕ) where
       subst (λ (xs : List Called). FoundEach number sealed called [] xs) none (record { one_each = refl; each = λ k line call e f. absurd cc })
   found_each number sealed called (first ∷ lines) found h =
       let two = parted (call_of_line requests seat cycles number sealed called first)
-      (calls_from requests seat cycles (number + 1) (sealed_behind sealed first) (called_behind called first) lines) found h in
-      let r = found_each (number + 1) (sealed_behind sealed first) (called_behind called first) lines two.1 two.3 in
+      (calls_from requests seat cycles (number + 1) (sealed_after sealed first) (called_after called first) lines) found h in
+      let r = found_each (number + 1) (sealed_after sealed first) (called_after called first) lines two.1 two.3 in
       subst (λ (xs : List Called). FoundEach number sealed called (first ∷ lines) xs) (sym two.4) (more two.0 two.1 two.2 r)
     where
       -- with one more line first
       more : (call : Called) (rest : List Called) → call_of_line requests seat cycles number sealed called first ≡ Ok call →
-          FoundEach (number + 1) (sealed_behind sealed first) (called_behind called first) lines rest →
+          FoundEach (number + 1) (sealed_after sealed first) (called_after called first) lines rest →
           FoundEach number sealed called (first ∷ lines) (call ∷ rest)
       more call rest one r = record { one_each = omega (arith, r.one_each); each = each_more }
         where
@@ -331,18 +331,18 @@ module _ (requests : List Asked) (seat cycles : ℕ) where
   ok_from number sealed called (first ∷ lines) (call ∷ found) w =
       ap₂ (λ (a : Result Called ScriptFault) (b : Result (List Called) ScriptFault). and_first a b)
       (sym (at_first number sealed called (first ∷ lines) first) ∙ w.each 0 first call refl refl)
-      (ok_from (number + 1) (sealed_behind sealed first) (called_behind called first) lines found (record {
+      (ok_from (number + 1) (sealed_after sealed first) (called_after called first) lines found (record {
         one_each = omega (arith, w.one_each);
         each = λ k line c e f. sym (at_next number sealed called first lines k line) ∙ w.each (suc k) line c e f;
       }))
 
   -- a fault is that of the first line that has one
   record FaultAt (number sealed called : ℕ) (lines : List (List ℕ)) (fault : ScriptFault) : Type 0 where
-    place : ℕ
+    index : ℕ
     line : List ℕ
-    here : slice_get lines place ≡ Some line
-    faulty : at number sealed called lines place line ≡ Err fault
-    before : (k : ℕ) (other : List ℕ) → k < place → slice_get lines k ≡ Some other → (call : Called) × (at number sealed called lines k other ≡ Ok call)
+    here : slice_get lines index ≡ Some line
+    faulty : at number sealed called lines index line ≡ Err fault
+    before : (k : ℕ) (other : List ℕ) → k < index → slice_get lines k ≡ Some other → (call : Called) × (at number sealed called lines k other ≡ Ok call)
 
   -- a fault that is found is such a fault
   fault_at : (number sealed called : ℕ) (lines : List (List ℕ)) (fault : ScriptFault) →
@@ -350,21 +350,21 @@ module _ (requests : List Asked) (seat cycles : ℕ) where
   fault_at number sealed called [] fault h = absurd cc
   fault_at number sealed called (first ∷ lines) fault h =
       by_first (call_of_line requests seat cycles number sealed called first)
-      (calls_from requests seat cycles (number + 1) (sealed_behind sealed first) (called_behind called first) lines) refl
-      (fault_at (number + 1) (sealed_behind sealed first) (called_behind called first) lines) h
+      (calls_from requests seat cycles (number + 1) (sealed_after sealed first) (called_after called first) lines) refl
+      (fault_at (number + 1) (sealed_after sealed first) (called_after called first) lines) h
     where
       -- a fault after the first line
       later : (call : Called) → call_of_line requests seat cycles number sealed called first ≡ Ok call →
-          FaultAt (number + 1) (sealed_behind sealed first) (called_behind called first) lines fault → FaultAt number sealed called (first ∷ lines) fault
+          FaultAt (number + 1) (sealed_after sealed first) (called_after called first) lines fault → FaultAt number sealed called (first ∷ lines) fault
       later call one r = record {
-        place = suc r.place;
+        index = suc r.index;
         line = r.line;
         here = r.here;
-        faulty = at_next number sealed called first lines r.place r.line ∙ r.faulty;
+        faulty = at_next number sealed called first lines r.index r.line ∙ r.faulty;
         before = before_it;
       }
         where
-          before_it : (k : ℕ) (other : List ℕ) → k < suc r.place → slice_get (first ∷ lines) k ≡ Some other →
+          before_it : (k : ℕ) (other : List ℕ) → k < suc r.index → slice_get (first ∷ lines) k ≡ Some other →
               (c : Called) × (at number sealed called (first ∷ lines) k other ≡ Ok c)
           before_it zero other l e = (
             call,
@@ -378,10 +378,10 @@ module _ (requests : List Asked) (seat cycles : ℕ) where
       -- the first line has the fault, or a later one
       by_first : (a : Result Called ScriptFault) (b : Result (List Called) ScriptFault) →
           call_of_line requests seat cycles number sealed called first ≡ a →
-          ((f : ScriptFault) → b ≡ Err f → FaultAt (number + 1) (sealed_behind sealed first) (called_behind called first) lines f) →
+          ((f : ScriptFault) → b ≡ Err f → FaultAt (number + 1) (sealed_after sealed first) (called_after called first) lines f) →
           and_first a b ≡ Err fault → FaultAt number sealed called (first ∷ lines) fault
       by_first (Err e) b is rest f = record {
-        place = 0;
+        index = 0;
         line = first;
         here = refl;
         faulty = at_first number sealed called (first ∷ lines) first ∙ is ∙ ap (λ (x : ScriptFault). Err x) (same_fault (List Called) e fault f);
@@ -391,33 +391,33 @@ module _ (requests : List Asked) (seat cycles : ℕ) where
       by_first (Ok call) (Ok found) is rest f = absurd cc
 
   -- such a fault is found
-  err_from : (number sealed called : ℕ) (lines : List (List ℕ)) (fault : ScriptFault) (place : ℕ) (line : List ℕ) → slice_get lines place ≡ Some line →
-      at number sealed called lines place line ≡ Err fault →
-      ((k : ℕ) (other : List ℕ) → k < place → slice_get lines k ≡ Some other → (call : Called) × (at number sealed called lines k other ≡ Ok call)) →
+  err_from : (number sealed called : ℕ) (lines : List (List ℕ)) (fault : ScriptFault) (index : ℕ) (line : List ℕ) → slice_get lines index ≡ Some line →
+      at number sealed called lines index line ≡ Err fault →
+      ((k : ℕ) (other : List ℕ) → k < index → slice_get lines k ≡ Some other → (call : Called) × (at number sealed called lines k other ≡ Ok call)) →
       calls_from requests seat cycles number sealed called lines ≡ Err fault
-  err_from number sealed called [] fault place line here faulty before = absurd cc
+  err_from number sealed called [] fault index line here faulty before = absurd cc
   err_from number sealed called (first ∷ lines) fault zero line here faulty before =
       ap (λ (a : Result Called ScriptFault).
-      and_first a (calls_from requests seat cycles (number + 1) (sealed_behind sealed first) (called_behind called first) lines))
+      and_first a (calls_from requests seat cycles (number + 1) (sealed_after sealed first) (called_after called first) lines))
       (ap (λ (x : List ℕ). call_of_line requests seat cycles number sealed called x) (same_Some first line here)
       ∙ sym (at_first number sealed called (first ∷ lines) line) ∙ faulty)
-  err_from number sealed called (first ∷ lines) fault (suc place) line here faulty before =
+  err_from number sealed called (first ∷ lines) fault (suc index) line here faulty before =
       let c = before 0 first (omega arith) refl in
       ap₂ (λ (a : Result Called ScriptFault) (b : Result (List Called) ScriptFault). and_first a b)
       (sym (at_first number sealed called (first ∷ lines) first) ∙ c.1)
-      (err_from (number + 1) (sealed_behind sealed first) (called_behind called first) lines fault place line here
-      (sym (at_next number sealed called first lines place line) ∙ faulty)
+      (err_from (number + 1) (sealed_after sealed first) (called_after called first) lines fault index line here
+      (sym (at_next number sealed called first lines index line) ∙ faulty)
       (λ k other l e. let r = before (suc k) other (omega (arith, l)) e in (r.0, sym (at_next number sealed called first lines k other) ∙ r.1)))
 
 -- ---- a script
 
 -- what the line at an index of a script gives
-at_script : (requests : List Asked) (cycles : ℕ) (lines : List (List ℕ)) (place : ℕ) (line : List ℕ) →
-    at requests (administrators lines) cycles 1 0 0 lines place line ≡ given requests cycles lines place line
-at_script requests cycles lines place line =
-    let n : 1 + place ≡ place + 1 = omega arith in
-    let s : 0 + seals_in (take place lines) ≡ seals_in (take place lines) = omega arith in
-    let c : 0 + others_in (take place lines) ≡ others_in (take place lines) = omega arith in
+at_script : (requests : List Asked) (cycles : ℕ) (lines : List (List ℕ)) (index : ℕ) (line : List ℕ) →
+    at requests (administrators lines) cycles 1 0 0 lines index line ≡ given requests cycles lines index line
+at_script requests cycles lines index line =
+    let n : 1 + index ≡ index + 1 = omega arith in
+    let s : 0 + seals_in (take index lines) ≡ seals_in (take index lines) = omega arith in
+    let c : 0 + others_in (take index lines) ≡ others_in (take index lines) = omega arith in
     λ i. call_of_line requests (administrators lines) cycles (n i) (s i) (c i) line
 
 -- the calls of a script are exactly those of its lines
@@ -427,12 +427,12 @@ scripts_are_their_lines requests cycles text found =
     let seat = administrators lines in (
       λ e. let r = found_each requests seat cycles 1 0 0 lines found e in record {
         one_each = r.one_each;
-        each = λ place line call f g. calls_of_line requests cycles lines place line call
-            (sym (at_script requests cycles lines place line) ∙ r.each place line call f g);
+        each = λ index line call f g. calls_of_line requests cycles lines index line call
+            (sym (at_script requests cycles lines index line) ∙ r.each index line call f g);
       },
       λ w. ok_from requests seat cycles 1 0 0 lines found (record {
         one_each = w.one_each;
-        each = λ place line call f g. at_script requests cycles lines place line ∙ calls_to requests cycles lines place line call (w.each place line call f g);
+        each = λ index line call f g. at_script requests cycles lines index line ∙ calls_to requests cycles lines index line call (w.each index line call f g);
       }),
     )
 
@@ -442,16 +442,16 @@ faults_are_of_their_lines requests cycles text fault =
     let lines = lines_of text in
     let seat = administrators lines in (
       λ e. let r = fault_at requests seat cycles 1 0 0 lines fault e in record {
-        place = r.place;
+        index = r.index;
         line = r.line;
         here = r.here;
-        faulty = fault_of_line requests cycles lines r.place r.line fault (sym (at_script requests cycles lines r.place r.line) ∙ r.faulty);
+        faulty = fault_of_line requests cycles lines r.index r.line fault (sym (at_script requests cycles lines r.index r.line) ∙ r.faulty);
         before = λ k other l f.
             let c = r.before k other l f in
             (c.0, calls_of_line requests cycles lines k other c.0 (sym (at_script requests cycles lines k other) ∙ c.1));
       },
-      λ w. err_from requests seat cycles 1 0 0 lines fault w.place w.line w.here
-          (at_script requests cycles lines w.place w.line ∙ fault_to requests cycles lines w.place w.line fault w.faulty)
+      λ w. err_from requests seat cycles 1 0 0 lines fault w.index w.line w.here
+          (at_script requests cycles lines w.index w.line ∙ fault_to requests cycles lines w.index w.line fault w.faulty)
           (λ k other l f.
           let c = w.before k other l f in
           (c.0, at_script requests cycles lines k other ∙ calls_to requests cycles lines k other c.0 c.1)),

@@ -24,9 +24,9 @@ use Rattle.cqf_admission.proofs.RunLemmas.{refusal_is_entered}
 use Rattle.cqf_admission.proofs.Running.{refused_leaves}
 
 -- a call with this act is the history's next entry
-pub entered_behind : (old reserved new : List Entry) (e : Entry) (act : Act) → reserved ≡ old → new ≡ reserved ++ e ∷ [] → act_of e.call ≡ act →
+pub entered_after : (old reserved new : List Entry) (e : Entry) (act : Act) → reserved ≡ old → new ≡ reserved ++ e ∷ [] → act_of e.call ≡ act →
     map recorded_of new ≡ with_entry (map recorded_of old) e.seat act e.reply
-entered_behind old reserved new e act same is acts =
+entered_after old reserved new e act same is acts =
     ap (map recorded_of) (is ∙ ap (λ (es : List Entry). es ++ e ∷ []) same) ∙ map-append recorded_of old (e ∷ [])
     ∙ ap (λ (a : Act). with_entry (map recorded_of old) e.seat a e.reply) acts
 
@@ -79,14 +79,15 @@ stays_state d entries before after is so = (
 
 -- a request's row of good form gives a request of good form
 pub good_form : (d : Domain) (asked : Asked) (row : Row) (form : GoodForm) → IsRowOfGoodForm d asked row → form.name.now ≡ row.name →
-    form.octets ≡ row.octets → form.pace ≡ row.pace → form.tree.now ≡ row.tree.items → IsGoodFormOf d asked form
-good_form d asked row form is name octets paced tree = record {
+    form.octets ≡ row.octets → form.overhead ≡ row.overhead → form.pace ≡ row.pace → form.tree.now ≡ row.tree.items → IsGoodFormOf d asked form
+good_form d asked row form is name octets overhead paced tree = record {
   none = is.none;
   name = name ∙ ap (λ (r : Row). r.name) is.is;
   octets = octets ∙ ap (λ (r : Row). r.octets) is.is;
   tree = tree ∙ ap (λ (r : Row). r.tree.items) is.is;
   most_octets = is.most_octets;
   paced = paced ∙ ap (λ (r : Row). r.pace) is.is;
+  overhead = overhead ∙ ap (λ (r : Row). r.overhead) is.is;
 }
 
 -- so does the judgement of its row
@@ -95,20 +96,23 @@ pub judged_by_row : (d : Domain) (asked : Asked) (row : Row) (judged : JudgedReq
 judged_by_row d asked row judged is by = record {
   none = is.none;
   named = by.named ∙ ap (λ (r : Row). r.name) is.is;
-  costs = by.costs ∙ ap (λ (r : Row). cost_of r.octets) is.is;
+  costs = by.costs ∙ ap (λ (r : Row). cost_of r.overhead r.octets) is.is;
   linked = by.linked ∙ ap (λ (r : Row). r.tree.items) is.is;
   paced = by.paced ∙ ap (λ (r : Row). r.pace) is.is;
+  overhead = by.overhead ∙ ap (λ (r : Row). r.overhead) is.is;
   most_octets = is.most_octets;
 }
 
 -- and so does a request that was judged
 pub judged_form : (d : Domain) (asked : Asked) (judged : JudgedRequest) (form : GoodForm) → IsOfGoodForm d asked judged →
-    form.name.now ≡ judged.name → form.octets ≡ asked.octets → form.pace ≡ judged.pace → form.tree.now ≡ judged.tree.items → IsGoodFormOf d asked form
-judged_form d asked judged form is name octets paced tree = record {
+    form.name.now ≡ judged.name → form.octets ≡ asked.octets → form.overhead ≡ judged.overhead → form.pace ≡ judged.pace →
+    form.tree.now ≡ judged.tree.items → IsGoodFormOf d asked form
+judged_form d asked judged form is name octets overhead paced tree = record {
   none = is.none;
   name = name ∙ is.named;
   octets = octets;
   tree = tree ∙ is.linked;
   most_octets = is.most_octets;
   paced = paced ∙ is.paced;
+  overhead = overhead ∙ is.overhead;
 }

@@ -13,10 +13,10 @@ use Rattle.cqf_lists.specs.Lists.{each_below, least, or_else}
 use Rattle.cqf_lists.proofs.EachBelow.{contains_from_below}
 use Rattle.cqf_lists.proofs.Members.{contains_at, contains_cases, contains_none}
 use Rattle.cqf_model.specs.Domain.{Domain, node_named}
-use Rattle.cqf_model.specs.History.{Branch, broken_place, first_place, is_broken_at, is_loop_at}
+use Rattle.cqf_model.specs.History.{Branch, broken_index, first_index, is_broken_at, is_loop_at}
 use Rattle.cqf_admission.specs.declared.branches.Check.{Check}
 use Rattle.cqf_admission.specs.declared.branches.Check.TheVariants.{Known, Whole, Simple}
-use Rattle.cqf_admission.specs.Branches.{branch_of, branches_of, fault_in, first_fault, places_of}
+use Rattle.cqf_admission.specs.Branches.{branch_of, branches_of, fault_in, first_fault, indices_of}
 
 -- ---- an index of a branch is that of one of its names, or the next one
 
@@ -35,9 +35,9 @@ least_within test n k e =
 -- the first index that passes is within the list
 position_within : {X : Type 0} (p : X → Bool) (xs : List X) (k : ℕ) → position p xs ≡ Some k → k < length xs
 position_within p xs k e =
-    let place = prefix_len (λ x. not (p x)) xs in
-    let found = cond_some (nat_lt place (length xs)) place k e in
-    omega (arith, ltb-true place (length xs) found.0, found.1)
+    let node_index = prefix_len (λ x. not (p x)) xs in
+    let found = cond_some (nat_lt node_index (length xs)) node_index k e in
+    omega (arith, ltb-true node_index (length xs) found.0, found.1)
 
 -- a fault's index is within its branch or right after it
 pub fault_within : (d : Domain) (check : Check) (branch : Branch) (k : ℕ) → fault_in d check branch ≡ Some k → k ≤ length branch
@@ -49,11 +49,11 @@ fault_within d Simple branch k e = omega (arith, least_within (is_loop_at d bran
 
 -- the branches before `index` pass, and they have `before` names
 pub record HavePassed (d : Domain) (check : Check) (paths : List (Vec (String Global) Global)) (index before : ℕ) : Type 0 where
-  pub passed : first_fault d check (branches_of paths) ≡ option_map (λ place. before + place) (first_fault d check (branches_of (drop index paths)))
-  pub counted : before + places_of (branches_of (drop index paths)) ≡ places_of (branches_of paths)
+  pub passed : first_fault d check (branches_of paths) ≡ option_map (λ node_index. before + node_index) (first_fault d check (branches_of (drop index paths)))
+  pub counted : before + indices_of (branches_of (drop index paths)) ≡ indices_of (branches_of paths)
 
 -- counting from 0 changes no index
-from_zero : (o : Option ℕ) → o ≡ option_map (λ place. 0 + place) o
+from_zero : (o : Option ℕ) → o ≡ option_map (λ node_index. 0 + node_index) o
 from_zero None = refl
 from_zero (Some x) = ap (λ (k : ℕ). Some k) (sym (zero-add x))
 
@@ -62,7 +62,7 @@ pub none_passed : (d : Domain) (check : Check) (paths : List (Vec (String Global
 none_passed d check paths = record { passed = from_zero (first_fault d check (branches_of paths)); counted = omega arith }
 
 -- counting on from one number and then from another is counting on from their sum
-twice : (a b : ℕ) (o : Option ℕ) → option_map (λ place. a + place) (option_map (λ place. b + place) o) ≡ option_map (λ place. a + b + place) o
+twice : (a b : ℕ) (o : Option ℕ) → option_map (λ node_index. a + node_index) (option_map (λ node_index. b + node_index) o) ≡ option_map (λ node_index. a + b + node_index) o
 twice a b None = refl
 twice a b (Some x) = ap (λ (k : ℕ). Some k) (sym (add_assoc a b x))
 
@@ -73,27 +73,27 @@ module _ (d : Domain) (check : Check) (paths : List (Vec (String Global) Global)
   next_is = drop-cons paths index branch inside ∙ ap (λ (b : Vec (String Global) Global). b ∷ drop (suc index) paths) is
 
   -- the names before it, its own and those after it are all names
-  count_is : before + (length (branch_of branch.items) + places_of (branches_of (drop (suc index) paths))) ≡ places_of (branches_of paths)
+  count_is : before + (length (branch_of branch.items) + indices_of (branches_of (drop (suc index) paths))) ≡ indices_of (branches_of paths)
   count_is = ap (λ (n : ℕ). before + n) (sym (length-append (branch_of branch.items) (flat_map (λ b. b) (branches_of (drop (suc index) paths)))))
-      ∙ ap (λ (xs : List (Vec (String Global) Global)). before + places_of (branches_of xs)) (sym next_is) ∙ h.counted
+      ∙ ap (λ (xs : List (Vec (String Global) Global)). before + indices_of (branches_of xs)) (sym next_is) ∙ h.counted
 
   -- the names up to the next branch's end are among all names
-  pub room_for : before + length branch.items ≤ places_of (branches_of paths)
+  pub room_for : before + length branch.items ≤ indices_of (branches_of paths)
   room_for = omega (arith, count_is, length-map branch.items string_bytes)
 
   -- the first fault is the branch's, or the first after it
   by_branch : (o : Option ℕ) → fault_in d check (branch_of branch.items) ≡ o →
-      first_fault d check (branches_of paths) ≡ option_map (λ place. before + place)
-      (or_else o (option_map (λ place. length (branch_of branch.items) + place) (first_fault d check (branches_of (drop (suc index) paths)))))
+      first_fault d check (branches_of paths) ≡ option_map (λ node_index. before + node_index)
+      (or_else o (option_map (λ node_index. length (branch_of branch.items) + node_index) (first_fault d check (branches_of (drop (suc index) paths)))))
   by_branch o e =
       h.passed
-      ∙ ap (λ (xs : List (Vec (String Global) Global)). option_map (λ place. before + place) (first_fault d check (branches_of xs))) next_is
-      ∙ ap (λ (f : Option ℕ). option_map (λ place. before + place)
-      (or_else f (option_map (λ place. length (branch_of branch.items) + place) (first_fault d check (branches_of (drop (suc index) paths)))))) e
+      ∙ ap (λ (xs : List (Vec (String Global) Global)). option_map (λ node_index. before + node_index) (first_fault d check (branches_of xs))) next_is
+      ∙ ap (λ (f : Option ℕ). option_map (λ node_index. before + node_index)
+      (or_else f (option_map (λ node_index. length (branch_of branch.items) + node_index) (first_fault d check (branches_of (drop (suc index) paths)))))) e
 
   -- a fault of the branch is the first one
-  pub found_here : (place : ℕ) → fault_in d check (branch_of branch.items) ≡ Some place → first_fault d check (branches_of paths) ≡ Some (before + place)
-  found_here place e = by_branch (Some place) e
+  pub found_here : (node_index : ℕ) → fault_in d check (branch_of branch.items) ≡ Some node_index → first_fault d check (branches_of paths) ≡ Some (before + node_index)
+  found_here node_index e = by_branch (Some node_index) e
 
   -- a branch without a fault is passed
   pub goes_on : (after : ℕ) → after ≡ before + length branch.items → fault_in d check (branch_of branch.items) ≡ None →
@@ -103,7 +103,7 @@ module _ (d : Domain) (check : Check) (paths : List (Vec (String Global) Global)
       let count : before + length (branch_of branch.items) ≡ after = omega (arith, grown, length-map branch.items string_bytes) in
       subst (λ (k : ℕ). HavePassed d check paths k after) next (record {
         passed = by_branch None e ∙ twice before (length (branch_of branch.items)) (first_fault d check (branches_of (drop (suc index) paths)))
-            ∙ ap (λ (n : ℕ). option_map (λ place. n + place) (first_fault d check (branches_of (drop (suc index) paths)))) count;
+            ∙ ap (λ (n : ℕ). option_map (λ node_index. n + node_index) (first_fault d check (branches_of (drop (suc index) paths)))) count;
         counted = omega (arith, count, count_is);
       })
 
@@ -111,24 +111,24 @@ module _ (d : Domain) (check : Check) (paths : List (Vec (String Global) Global)
 pub all_passed : (d : Domain) (check : Check) (paths : List (Vec (String Global) Global)) (index before : ℕ) → length paths ≤ index →
     HavePassed d check paths index before → first_fault d check (branches_of paths) ≡ None
 all_passed d check paths index before past h =
-    h.passed ∙ ap (λ (xs : List (Vec (String Global) Global)). option_map (λ place. before + place) (first_fault d check (branches_of xs)))
+    h.passed ∙ ap (λ (xs : List (Vec (String Global) Global)). option_map (λ node_index. before + node_index) (first_fault d check (branches_of xs)))
     (drop_all index paths past)
 
 -- ---- an index in two lists end to end
 
 -- the first index after a first element is that of the rest, or that of the first element
 pub position-cons : {X : Type 0} (p : X → Bool) (x : X) (xs : List X) →
-    position p (x ∷ xs) ≡ (if p x then Some 0 else option_map (λ place. 1 + place) (position p xs))
+    position p (x ∷ xs) ≡ (if p x then Some 0 else option_map (λ node_index. 1 + node_index) (position p xs))
 position-cons {X} p x xs = by_test (p x)
   where
     -- an index moved by one
-    shifted : (b : Bool) (n : ℕ) → cond b (Some (1 + n)) None ≡ option_map (λ place. 1 + place) (cond b (Some n) None)
+    shifted : (b : Bool) (n : ℕ) → cond b (Some (1 + n)) None ≡ option_map (λ node_index. 1 + node_index) (cond b (Some n) None)
     shifted true n = refl
     shifted false n = refl
 
     -- the first index is 0 if the first element passes, and otherwise one more than that of the rest
     by_test : (b : Bool) → (let n = cond (not b) (1 + prefix_len (λ z. not (p z)) xs) 0 in
-        cond (nat_lt n (suc (length xs))) (Some n) None) ≡ (if b then Some 0 else option_map (λ place. 1 + place) (position p xs))
+        cond (nat_lt n (suc (length xs))) (Some n) None) ≡ (if b then Some 0 else option_map (λ node_index. 1 + node_index) (position p xs))
     by_test true = ap (λ (t : Bool). cond t (Some 0) None) (lt-ltb 0 (suc (length xs)) (omega arith))
     by_test false =
         let n = prefix_len (λ z. not (p z)) xs in
@@ -136,25 +136,25 @@ position-cons {X} p x xs = by_test (p x)
 
 -- the first index in two lists is that in the first, or that in the second
 position-append : {X : Type 0} (p : X → Bool) (xs ys : List X) →
-    position p (xs ++ ys) ≡ or_else (position p xs) (option_map (λ place. length xs + place) (position p ys))
+    position p (xs ++ ys) ≡ or_else (position p xs) (option_map (λ node_index. length xs + node_index) (position p ys))
 position-append p [] ys = from_zero (position p ys)
 position-append {X} p (x ∷ xs) ys =
     position-cons p x (xs ++ ys)
     ∙ by_test (p x) (position p xs) (position p ys) (position-append p xs ys)
-    ∙ ap (λ (o : Option ℕ). or_else o (option_map (λ place. suc (length xs) + place) (position p ys))) (sym (position-cons p x xs))
+    ∙ ap (λ (o : Option ℕ). or_else o (option_map (λ node_index. suc (length xs) + node_index) (position p ys))) (sym (position-cons p x xs))
   where
     -- moving an index by a number and then by one is moving it by one more than the number
-    behind : (n : ℕ) (o : Option ℕ) → option_map (λ place. 1 + place) (option_map (λ place. n + place) o) ≡ option_map (λ place. suc n + place) o
-    behind n None = refl
-    behind n (Some k) = let same : 1 + (n + k) ≡ suc n + k = omega arith in ap (λ (i : ℕ). Some i) same
+    following : (n : ℕ) (o : Option ℕ) → option_map (λ node_index. 1 + node_index) (option_map (λ node_index. n + node_index) o) ≡ option_map (λ node_index. suc n + node_index) o
+    following n None = refl
+    following n (Some k) = let same : 1 + (n + k) ≡ suc n + k = omega arith in ap (λ (i : ℕ). Some i) same
 
     -- one more element first, whether it passes or not, leaves the first index in the first list, or else in the second
-    by_test : (b : Bool) (o q : Option ℕ) → position p (xs ++ ys) ≡ or_else o (option_map (λ place. length xs + place) q) →
-        (if b then Some 0 else option_map (λ place. 1 + place) (position p (xs ++ ys))) ≡ or_else (if b then Some 0 else option_map (λ place. 1 + place) o)
-        (option_map (λ place. suc (length xs) + place) q)
+    by_test : (b : Bool) (o q : Option ℕ) → position p (xs ++ ys) ≡ or_else o (option_map (λ node_index. length xs + node_index) q) →
+        (if b then Some 0 else option_map (λ node_index. 1 + node_index) (position p (xs ++ ys))) ≡ or_else (if b then Some 0 else option_map (λ node_index. 1 + node_index) o)
+        (option_map (λ node_index. suc (length xs) + node_index) q)
     by_test true o q e = refl
-    by_test false None q e = ap (option_map (λ place. 1 + place)) e ∙ behind (length xs) q
-    by_test false (Some k) q e = ap (option_map (λ place. 1 + place)) e
+    by_test false None q e = ap (option_map (λ node_index. 1 + node_index)) e ∙ following (length xs) q
+    by_test false (Some k) q e = ap (option_map (λ node_index. 1 + node_index)) e
 
 -- ---- each check in terms of the definitions
 
@@ -164,28 +164,28 @@ pub known_is : (d : Domain) (paths : List Branch) →
 known_is d [] = refl
 known_is d (branch ∷ paths) =
     let test : List ℕ → Bool = λ name. is_none (node_named d name) in
-    ap (λ (o : Option ℕ). or_else (position test branch) (option_map (λ place. length branch + place) o)) (known_is d paths)
+    ap (λ (o : Option ℕ). or_else (position test branch) (option_map (λ node_index. length branch + node_index) o)) (known_is d paths)
     ∙ sym (position-append test branch (flat_map (λ b. b) paths))
 
 -- the first broken index is found branch by branch
-pub whole_is : (d : Domain) (paths : List Branch) → first_fault d Whole paths ≡ first_place (is_broken_at d) paths
+pub whole_is : (d : Domain) (paths : List Branch) → first_fault d Whole paths ≡ first_index (is_broken_at d) paths
 whole_is d [] = refl
 whole_is d (branch ∷ paths) =
-    ap (λ (o : Option ℕ). or_else (least (is_broken_at d branch) (length branch + 1)) (option_map (λ place. length branch + place) o)) (whole_is d paths)
+    ap (λ (o : Option ℕ). or_else (least (is_broken_at d branch) (length branch + 1)) (option_map (λ node_index. length branch + node_index) o)) (whole_is d paths)
 
 -- so is the first index whose node occurred earlier
-pub simple_is : (d : Domain) (paths : List Branch) → first_fault d Simple paths ≡ first_place (is_loop_at d) paths
+pub simple_is : (d : Domain) (paths : List Branch) → first_fault d Simple paths ≡ first_index (is_loop_at d) paths
 simple_is d [] = refl
 simple_is d (branch ∷ paths) =
-    ap (λ (o : Option ℕ). or_else (least (is_loop_at d branch) (length branch + 1)) (option_map (λ place. length branch + place) o)) (simple_is d paths)
+    ap (λ (o : Option ℕ). or_else (least (is_loop_at d branch) (length branch + 1)) (option_map (λ node_index. length branch + node_index) o)) (simple_is d paths)
 
 -- if there is a branch, the first broken index is that of the branches
 pub broken_is : (d : Domain) (paths : List (Vec (String Global) Global)) → length paths ≢ 0 →
-    first_fault d Whole (branches_of paths) ≡ broken_place d (branches_of paths)
+    first_fault d Whole (branches_of paths) ≡ broken_index d (branches_of paths)
 broken_is d [] some = absurd (some refl)
 broken_is d (x ∷ paths) some = whole_is d (branches_of (x ∷ paths))
 
 -- without branches, index 0 is broken
-pub none_is_broken : (d : Domain) (paths : List (Vec (String Global) Global)) → length paths ≡ 0 → Some 0 ≡ broken_place d (branches_of paths)
+pub none_is_broken : (d : Domain) (paths : List (Vec (String Global) Global)) → length paths ≡ 0 → Some 0 ≡ broken_index d (branches_of paths)
 none_is_broken d [] none = refl
 none_is_broken d (x ∷ paths) none = absurd (omega (arith, none))

@@ -14,8 +14,8 @@ use Rattle.cqf_admission.specs.declared.lines.Wish.TheVariants.{Admit, Withdraw}
 use Rattle.cqf_admission.specs.Lines.{Written, is_seal_line, order_of_line}
 use Rattle.cqf_model.specs.Limits.{most_calls}
 use Rattle.cqf_admission.specs.Script.{AreFew, Called, act_for, administrators, call_of_line, call_of_order}
-use Rattle.cqf_admission.specs.Script.{call_of_seal, called_behind, calls_from, others_among, request_named}
-use Rattle.cqf_admission.specs.Script.{script_of, sealed_behind, seals_among}
+use Rattle.cqf_admission.specs.Script.{call_of_seal, called_after, calls_from, others_among, request_named}
+use Rattle.cqf_admission.specs.Script.{script_of, sealed_after, seals_among}
 
 -- the results of a step and of the rest, if both have one
 pub parted : {A E : Type 0} (first : Result A E) (rest : Result (List A) E) (found : List A) → and_first first rest ≡ Ok found →
@@ -104,7 +104,7 @@ record AreSoFew (cycles sealed called : ℕ) (found : List Called) : Type 0 wher
 
 -- the same with one more call before them
 AreSoFew-more : (cycles sealed called : ℕ) (line : List ℕ) (call : Called) (found : List Called) (test : Bool) → is_seal_line line ≡ test →
-    IsCounted cycles sealed called line call → AreSoFew cycles (sealed_behind sealed line) (called_behind called line) found →
+    IsCounted cycles sealed called line call → AreSoFew cycles (sealed_after sealed line) (called_after called line) found →
     AreSoFew cycles sealed called (call ∷ found)
 AreSoFew-more cycles sealed called line call found true is c few =
     let seal : is_seal call.1 ≡ true = c.seal ∙ is in
@@ -112,31 +112,31 @@ AreSoFew-more cycles sealed called line call found true is c few =
     sum_by-cons (λ (x : Called). if is_seal x.1 then 1 else 0) call found ∙ ap (λ b. (if b then 1 else 0) + seals_among found) seal in
     let none : others_among (call ∷ found) ≡ 0 + others_among found =
     sum_by-cons (λ (x : Called). if not (is_seal x.1) then 1 else 0) call found ∙ ap (λ b. (if not b then 1 else 0) + others_among found) seal in
-    let behind : sealed_behind sealed line ≡ sealed + 1 = ap (λ b. if b then sealed + 1 else sealed) is in
-    let still : called_behind called line ≡ called = ap (λ b. if b then called else called + 1) is in
-    record { seals = omega (arith, few.seals, one, behind); others = omega (arith, few.others, none, still) }
+    let following : sealed_after sealed line ≡ sealed + 1 = ap (λ b. if b then sealed + 1 else sealed) is in
+    let still : called_after called line ≡ called = ap (λ b. if b then called else called + 1) is in
+    record { seals = omega (arith, few.seals, one, following); others = omega (arith, few.others, none, still) }
 AreSoFew-more cycles sealed called line call found false off c few =
     let other : is_seal call.1 ≡ false = c.seal ∙ off in
     let none : seals_among (call ∷ found) ≡ 0 + seals_among found =
     sum_by-cons (λ (x : Called). if is_seal x.1 then 1 else 0) call found ∙ ap (λ b. (if b then 1 else 0) + seals_among found) other in
     let one : others_among (call ∷ found) ≡ 1 + others_among found =
     sum_by-cons (λ (x : Called). if not (is_seal x.1) then 1 else 0) call found ∙ ap (λ b. (if not b then 1 else 0) + others_among found) other in
-    let still : sealed_behind sealed line ≡ sealed = ap (λ b. if b then sealed + 1 else sealed) off in
-    let behind : called_behind called line ≡ called + 1 = ap (λ b. if b then called else called + 1) off in
-    record { seals = omega (arith, few.seals, none, still); others = omega (arith, few.others, one, behind) }
+    let still : sealed_after sealed line ≡ sealed = ap (λ b. if b then sealed + 1 else sealed) off in
+    let following : called_after called line ≡ called + 1 = ap (λ b. if b then called else called + 1) off in
+    record { seals = omega (arith, few.seals, none, still); others = omega (arith, few.others, one, following) }
 
 -- few calls stay within the bounds
-AreSoFew-behind : (cycles sealed called : ℕ) (line : List ℕ) (call : Called) (test : Bool) → is_seal_line line ≡ test →
+AreSoFew-following : (cycles sealed called : ℕ) (line : List ℕ) (call : Called) (test : Bool) → is_seal_line line ≡ test →
     IsCounted cycles sealed called line call →
-    sealed ≤ cycles → called ≤ 100000 → (sealed_behind sealed line ≤ cycles) × (called_behind called line ≤ 100000)
-AreSoFew-behind cycles sealed called line call true is c s o =
-    let behind : sealed_behind sealed line ≡ sealed + 1 = ap (λ b. if b then sealed + 1 else sealed) is in
-    let still : called_behind called line ≡ called = ap (λ b. if b then called else called + 1) is in
-    (omega (arith, c.few_seals is, behind), omega (arith, o, still))
-AreSoFew-behind cycles sealed called line call false off c s o =
-    let still : sealed_behind sealed line ≡ sealed = ap (λ b. if b then sealed + 1 else sealed) off in
-    let behind : called_behind called line ≡ called + 1 = ap (λ b. if b then called else called + 1) off in
-    (omega (arith, s, still), omega (arith, c.few_others off, behind))
+    sealed ≤ cycles → called ≤ 100000 → (sealed_after sealed line ≤ cycles) × (called_after called line ≤ 100000)
+AreSoFew-following cycles sealed called line call true is c s o =
+    let following : sealed_after sealed line ≡ sealed + 1 = ap (λ b. if b then sealed + 1 else sealed) is in
+    let still : called_after called line ≡ called = ap (λ b. if b then called else called + 1) is in
+    (omega (arith, c.few_seals is, following), omega (arith, o, still))
+AreSoFew-following cycles sealed called line call false off c s o =
+    let still : sealed_after sealed line ≡ sealed = ap (λ b. if b then sealed + 1 else sealed) off in
+    let following : called_after called line ≡ called + 1 = ap (λ b. if b then called else called + 1) off in
+    (omega (arith, s, still), omega (arith, c.few_others off, following))
 
 -- the calls of some lines are few
 few_from : (requests : List Asked) (seat cycles number sealed called : ℕ) (lines : List (List ℕ)) (found : List Called) → sealed ≤ cycles → called ≤ 100000 →
@@ -146,12 +146,12 @@ few_from requests seat cycles number sealed called [] found s o h =
     subst (λ (xs : List Called). AreSoFew cycles sealed called xs) none (record { seals = omega (arith, s); others = omega (arith, o) })
 few_from requests seat cycles number sealed called (line ∷ lines) found s o h =
     let two = parted (call_of_line requests seat cycles number sealed called line)
-    (calls_from requests seat cycles (number + 1) (sealed_behind sealed line) (called_behind called line) lines) found h in
+    (calls_from requests seat cycles (number + 1) (sealed_after sealed line) (called_after called line) lines) found h in
     let call : Called = two.0 in
     let rest : List Called = two.1 in
     let counted = counted-line requests seat cycles number sealed called line call (is_seal_line line) refl two.2 in
-    let bounds = AreSoFew-behind cycles sealed called line call (is_seal_line line) refl counted s o in
-    let few = few_from requests seat cycles (number + 1) (sealed_behind sealed line) (called_behind called line) lines rest bounds.0 bounds.1 two.3 in
+    let bounds = AreSoFew-following cycles sealed called line call (is_seal_line line) refl counted s o in
+    let few = few_from requests seat cycles (number + 1) (sealed_after sealed line) (called_after called line) lines rest bounds.0 bounds.1 two.3 in
     subst (λ (xs : List Called). AreSoFew cycles sealed called xs) (sym two.4)
     (AreSoFew-more cycles sealed called line call rest (is_seal_line line) refl counted few)
 

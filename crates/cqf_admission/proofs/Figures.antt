@@ -18,15 +18,15 @@ use Rattle.cqf_units.specs.Timing.{cost_of}
 use Rattle.cqf_units.specs.declared.reservations.Cycle.{Cycle}
 use Rattle.cqf_model.proofs.Texts.{is_text_itself, is_text_same}
 use Rattle.cqf_model.specs.Domain.{is_text}
-use Rattle.cqf_model.specs.Paces.{is_turn}
+use Rattle.cqf_model.specs.Paces.{is_active}
 use Rattle.cqf_model.specs.Table.{cost_on}
 use Rattle.cqf_model.specs.declared.topology.Pace.{Pace}
 use Rattle.cqf_model.specs.declared.topology.Row.{Row}
-use Rattle.cqf_admission.specs.Turns.{AreLessIn, AreMoreIn, AreNone, HasIn, HasRoomFor, Turned, most_at, most_of, sum_on}
+use Rattle.cqf_admission.specs.ActiveCycles.{AreLessIn, AreMoreIn, AreNone, HasIn, HasRoomFor, SumsByCycle, most_at, most_of, sum_on}
 use Rattle.cqf_lists.proofs.EachBelow.{same_below}
 use Rattle.cqf_lists.proofs.Members.{contains_cases, contains_here, contains_later, contains_none, contains_one}
 use Rattle.std.proofs.lemmas.List.Elements.{Contains-append_cases, Contains-get_or}
-use Rattle.cqf_admission.proofs.TurnLemmas.{most_of_costs}
+use Rattle.cqf_admission.proofs.ActiveCycleLemmas.{most_of_costs}
 use Rattle.cqf_admission.specs.Rows.{IsSummable, ended}
 use Rattle.cqf_admission.specs.Holdings.{HaveFigures, IsEnded, IsFree, IsHeldAt, IsHolder, Standing}
 use Rattle.cqf_admission.specs.Holdings.{held_cost, held_most, held_most_at, held_part, held_under, released, with_row}
@@ -35,7 +35,7 @@ use Rattle.cqf_admission.proofs.HeldNumbers.{numbers_pushed, numbers_released, n
 -- a withdrawn stream can be summed as before
 ended_summable : (links : ℕ) (row : Row) (cycle : Cycle) → IsSummable links row → IsSummable links (ended row cycle)
 ended_summable links row cycle is = record {
-  countable = record { octets = is.countable.octets; inside = is.countable.inside; apart = is.countable.apart };
+  countable = record { octets = is.countable.octets; overhead = is.countable.overhead; inside = is.countable.inside; apart = is.countable.apart };
   paced = is.paced;
 }
 
@@ -98,7 +98,7 @@ contains_from_set (z ∷ xs) (suc k) y x among = elim (contains_cases z (set xs 
 ]
 
 -- the figures of no streams
-pub figures_none : (under : List ℕ → Option ℕ) (held : List ℕ) (sums : Turned) (links : ℕ) → ((name : List ℕ) → under name ≡ None) → held ≡ [] →
+pub figures_none : (under : List ℕ → Option ℕ) (held : List ℕ) (sums : SumsByCycle) (links : ℕ) → ((name : List ℕ) → under name ≡ None) → held ≡ [] →
     AreNone sums links → HaveFigures [] under held sums
 figures_none under held sums links nobody none are = record {
   along = λ stand among. absurd (contains_none stand among);
@@ -110,29 +110,29 @@ figures_none under held sums links nobody none are = record {
 }
 
 -- the figures are those of the same streams if each of them is the same
-pub figures_same : (rows copy : List Standing) (before after : BTreeMap (List ℕ) ℕ) (held numbers : List ℕ) (sums more : Turned) →
+pub figures_same : (rows copy : List Standing) (before after : BTreeMap (List ℕ) ℕ) (held numbers : List ℕ) (sums more : SumsByCycle) →
     HaveFigures rows (held_under before) held sums → copy ≡ rows → after.entries ≡ before.entries → numbers ≡ held → more ≡ sums →
     HaveFigures copy (held_under after) numbers more
 figures_same rows copy before after held numbers sums more h same entries listed summed =
     subst (λ (rs : List Standing). HaveFigures rs (held_under after) numbers more) (sym same)
     (subst (λ (es : List (List ℕ × ℕ)). HaveFigures rows (λ (name : List ℕ). lookup (is_at (slice_cmp nat_cmp name)) es) numbers more) (sym entries)
-    (subst₂ (λ (ns : List ℕ) (ss : Turned). HaveFigures rows (held_under before) ns ss) (sym listed) (sym summed) h))
+    (subst₂ (λ (ns : List ℕ) (ss : SumsByCycle). HaveFigures rows (held_under before) ns ss) (sym listed) (sym summed) h))
 
-module _ (rows : List Standing) (under : List ℕ → Option ℕ) (held : List ℕ) (sums : Turned) (h : HaveFigures rows under held sums) where
+module _ (rows : List Standing) (under : List ℕ → Option ℕ) (held : List ℕ) (sums : SumsByCycle) (h : HaveFigures rows under held sums) where
   -- there is room in the sums for what there is room for in the streams
   pub has_room : (row : Row) → ((l cycle : ℕ) → l < sums.links → held_cost rows l cycle + cost_on row l cycle < 2 ^ 64) →
-      HasRoomFor sums row.tree.items row.pace (cost_of row.octets)
+      HasRoomFor sums row.tree.items row.pace (cost_of row.overhead row.octets)
   has_room row fits l cycle low = omega (arith, fits l cycle low, h.costs l cycle low)
 
   -- the greatest sum is the most that the streams cost, in all cycles and in those of a pace
-  pub most_told : (l : ℕ) → l < sums.links → most_of sums l ≡ held_most rows l
-  most_told l low = most_of_costs sums l (held_cost rows l) (λ cycle below. h.costs l cycle low)
+  pub most_reported : (l : ℕ) → l < sums.links → most_of sums l ≡ held_most rows l
+  most_reported l low = most_of_costs sums l (held_cost rows l) (λ cycle below. h.costs l cycle low)
 
-  pub most_told_at : (l : ℕ) (pace : Pace) (depth : ℕ) → l < sums.links → most_at sums l pace depth ≡ held_most_at rows l pace depth
-  most_told_at l pace depth low =
-      ap (fold max 0) (same_below (λ cycle. if is_turn pace depth cycle then sum_on sums l cycle ∷ [] else [])
-      (λ cycle. if is_turn pace depth cycle then held_cost rows l cycle ∷ [] else []) 80
-      (λ cycle below. ap (λ (n : ℕ). if is_turn pace depth cycle then n ∷ [] else []) (h.costs l cycle low)))
+  pub most_reported_at : (l : ℕ) (pace : Pace) (hop_number : ℕ) → l < sums.links → most_at sums l pace hop_number ≡ held_most_at rows l pace hop_number
+  most_reported_at l pace hop_number low =
+      ap (fold max 0) (same_below (λ cycle. if is_active pace hop_number cycle then sum_on sums l cycle ∷ [] else [])
+      (λ cycle. if is_active pace hop_number cycle then held_cost rows l cycle ∷ [] else []) 80
+      (λ cycle below. ap (λ (n : ℕ). if is_active pace hop_number cycle then n ∷ [] else []) (h.costs l cycle low)))
 
   -- the entry of a name is its holder, or the name is free
   pub holder_is : (name : List ℕ) (found : Option ℕ) → found ≡ under name → MatchOption found (IsFree rows name) (IsHolder rows name)
@@ -196,8 +196,8 @@ module _ (rows : List Standing) (under : List ℕ → Option ℕ) (held : List �
             ∙ ap (λ (n : ℕ). Some n) (sym is_last))
       ]
 
-      pub figures_more : (numbers : List ℕ) (more : Turned) → numbers ≡ held ++ length rows ∷ [] → IsSummable sums.links s.row →
-          AreMoreIn sums s.row.tree.items s.row.pace (cost_of s.row.octets) more → HaveFigures after next numbers more
+      pub figures_more : (numbers : List ℕ) (more : SumsByCycle) → numbers ≡ held ++ length rows ∷ [] → IsSummable sums.links s.row →
+          AreMoreIn sums s.row.tree.items s.row.pace (cost_of s.row.overhead s.row.octets) more → HaveFigures after next numbers more
       figures_more numbers more listed summable by = record {
         along = λ stand among. subst (λ (n : ℕ). IsSummable n stand.row) (sym by.links)
             (elim (Contains-append_cases rows (s ∷ []) stand (subst (λ (xs : List Standing). Contains xs stand) grown among)) [
@@ -256,10 +256,10 @@ module _ (rows : List Standing) (under : List ℕ → Option ℕ) (held : List �
       figures_from : HaveFigures (set rows number (with_row s (ended s.row cycle))) under held sums
       figures_from = record {
         along = λ stand among. stays_along stand (with_row s (ended s.row cycle)) (ended_summable sums.links s.row cycle own_along) among;
-        costs = λ l turn low.
-            let total = sum_by-set (held_part l turn) rows number (with_row s (ended s.row cycle)) s inside in
-            let same : held_part l turn (get_or rows number s) ≡ held_part l turn (with_row s (ended s.row cycle)) = ap (held_part l turn) (was s) in
-            omega (arith, total, same, h.costs l turn low);
+        costs = λ l active_cycle low.
+            let total = sum_by-set (held_part l active_cycle) rows number (with_row s (ended s.row cycle)) s inside in
+            let same : held_part l active_cycle (get_or rows number s) ≡ held_part l active_cycle (with_row s (ended s.row cycle)) = ap (held_part l active_cycle) (was s) in
+            omega (arith, total, same, h.costs l active_cycle low);
         numbers = h.numbers ∙ sym (numbers_stay 0 rows number (with_row s (ended s.row cycle)) inside
             (sym (ap (λ (x : Standing). x.held) (was (with_row s (ended s.row cycle))))));
         few = omega (arith, h.few, as_many rows number (with_row s (ended s.row cycle)) inside);
@@ -294,7 +294,7 @@ module _ (rows : List Standing) (under : List ℕ → Option ℕ) (held : List �
       led_here = sym (ap (λ (x : Standing). under x.row.name) (was s)) ∙ h.found number s held_here
 
       -- the stream's part is in the sums
-      pub goes_within : HasIn sums s.row.tree.items s.row.pace (cost_of s.row.octets)
+      pub goes_within : HasIn sums s.row.tree.items s.row.pace (cost_of s.row.overhead s.row.octets)
       goes_within l cycle low =
           let total = sum_by-set (held_part l cycle) rows number (released s) s inside in
           let part : held_part l cycle (get_or rows number s) ≡ cost_on s.row l cycle = ap (held_part l cycle) (was s) ∙ part_held l cycle s is_held in
@@ -340,8 +340,8 @@ module _ (rows : List Standing) (under : List ℕ → Option ℕ) (held : List �
             ap (λ (x : Standing). next x.row.name) (elsewhere rows number (released s) inside other d was_held.0)
             ∙ others (get_or rows other d).row.name apart ∙ old
 
-        pub figures_less : (numbers : List ℕ) (less : Turned) → numbers ≡ without number held →
-            AreLessIn sums s.row.tree.items s.row.pace (cost_of s.row.octets) less → HaveFigures (set rows number (released s)) next numbers less
+        pub figures_less : (numbers : List ℕ) (less : SumsByCycle) → numbers ≡ without number held →
+            AreLessIn sums s.row.tree.items s.row.pace (cost_of s.row.overhead s.row.octets) less → HaveFigures (set rows number (released s)) next numbers less
         figures_less numbers less left by = record {
           along = λ stand among. subst (λ (n : ℕ). IsSummable n stand.row) (sym by.links) (stays_along stand (released s) own_along among);
           costs = λ l cycle shorter.

@@ -3,7 +3,7 @@ use Rattle.std.proofs.Common.{◌≡◌, ℕ, ◌<◌, ◌⊎◌, false, true, L
 use Rattle.std.specs.Prelude.{Contains, is_some, slice_get}
 use Rattle.std.proofs.lemmas.List.{get_or-map, length-map}
 use Rattle.std.proofs.lemmas.Option.{get_or_from_slice_get, slice_get_within}
-use Rattle.cqf_lists.proofs.Members.{contains_at, contains_filter, contains_from_filter, find_member, place_of_member}
+use Rattle.cqf_lists.proofs.Members.{contains_at, contains_filter, contains_from_filter, find_member, index_of_member}
 use Rattle.cqf_units.specs.Name.{is_name}
 use Rattle.cqf_model.specs.declared.history.Refused.{Refused}
 use Rattle.cqf_model.specs.declared.history.Reply.TheVariants.{Refused as RefusedFor}
@@ -13,7 +13,7 @@ use Rattle.cqf_model.specs.History.{Recorded, Withdraws, held_in, next_number, r
 use Rattle.cqf_model.specs.Table.{is_held, row_named}
 use Rattle.cqf_model.proofs.Texts.{is_text_same}
 use Rattle.cqf_laws_history.specs.StateLaws.{AreHeld, HeldAreSound}
-use Rattle.cqf_laws_history.proofs.Places.{entry_at}
+use Rattle.cqf_laws_history.proofs.Indices.{entry_at}
 use Rattle.cqf_laws_history.proofs.Sound.{named_is_held}
 use Rattle.cqf_laws_history.proofs.Numbers.{numbered}
 use Rattle.cqf_admission.specs.Holdings.{IsFree, IsHolder, Standing}
@@ -85,10 +85,10 @@ module _ (d : Domain) (entries : List Recorded) (stands : List Standing) (slots 
           let rows = held_in d entries (seals entries) in
           let there = contains_from_filter (λ (x : Row). is_held x (seals entries)) (streams_of d entries) row (named_is_held rows name row e) in
           let same : row.name ≡ name = is_text_same row.name name (find_member (λ (x : Row). is_text x.name name) rows row e).1 in
-          let place = place_of_member (streams_of d entries) row there.0 in
-          let is = stands_at place.0 row place.1 in
-          absurd (nobody place.0 (record {
-            inside = omega (arith, slice_get_within (streams_of d entries) place.0 row place.1, many);
+          let index = index_of_member (streams_of d entries) row there.0 in
+          let is = stands_at index.0 row index.1 in
+          absurd (nobody index.0 (record {
+            inside = omega (arith, slice_get_within (streams_of d entries) index.0 row index.1, many);
             held = λ s. ap (λ (x : Standing). x.held) (is s) ∙ there.1;
           }) (as_stand row) (ap (λ (x : Standing). x.row.name) (is (as_stand row)) ∙ same))
 

@@ -16,7 +16,7 @@ use Rattle.cqf_model.specs.declared.topology.Pace.{Pace}
 use Rattle.cqf_model.specs.declared.topology.Row.{Row}
 use Rattle.cqf_model.specs.Domain.{Domain, is_text, node_named}
 use Rattle.cqf_lists.specs.Lists.{least, or_else}
-use Rattle.cqf_model.specs.History.{Asked, broken_place, first_place, is_loop_at, is_pace, is_stray, pace_of, refusal_of, refused_at, refused_if}
+use Rattle.cqf_model.specs.History.{Asked, broken_index, first_index, is_loop_at, is_pace, is_stray, pace_of, refusal_of, refused_at, refused_if}
 use Rattle.cqf_model.specs.History.{tree_of, withdraw_row}
 use Rattle.cqf_model.proofs.Texts.{is_text_same}
 use Rattle.cqf_model.specs.Limits.{hops_within, most_reserved, streams_within}
@@ -36,15 +36,15 @@ abbrev pub state_refusal : Domain → List Row → Asked → Option Refused
 state_refusal d rows asked =
     or_else (refused_if (list_any (λ (row : Row). is_text row.name asked.name) rows) NameHeld)
     (or_else (refused_if (nat_le (streams_within d.limits) (length rows)) TooManyStreams)
-    (short_refusal d rows (cost_of asked.octets) (pace_of asked) (tree_of d asked.paths)))
+    (short_refusal d rows (cost_of d.overhead asked.octets) (pace_of asked) (tree_of d asked.paths)))
 
 -- the first of several refusals, in two groups: one refusal, or one more in the first group
 or_else_two : (a b rest : Option Refused) → or_else a (or_else b rest) ≡ or_else (or_else a b) rest
 or_else_two (Some x) b rest = refl
 or_else_two None b rest = refl
 
-or_else_more : (a b rest behind : Option Refused) → behind ≡ or_else b rest → or_else a behind ≡ or_else (or_else a b) rest
-or_else_more a b rest behind same = ap (or_else a) same ∙ or_else_two a b rest
+or_else_more : (a b rest following : Option Refused) → following ≡ or_else b rest → or_else a following ≡ or_else (or_else a b) rest
+or_else_more a b rest following same = ap (or_else a) same ∙ or_else_two a b rest
 
 -- a request is refused for its form, or else because of what is held
 pub refusal_in_two : (d : Domain) (rows : List Row) (asked : Asked) → refusal_of d rows asked ≡ or_else (form_refusal d asked) (state_refusal d rows asked)
@@ -52,9 +52,9 @@ refusal_in_two d rows asked =
     let name = refused_if (not (is_name asked.name)) BadName in
     let octets = refused_if (not (nat_le 64 asked.octets && nat_le asked.octets most_reserved)) BadOctets in
     let pace = refused_if (not (is_pace asked.every asked.phase)) BadPace in
-    let unknown = refused_at (λ place. UnknownNode place) (position (λ n. is_none (node_named d n)) (flat_map (λ branch. branch) asked.paths)) in
-    let broken = refused_at (λ place. BrokenPath place) (broken_place d asked.paths) in
-    let looping = refused_at (λ place. LoopingPath place) (first_place (is_loop_at d) asked.paths) in
+    let unknown = refused_at (λ index. UnknownNode index) (position (λ n. is_none (node_named d n)) (flat_map (λ branch. branch) asked.paths)) in
+    let broken = refused_at (λ index. BrokenPath index) (broken_index d asked.paths) in
+    let looping = refused_at (λ index. LoopingPath index) (first_index (is_loop_at d) asked.paths) in
     let stray = refused_at (λ branch. NotATree branch) (least (is_stray asked.paths) (length asked.paths)) in
     let hops = refused_if (nat_lt (hops_within d.limits) (length (tree_of d asked.paths))) TooManyHops in
     let rest = state_refusal d rows asked in
@@ -74,9 +74,9 @@ pub form_paced : (d : Domain) (asked : Asked) → form_refusal d asked ≡ None 
 form_paced d asked none =
     let in_range = nat_le 64 asked.octets && nat_le asked.octets most_reserved in
     let paced = is_pace asked.every asked.phase in
-    let behind = or_else_none (refused_if (not (is_name asked.name)) BadName)
+    let following = or_else_none (refused_if (not (is_name asked.name)) BadName)
     (or_else (refused_if (not in_range) BadOctets) (or_else (refused_if (not paced) BadPace) (tree_refusal d asked.paths))) none in
-    let later = or_else_none (refused_if (not in_range) BadOctets) (or_else (refused_if (not paced) BadPace) (tree_refusal d asked.paths)) behind.1 in
+    let later = or_else_none (refused_if (not in_range) BadOctets) (or_else (refused_if (not paced) BadPace) (tree_refusal d asked.paths)) following.1 in
     not-false paced (refused_if_none (not paced) BadPace (or_else_none (refused_if (not paced) BadPace) (tree_refusal d asked.paths) later.1).0)
 
 -- and its octets are within the limits
@@ -84,9 +84,9 @@ pub form_octets : (d : Domain) (asked : Asked) → form_refusal d asked ≡ None
 form_octets d asked none =
     let in_range = nat_le 64 asked.octets && nat_le asked.octets most_reserved in
     let paced = is_pace asked.every asked.phase in
-    let behind = or_else_none (refused_if (not (is_name asked.name)) BadName)
+    let following = or_else_none (refused_if (not (is_name asked.name)) BadName)
     (or_else (refused_if (not in_range) BadOctets) (or_else (refused_if (not paced) BadPace) (tree_refusal d asked.paths))) none in
-    let octets = or_else_none (refused_if (not in_range) BadOctets) (or_else (refused_if (not paced) BadPace) (tree_refusal d asked.paths)) behind.1 in
+    let octets = or_else_none (refused_if (not in_range) BadOctets) (or_else (refused_if (not paced) BadPace) (tree_refusal d asked.paths)) following.1 in
     let range = and_parts (nat_le 64 asked.octets) (nat_le asked.octets most_reserved) (not-false in_range (refused_if_none (not in_range) BadOctets octets.0)) in
     leb-true asked.octets most_reserved range.1
 
@@ -114,30 +114,32 @@ refusal_later d rows asked form = refusal_in_two d rows asked ∙ ap (λ (o : Op
 
 -- the last reason, if the name is free and there are not too many streams
 pub refusal_last : (d : Domain) (rows : List Row) (asked : Asked) → list_any (λ (row : Row). is_text row.name asked.name) rows ≡ false →
-    length rows < streams_within d.limits → state_refusal d rows asked ≡ short_refusal d rows (cost_of asked.octets) (pace_of asked) (tree_of d asked.paths)
+    length rows < streams_within d.limits → state_refusal d rows asked ≡ short_refusal d rows (cost_of d.overhead asked.octets) (pace_of asked) (tree_of d asked.paths)
 refusal_last d rows asked free few =
-    let last = short_refusal d rows (cost_of asked.octets) (pace_of asked) (tree_of d asked.paths) in
+    let last = short_refusal d rows (cost_of d.overhead asked.octets) (pace_of asked) (tree_of d asked.paths) in
     ap (λ (b : Bool). or_else (refused_if b NameHeld) (or_else (refused_if (nat_le (streams_within d.limits) (length rows)) TooManyStreams) last)) free
     ∙ ap (λ (b : Bool). or_else (refused_if b TooManyStreams) last) (lt-leb (streams_within d.limits) (length rows) few)
 
--- a row, given its name, its pace and its tree
-pub row_granted : (d : Domain) (number : ℕ) (effect : Cycle) (asked : Asked) (name : List ℕ) (pace : Pace) (tree : List Hop) → name ≡ asked.name →
-    pace ≡ pace_of asked → tree ≡ tree_of d asked.paths →
+-- a row, given its name, its overhead, its pace and its tree
+pub row_granted : (d : Domain) (number : ℕ) (effect : Cycle) (asked : Asked) (name : List ℕ) (overhead : ℕ) (pace : Pace) (tree : List Hop) →
+    name ≡ asked.name → overhead ≡ d.overhead → pace ≡ pace_of asked → tree ≡ tree_of d asked.paths →
     (let row : Row = record {
       no = number;
       name = name;
       octets = asked.octets;
+      overhead = overhead;
       pace = pace;
       tree = record { items = tree };
       admitted = effect;
       withdrawn = None;
     } in
     row) ≡ granted_row d number effect.0 asked
-row_granted d number effect asked name pace tree named paced linked =
+row_granted d number effect asked name overhead pace tree named counted paced linked =
     λ i. record {
       no = number;
       name = named i;
       octets = asked.octets;
+      overhead = counted i;
       pace = paced i;
       tree = record { items = linked i };
       admitted = effect;
@@ -145,10 +147,11 @@ row_granted d number effect asked name pace tree named paced linked =
     }
 
 -- its links are the domain's, each once, so its cost can be added to sums by link
-pub granted_countable : (d : Domain) (row : Row) (asked : Asked) (number effect : ℕ) → row ≡ granted_row d number effect asked → asked.octets ≤ most_reserved →
-    IsCountable (length d.links) row
-granted_countable d row asked number effect is few = subst (IsCountable (length d.links)) (sym is) (record {
+pub granted_countable : (d : Domain) (row : Row) (asked : Asked) (number effect : ℕ) → d.overhead ≤ 22 → row ≡ granted_row d number effect asked →
+    asked.octets ≤ most_reserved → IsCountable (length d.links) row
+granted_countable d row asked number effect short is few = subst (IsCountable (length d.links)) (sym is) (record {
   octets = few;
+  overhead = short;
   inside = All-map (λ (l : ℕ). l < length d.links) (λ (hop : Hop). hop.link) (tree_of d asked.paths) (hops_inside d asked.paths);
   apart = hops_apart d asked.paths;
 })

@@ -21,18 +21,18 @@ front_pushed : (b : Bool) (n : ℕ) (ns more : List ℕ) → in_front b n (ns ++
 front_pushed true n ns more = refl
 front_pushed false n ns more = refl
 
-same_place : (from k : ℕ) → from + 1 + k ≡ from + suc k
-same_place from k = omega arith
+same_index : (from k : ℕ) → from + 1 + k ≡ from + suc k
+same_index from k = omega arith
 
-first_place : (from : ℕ) → from ≡ from + zero
-first_place from = omega arith
+first_index : (from : ℕ) → from ≡ from + zero
+first_index from = omega arith
 
 -- one more held stream adds its number after the others
 pushed_from : (from : ℕ) (rows : List Standing) (s : Standing) → s.held ≡ true →
     numbers_from from (rows ++ s ∷ []) ≡ numbers_from from rows ++ (from + length rows) ∷ []
-pushed_from from [] s e = ap (λ (b : Bool). in_front b from []) e ∙ ap (λ (n : ℕ). n ∷ []) (first_place from)
+pushed_from from [] s e = ap (λ (b : Bool). in_front b from []) e ∙ ap (λ (n : ℕ). n ∷ []) (first_index from)
 pushed_from from (x ∷ rows) s e =
-    ap (in_front x.held from) (pushed_from (from + 1) rows s e ∙ ap (λ (n : ℕ). numbers_from (from + 1) rows ++ n ∷ []) (same_place from (length rows)))
+    ap (in_front x.held from) (pushed_from (from + 1) rows s e ∙ ap (λ (n : ℕ). numbers_from (from + 1) rows ++ n ∷ []) (same_index from (length rows)))
     ∙ front_pushed x.held from (numbers_from (from + 1) rows) ((from + suc (length rows)) ∷ [])
 
 pub numbers_pushed : (rows after : List Standing) (s : Standing) → s.held ≡ true → after ≡ rows ++ s ∷ [] →
@@ -157,17 +157,17 @@ stands_from : (all : List Standing) (from : ℕ) (rows : List Standing) (d : Sta
 stands_from all from [] d each = refl
 stands_from all from (x ∷ rows) d each =
     front_mapped (λ (n : ℕ). get_or all n d) x.held from (numbers_from (from + 1) rows) x (filter (λ (s : Standing). s.held) rows)
-    (ap (λ (n : ℕ). get_or all n d) (first_place from) ∙ each zero (omega arith))
-    (stands_from all (from + 1) rows d (λ k low. ap (λ (n : ℕ). get_or all n d) (same_place from k) ∙ each (suc k) (omega (arith, low))))
+    (ap (λ (n : ℕ). get_or all n d) (first_index from) ∙ each zero (omega arith))
+    (stands_from all (from + 1) rows d (λ k low. ap (λ (n : ℕ). get_or all n d) (same_index from k) ∙ each (suc k) (omega (arith, low))))
 
 -- so the stream at such a number is the one at this index among the held ones
-pub held_in_place : (rows : List Standing) (place number : ℕ) (s : Standing) → place < length (numbers_from 0 rows) →
-    number ≡ get_or (numbers_from 0 rows) place number → s ≡ get_or rows number s → s ≡ get_or (filter (λ (t : Standing). t.held) rows) place s
-held_in_place rows place number s low is there =
+pub held_in_place : (rows : List Standing) (index number : ℕ) (s : Standing) → index < length (numbers_from 0 rows) →
+    number ≡ get_or (numbers_from 0 rows) index number → s ≡ get_or rows number s → s ≡ get_or (filter (λ (t : Standing). t.held) rows) index s
+held_in_place rows index number s low is there =
     let plain : (k : ℕ) → 0 + k ≡ k = λ k. omega arith in
     there ∙ ap (λ (n : ℕ). get_or rows n s) is
-    ∙ sym (get_or-map (λ (n : ℕ). get_or rows n s) (numbers_from 0 rows) place number s low)
-    ∙ ap (λ (xs : List Standing). get_or xs place s) (stands_from rows 0 rows s (λ k inside. ap (λ (n : ℕ). get_or rows n s) (plain k)))
+    ∙ sym (get_or-map (λ (n : ℕ). get_or rows n s) (numbers_from 0 rows) index number s low)
+    ∙ ap (λ (xs : List Standing). get_or xs index s) (stands_from rows 0 rows s (λ k inside. ap (λ (n : ℕ). get_or rows n s) (plain k)))
 
 -- there are equally many
 front_many : {X : Type 0} (b : Bool) (n : ℕ) (ns : List ℕ) (x : X) (xs : List X) → length xs ≡ length ns → length (cond b (x ∷ xs) xs) ≡ length (in_front b n ns)
@@ -187,17 +187,17 @@ without_absent (x ∷ numbers) number absent =
     ∙ ap (λ (ns : List ℕ). x ∷ ns) (without_absent numbers number (λ other among. absent other (contains_later x numbers other among)))
 
 -- removing one of some ascending numbers leaves those without it
-pub removed_is_without : (numbers : List ℕ) (place number : ℕ) → AllPairs (λ (a b : ℕ). a < b) numbers → place < length numbers →
-    get_or numbers place 0 ≡ number → remove numbers place ≡ without number numbers
-removed_is_without [] place number pairs low is = absurd (omega (arith, low))
+pub removed_is_without : (numbers : List ℕ) (index number : ℕ) → AllPairs (λ (a b : ℕ). a < b) numbers → index < length numbers →
+    get_or numbers index 0 ≡ number → remove numbers index ≡ without number numbers
+removed_is_without [] index number pairs low is = absurd (omega (arith, low))
 removed_is_without (x ∷ numbers) zero number pairs low is =
     sym (ap (λ (b : Bool). cond (not b) (x ∷ without number numbers) (without number numbers)) (eq-eqb x number is)
     ∙ without_absent numbers number (λ other among same. omega (arith, is, same, pairs_head (λ (a b : ℕ). a < b) x numbers other pairs among)))
-removed_is_without (x ∷ numbers) (suc place) number pairs low is =
-    let there : Contains numbers number = (place, omega (arith, low), at) in
-    ap (λ (ns : List ℕ). x ∷ ns) (removed_is_without numbers place number (pairs_tail (λ (a b : ℕ). a < b) x numbers pairs) (omega (arith, low)) is)
+removed_is_without (x ∷ numbers) (suc index) number pairs low is =
+    let there : Contains numbers number = (index, omega (arith, low), at) in
+    ap (λ (ns : List ℕ). x ∷ ns) (removed_is_without numbers index number (pairs_tail (λ (a b : ℕ). a < b) x numbers pairs) (omega (arith, low)) is)
     ∙ sym (ap (λ (b : Bool). cond (not b) (x ∷ without number numbers) (without number numbers))
     (ne_eqb x number (λ same. omega (arith, same, pairs_head (λ (a b : ℕ). a < b) x numbers number pairs there))))
   where
-    at : get_or numbers place number ≡ number
-    at = get_or_default numbers place number 0 (omega (arith, low)) ∙ is
+    at : get_or numbers index number ≡ number
+    at = get_or_default numbers index number 0 (omega (arith, low)) ∙ is

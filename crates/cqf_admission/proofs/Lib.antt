@@ -4,7 +4,7 @@ mod NodeLemmas
 mod PartLemmas
 mod SumLemmas
 mod TreeLemmas
-pub mod TurnLemmas
+pub mod ActiveCycleLemmas
 pub mod CostLemmas
 pub mod Entered
 pub mod Figures
@@ -28,12 +28,12 @@ pub mod Streams
 pub mod TableLemmas
 pub mod Tabled
 pub mod Taken
-pub mod Told
+pub mod Reported
 pub mod Weighed
 pub mod Whole
 pub mod Withdrawing
 mod OrderLemmas
-mod NamePlaces
+mod NameIndices
 mod ReadLines
 mod Words
 mod Few

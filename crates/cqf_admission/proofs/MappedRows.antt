@@ -5,10 +5,10 @@ use Rattle.std.proofs.lemmas.List.{drop-map, length-drop, map-append, take_all}
 
 module _ {X Y : Type 0} (f : X → Y) where
   -- the element at an index
-  pub mapped_at : (xs : List X) (place : ℕ) (x : X) → x ≡ get_or xs place x → f x ≡ get_or (map f xs) place (f x)
-  mapped_at [] place x is = refl
+  pub mapped_at : (xs : List X) (index : ℕ) (x : X) → x ≡ get_or xs index x → f x ≡ get_or (map f xs) index (f x)
+  mapped_at [] index x is = refl
   mapped_at (y ∷ xs) zero x is = ap f is
-  mapped_at (y ∷ xs) (suc place) x is = mapped_at xs place x is
+  mapped_at (y ∷ xs) (suc index) x is = mapped_at xs index x is
 
   -- one more element at the end
   pub mapped_more : (xs after : List X) (x : X) (y : Y) → after ≡ xs ++ x ∷ [] → f x ≡ y → map f after ≡ map f xs ++ y ∷ []

@@ -97,16 +97,16 @@ module _ (d : Domain) (paths : List (Vec (String Global) Global)) (index : ℕ) 
       (of_rest d (branch_of branch.items) (flat_map (λ b. b) (branches_of (drop (suc index) paths))) rest from_here)))
 
 -- the first name without a node
-pub unknown_found : (d : Domain) (names : List (List ℕ)) (place : ℕ) → place < length names → is_none (node_at d names place) ≡ true →
-    ((k : ℕ) → k < place → is_none (node_at d names k) ≡ false) → Some place ≡ position (λ name. is_none (node_named d name)) names
-unknown_found d [] place h t before = absurd (omega (arith, h))
+pub unknown_found : (d : Domain) (names : List (List ℕ)) (index : ℕ) → index < length names → is_none (node_at d names index) ≡ true →
+    ((k : ℕ) → k < index → is_none (node_at d names k) ≡ false) → Some index ≡ position (λ name. is_none (node_named d name)) names
+unknown_found d [] index h t before = absurd (omega (arith, h))
 unknown_found d (x ∷ names) zero h t before =
     sym (position-cons (λ name. is_none (node_named d name)) x names
-    ∙ ap (λ (b : Bool). if b then Some 0 else option_map (λ place. 1 + place) (position (λ name. is_none (node_named d name)) names)) t)
-unknown_found d (x ∷ names) (suc place) h t before =
+    ∙ ap (λ (b : Bool). if b then Some 0 else option_map (λ index. 1 + index) (position (λ name. is_none (node_named d name)) names)) t)
+unknown_found d (x ∷ names) (suc index) h t before =
     let test : List ℕ → Bool = λ name. is_none (node_named d name) in
-    let later = unknown_found d names place (omega (arith, h)) t (λ k l. before (suc k) (omega (arith, l))) in
-    (let next : suc place ≡ 1 + place = omega arith in ap (λ (k : ℕ). Some k) next)
+    let later = unknown_found d names index (omega (arith, h)) t (λ k l. before (suc k) (omega (arith, l))) in
+    (let next : suc index ≡ 1 + index = omega arith in ap (λ (k : ℕ). Some k) next)
     ∙ ap (option_map (λ k. 1 + k)) later
     ∙ sym (position-cons test x names
     ∙ ap (λ (b : Bool). if b then Some 0 else option_map (λ k. 1 + k) (position test names)) (before zero (omega arith)))

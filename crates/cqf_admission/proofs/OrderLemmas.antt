@@ -14,7 +14,7 @@ use Rattle.cqf_admission.specs.declared.faults.ScriptFault.TheVariants.{UnknownS
 use Rattle.cqf_admission.specs.declared.lines.Wish.TheVariants.{Admit}
 use Rattle.cqf_admission.specs.Lines.{Written}
 use Rattle.cqf_model.specs.History.{Act, Admits, Asked}
-use Rattle.cqf_admission.specs.Names.{has_name, place_named}
+use Rattle.cqf_admission.specs.Names.{has_name, index_named}
 use Rattle.cqf_admission.specs.Orders.{request_at}
 use Rattle.cqf_lists.proofs.Firsts.{found_nowhere, found_there}
 use Rattle.cqf_model.specs.Limits.{most_calls}
@@ -33,26 +33,26 @@ named_first (request ∷ requests) name =
     pick false request later = refl
 
 -- the index of the first request with a name gives what its name calls for
-pub admits : (requests : List PacedRequest) (name : List ℕ) (place : ℕ) → place_named requests name ≡ Some place →
-    act_for (map asked_paced requests) Admit name ≡ Some (Admits (request_at (map asked_paced requests) place))
-admits requests name place is =
-    let there : slice_get requests place ≡ find (has_name name) requests = found_there (has_name name) requests place is in
-    let asked : slice_get (map asked_paced requests) place ≡ request_named (map asked_paced requests) name =
-    slice_get-map asked_paced requests place ∙ ap (option_map asked_paced) there ∙ named_first requests name in
-    let inside : place < length (map asked_paced requests) = grind (arith, common_steps) in
-    ap (option_map (λ (asked : Asked). Admits asked)) (sym asked ∙ slice_get-get_or (map asked_paced requests) place nobody inside)
+pub admits : (requests : List PacedRequest) (name : List ℕ) (index : ℕ) → index_named requests name ≡ Some index →
+    act_for (map asked_paced requests) Admit name ≡ Some (Admits (request_at (map asked_paced requests) index))
+admits requests name index is =
+    let there : slice_get requests index ≡ find (has_name name) requests = found_there (has_name name) requests index is in
+    let asked : slice_get (map asked_paced requests) index ≡ request_named (map asked_paced requests) name =
+    slice_get-map asked_paced requests index ∙ ap (option_map asked_paced) there ∙ named_first requests name in
+    let inside : index < length (map asked_paced requests) = grind (arith, common_steps) in
+    ap (option_map (λ (asked : Asked). Admits asked)) (sym asked ∙ slice_get-get_or (map asked_paced requests) index nobody inside)
   where
     nobody : Asked
     nobody = record { name = []; octets = 0; every = 1; phase = 0; paths = [] }
 
 -- the request at an index, as calls share it
-pub shared_read : (requests : List (Arc PacedRequest Global)) (place : ℕ) (request : Arc PacedRequest Global) → place < length requests →
-    request ≡ slice_index_or requests place request → request_at (map asked_shared requests) place ≡ asked_shared request
-shared_read requests place request inside is =
-    get_or-map asked_shared requests place request (record { name = []; octets = 0; every = 1; phase = 0; paths = [] }) inside ∙ ap asked_shared (sym is)
+pub shared_read : (requests : List (Arc PacedRequest Global)) (index : ℕ) (request : Arc PacedRequest Global) → index < length requests →
+    request ≡ slice_index_or requests index request → request_at (map asked_shared requests) index ≡ asked_shared request
+shared_read requests index request inside is =
+    get_or-map asked_shared requests index request (record { name = []; octets = 0; every = 1; phase = 0; paths = [] }) inside ∙ ap asked_shared (sym is)
 
 -- no request has the name
-pub unknown_stream : (requests : List PacedRequest) (number called : ℕ) (order : Written) → place_named requests order.name ≡ None → order.wish ≡ Admit →
+pub unknown_stream : (requests : List PacedRequest) (number called : ℕ) (order : Written) → index_named requests order.name ≡ None → order.wish ≡ Admit →
     call_of_order (map asked_paced requests) number called order ≡ Err (UnknownStream number)
 unknown_stream requests number called order none wish =
     let asked : request_named (map asked_paced requests) order.name ≡ None =

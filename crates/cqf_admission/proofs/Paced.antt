@@ -17,9 +17,9 @@ use Rattle.cqf_model.specs.History.{Act, Admits, Asked, IsLegalHistory, Recorded
 use Rattle.cqf_model.specs.History.{seals, stream_by, streams_of}
 use Rattle.cqf_model.specs.Table.{is_held}
 use Rattle.cqf_laws_history.proofs.Granted.{granted}
-use Rattle.cqf_laws_history.proofs.Places.{entry_at}
-use Rattle.cqf_admission.specs.Turns.{AreOfGoodPaces, IsGoodPace, IsOfGoodPace}
-use Rattle.cqf_admission.proofs.TurnLemmas.{asked_is_good}
+use Rattle.cqf_laws_history.proofs.Indices.{entry_at}
+use Rattle.cqf_admission.specs.ActiveCycles.{AreOfGoodPaces, IsGoodPace, IsOfGoodPace}
+use Rattle.cqf_admission.proofs.ActiveCycleLemmas.{asked_is_good}
 
 -- 0 isn't a pace, nor is a number of cycles that doesn't divide 80
 no_pace : (every phase : ℕ) → 80 % every ≢ 0 → is_pace every phase ≡ false
@@ -33,21 +33,21 @@ too_long_a_pace every phase long = no_pace every phase (λ divides. omega (arith
 
 -- what holds for the paces of all granted requests holds for each stream's pace
 module _ (d : Domain) (entries : List Recorded) (P : Pace → Type 0)
-    (each : (place : ℕ) (e : Recorded) (asked : Asked) (receipt : Receipt) → slice_get entries place ≡ Some e → e.act ≡ Admits asked →
+    (each : (index : ℕ) (e : Recorded) (asked : Asked) (receipt : Receipt) → slice_get entries index ≡ Some e → e.act ≡ Admits asked →
     e.reply ≡ Accepted receipt → P (pace_of asked)) where
-  of_entry : (place effect : ℕ) (e : Recorded) (act : Act) (reply : Reply) → slice_get entries place ≡ Some e → e.act ≡ act → e.reply ≡ reply → (row : Row) →
+  of_entry : (index effect : ℕ) (e : Recorded) (act : Act) (reply : Reply) → slice_get entries index ≡ Some e → e.act ≡ act → e.reply ≡ reply → (row : Row) →
       Contains (stream_by d entries effect act reply) row → P row.pace
-  of_entry place effect e (Withdraws name) reply at acts replies row among = absurd (contains_none row among)
-  of_entry place effect e Seals reply at acts replies row among = absurd (contains_none row among)
-  of_entry place effect e (Admits asked) (RefusedFor refused) at acts replies row among = absurd (contains_none row among)
-  of_entry place effect e (Admits asked) Sealed at acts replies row among = absurd (contains_none row among)
-  of_entry place effect e (Admits asked) (Accepted receipt) at acts replies row among =
-      subst (λ (r : Row). P r.pace) (contains_one _ row among) (each place e asked receipt at acts replies)
+  of_entry index effect e (Withdraws name) reply at acts replies row among = absurd (contains_none row among)
+  of_entry index effect e Seals reply at acts replies row among = absurd (contains_none row among)
+  of_entry index effect e (Admits asked) (RefusedFor refused) at acts replies row among = absurd (contains_none row among)
+  of_entry index effect e (Admits asked) Sealed at acts replies row among = absurd (contains_none row among)
+  of_entry index effect e (Admits asked) (Accepted receipt) at acts replies row among =
+      subst (λ (r : Row). P r.pace) (contains_one _ row among) (each index e asked receipt at acts replies)
 
   pub each_pace : (row : Row) → Contains (streams_of d entries) row → P row.pace
   each_pace row among =
-      let gives : Option Recorded → ℕ → List Row = λ o place. option_map_or (λ (e : Recorded). stream_by d entries (seals (take place entries)) e.act e.reply) o [] in
-      let there = contains_from_below (λ place. gives (slice_get entries place) place) (length entries) row among in
+      let gives : Option Recorded → ℕ → List Row = λ o index. option_map_or (λ (e : Recorded). stream_by d entries (seals (take index entries)) e.act e.reply) o [] in
+      let there = contains_from_below (λ index. gives (slice_get entries index) index) (length entries) row among in
       let one = entry_at entries there.0 there.1 in
       of_entry there.0 (seals (take there.0 entries)) one.0 one.0.act one.0.reply one.1 refl refl row
       (subst (λ (o : Option Recorded). Contains (gives o there.0) row) one.1 there.2)
@@ -59,10 +59,10 @@ not_refused next effect (Some refused) receipt is = absurd cc
 
 -- so the streams of a legal history have good paces
 pub good_now : (d : Domain) (entries : List Recorded) → IsLegalHistory d entries → (row : Row) → Contains (streams_of d entries) row → IsOfGoodPace row
-good_now d entries legal = each_pace d entries IsGoodPace (λ place e asked receipt at acts replies.
-    let before = take place entries in
+good_now d entries legal = each_pace d entries IsGoodPace (λ index e asked receipt at acts replies.
+    let before = take index entries in
     let due : reply_to d before (Admits asked) ≡ Accepted receipt =
-    sym (legal.replies place e at ∙ ap (reply_to d before) acts) ∙ replies in
+    sym (legal.replies index e at ∙ ap (reply_to d before) acts) ∙ replies in
     let held = held_in d before (seals before) in
     let none = not_refused (next_number d before) (seals before) (refusal_of d held asked) receipt due in
     asked_is_good asked (granted d held asked none).pace)

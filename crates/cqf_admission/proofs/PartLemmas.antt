@@ -26,10 +26,10 @@ same_text (x ∷ xs) [] = refl
 same_text (x ∷ xs) (y ∷ ys) = (λ i. nat_eq-is x y i && same_text xs ys i)
 
 -- if one branch has no more names, the two don't part
-pub none_left : (names others : List (String Global)) (place : ℕ) → length others ≤ place →
-    part (branch_of (drop place names)) (branch_of (drop place others)) ≡ false
-none_left names others place past = ap (λ (xs : List (String Global)). part (branch_of (drop place names)) (branch_of xs)) (drop_all place others past)
-    ∙ with_none (branch_of (drop place names))
+pub none_left : (names others : List (String Global)) (index : ℕ) → length others ≤ index →
+    part (branch_of (drop index names)) (branch_of (drop index others)) ≡ false
+none_left names others index past = ap (λ (xs : List (String Global)). part (branch_of (drop index names)) (branch_of xs)) (drop_all index others past)
+    ∙ with_none (branch_of (drop index names))
   where
     -- no branch parts from one without names
     with_none : (xs : Branch) → part xs [] ≡ false

@@ -17,7 +17,7 @@ use Rattle.cqf_admission.specs.declared.orders.Ordered.{Ordered}
 use Rattle.cqf_admission.specs.Orders.{StandsIn}
 use Rattle.cqf_admission.specs.Placed.{LineEnds}
 use Rattle.cqf_admission.specs.declared.faults.ScriptFault.{ScriptFault}
-use Rattle.cqf_admission.specs.Script.{Called, administrators, called_behind, call_of_line, calls_from, script_of, sealed_behind}
+use Rattle.cqf_admission.specs.Script.{Called, administrators, called_after, call_of_line, calls_from, script_of, sealed_after}
 
 -- the calls so far, followed by those of the remaining lines, are those of the script; the lines so far are counted
 pub record IsReadSoFar (requests : List Asked) (seat cycles : ℕ) (text : List ℕ) (calls : List Called) (number sealed called : ℕ) (left : List ℕ) : Type 0 where
@@ -41,20 +41,20 @@ pub read-none : (requests : List Asked) (seat cycles : ℕ) (text : List ℕ) �
 read-none requests seat cycles text = record { goes_on = front_none _; counted = refl; inside = omega arith }
 
 -- how many calls of either kind come before the next line
-counts_one_more : (sealed called : ℕ) (line : List ℕ) → sealed_behind sealed line + called_behind called line ≡ sealed + called + 1
+counts_one_more : (sealed called : ℕ) (line : List ℕ) → sealed_after sealed line + called_after called line ≡ sealed + called + 1
 counts_one_more sealed called line = grind arith
 
 -- one more line was read
 pub read-one_more : (requests : List Asked) (seat cycles : ℕ) (text : List ℕ) (calls after : List Called)
     (number next sealed called sealed_then called_then : ℕ)
-    (left line behind : List ℕ) (call : Called) → IsReadSoFar requests seat cycles text calls number sealed called left
-    → lines_of left ≡ line ∷ lines_of behind → length behind < length left → call_of_line requests seat cycles number sealed called line ≡ Ok call
-    → after ≡ calls ++ call ∷ [] → next ≡ number + 1 → sealed_then ≡ sealed_behind sealed line → called_then ≡ called_behind called line
-    → IsReadSoFar requests seat cycles text after next sealed_then called_then behind
-read-one_more requests seat cycles text calls after number next sealed called sealed_then called_then left line behind call
+    (left line following : List ℕ) (call : Called) → IsReadSoFar requests seat cycles text calls number sealed called left
+    → lines_of left ≡ line ∷ lines_of following → length following < length left → call_of_line requests seat cycles number sealed called line ≡ Ok call
+    → after ≡ calls ++ call ∷ [] → next ≡ number + 1 → sealed_then ≡ sealed_after sealed line → called_then ≡ called_after called line
+    → IsReadSoFar requests seat cycles text after next sealed_then called_then following
+read-one_more requests seat cycles text calls after number next sealed called sealed_then called_then left line following call
     so_far first shorter good more is_next is_sealed is_called =
     let others : Result (List Called) ScriptFault =
-    calls_from requests seat cycles (number + 1) (sealed_behind sealed line) (called_behind called line) (lines_of behind) in
+    calls_from requests seat cycles (number + 1) (sealed_after sealed line) (called_after called line) (lines_of following) in
     let split : calls_from requests seat cycles number sealed called (lines_of left) ≡ and_first (Ok call) others =
     ap (calls_from requests seat cycles number sealed called) first ∙ ap (λ r. and_first r others) good in
     let moved : with_front (calls ++ call ∷ []) others ≡ calls_from requests seat cycles 1 0 0 (lines_of text) =
@@ -67,13 +67,13 @@ read-one_more requests seat cycles text calls after number next sealed called se
 
 -- the line with a fault is the first one
 pub read-fault : (requests : List Asked) (seat cycles : ℕ) (text : List ℕ) (calls : List Called)
-    (number sealed called : ℕ) (left line behind : List ℕ) (fault : ScriptFault)
+    (number sealed called : ℕ) (left line following : List ℕ) (fault : ScriptFault)
     → IsReadSoFar requests seat cycles text calls number sealed called left → seat ≡ administrators (lines_of text)
-    → lines_of left ≡ line ∷ lines_of behind → call_of_line requests seat cycles number sealed called line ≡ Err fault
+    → lines_of left ≡ line ∷ lines_of following → call_of_line requests seat cycles number sealed called line ≡ Err fault
     → script_of requests cycles text ≡ Err fault
-read-fault requests seat cycles text calls number sealed called left line behind fault so_far is_seat first bad =
+read-fault requests seat cycles text calls number sealed called left line following fault so_far is_seat first bad =
     let others : Result (List Called) ScriptFault =
-    calls_from requests seat cycles (number + 1) (sealed_behind sealed line) (called_behind called line) (lines_of behind) in
+    calls_from requests seat cycles (number + 1) (sealed_after sealed line) (called_after called line) (lines_of following) in
     let split : calls_from requests seat cycles number sealed called (lines_of left) ≡ Err fault =
     ap (calls_from requests seat cycles number sealed called) first ∙ ap (λ r. and_first r others) bad in
     ap (λ s. calls_from requests s cycles 1 0 0 (lines_of text)) (sym is_seat) ∙ sym so_far.goes_on ∙ ap (with_front calls) split
@@ -119,13 +119,13 @@ line_at text left line rest inside is =
     }
 
 -- one more order has a valid reference
-pub orders-one_more : (requests : List Asked) (text : List ℕ) (orders after : List Ordered) (left behind : List ℕ) (order : Ordered) →
-    AreOrdersSoFar requests text orders left → StandsIn requests text order.what → after ≡ orders ++ order ∷ [] → behind ≡ after_first is_line_feed left →
-    AreOrdersSoFar requests text after behind
-orders-one_more requests text orders after left behind order so_far stands more is =
+pub orders-one_more : (requests : List Asked) (text : List ℕ) (orders after : List Ordered) (left following : List ℕ) (order : Ordered) →
+    AreOrdersSoFar requests text orders left → StandsIn requests text order.what → after ≡ orders ++ order ∷ [] → following ≡ after_first is_line_feed left →
+    AreOrdersSoFar requests text after following
+orders-one_more requests text orders after left following order so_far stands more is =
     let n = position_or_len is_line_feed left + 1 in
     let b = length text - length left in
-    let cut : behind ≡ drop (b + n) text = is ∙ ap (drop n) so_far.rest ∙ drop-drop n b text in
+    let cut : following ≡ drop (b + n) text = is ∙ ap (drop n) so_far.rest ∙ drop-drop n b text in
     record {
       rest = cut ∙ end_of_text text (b + n) ∙ ap (λ (xs : List ℕ). drop (length text - length xs) text) (sym cut);
       stand = subst (λ (os : List Ordered). All (λ (o : Ordered). StandsIn requests text o.what) os) (sym more)

@@ -221,9 +221,9 @@ ring_pushed stands slots r s live = record {
 
     -- no slot lists it
     not_listed : (slot number : ℕ) → slot < 128 → length stands ≤ number → list_any (λ o. o == number) (get_or slots slot []) ≡ false
-    not_listed slot number low behind = elim (cases_Bool (list_any (λ o. o == number) (get_or slots slot []))) [
+    not_listed slot number low following = elim (cases_Bool (list_any (λ o. o == number) (get_or slots slot []))) [
       | inl some ↦ (
           let found = any_member (λ o. o == number) (get_or slots slot []) some in
-          absurd (omega (arith, r.inside slot found.0 low found.1, eqb-true found.0 number found.2, behind)))
+          absurd (omega (arith, r.inside slot found.0 low found.1, eqb-true found.0 number found.2, following)))
       | inr none ↦ none
     ]

@@ -16,7 +16,7 @@ use Rattle.cqf_model.specs.declared.history.Refused.TheVariants.{TooManyHops, Bu
 use Rattle.cqf_model.specs.declared.history.Reply.TheVariants.{Sealed, Refused as RefusedFor}
 use Rattle.cqf_model.specs.declared.topology.Row.{Row}
 use Rattle.cqf_model.specs.Domain.{Domain, is_text, node_named}
-use Rattle.cqf_model.specs.History.{Act, Asked, Recorded, Seals, broken_place, first_place, is_loop_at, is_pace, is_seal, is_stray, left_on, pace_of, refusal_of}
+use Rattle.cqf_model.specs.History.{Act, Asked, Recorded, Seals, broken_index, first_index, is_loop_at, is_pace, is_seal, is_stray, left_on, pace_of, refusal_of}
 use Rattle.cqf_model.specs.History.{refused_at, refused_if, reply_to, short_link, tree_of, withdraw_reply, withdraw_row}
 use Rattle.cqf_model.specs.Limits.{hops_within, most_calls, most_reserved, streams_within}
 use Rattle.cqf_model.specs.Table.{is_held}
@@ -48,13 +48,13 @@ pub refusal_is_entered : (d : Domain) (rows : List Row) (asked : Asked) (refused
 refusal_is_entered d rows asked =
     let tree = tree_of d asked.paths in
     let pace = pace_of asked in
-    let short = refused_at (λ l. BudgetShort l (left_on d rows tree pace l)) (short_link d rows (cost_of asked.octets) pace tree) in
+    let short = refused_at (λ l. BudgetShort l (left_on d rows tree pace l)) (short_link d rows (cost_of d.overhead asked.octets) pace tree) in
     let many = refused_if (nat_le (streams_within d.limits) (length rows)) TooManyStreams in
     let held = refused_if (list_any (λ (row : Row). is_text row.name asked.name) rows) NameHeld in
     let stray = refused_at (λ branch. NotATree branch) (least (is_stray asked.paths) (length asked.paths)) in
-    let looping = refused_at (λ place. LoopingPath place) (first_place (is_loop_at d) asked.paths) in
-    let broken = refused_at (λ place. BrokenPath place) (broken_place d asked.paths) in
-    let unknown = refused_at (λ place. UnknownNode place) (position (λ name. is_none (node_named d name)) (flat_map (λ branch. branch) asked.paths)) in
+    let looping = refused_at (λ index. LoopingPath index) (first_index (is_loop_at d) asked.paths) in
+    let broken = refused_at (λ index. BrokenPath index) (broken_index d asked.paths) in
+    let unknown = refused_at (λ index. UnknownNode index) (position (λ name. is_none (node_named d name)) (flat_map (λ branch. branch) asked.paths)) in
     let after_many = or_else many short in
     let after_held = or_else held after_many in
     let hops = refused_if (nat_lt (hops_within d.limits) (length tree)) TooManyHops in
@@ -71,14 +71,14 @@ refusal_is_entered d rows asked =
     (either_entered octets after_pace (if_entered (not (nat_le 64 asked.octets && nat_le asked.octets most_reserved)) BadOctets refl)
     (either_entered pace_refusal after_unknown (if_entered (not (is_pace asked.every asked.phase)) BadPace refl)
     (either_entered unknown after_broken
-    (at_entered (λ place. UnknownNode place) (position (λ name. is_none (node_named d name)) (flat_map (λ branch. branch) asked.paths)) (λ k. refl))
-    (either_entered broken after_looping (at_entered (λ place. BrokenPath place) (broken_place d asked.paths) (λ k. refl))
-    (either_entered looping after_stray (at_entered (λ place. LoopingPath place) (first_place (is_loop_at d) asked.paths) (λ k. refl))
+    (at_entered (λ index. UnknownNode index) (position (λ name. is_none (node_named d name)) (flat_map (λ branch. branch) asked.paths)) (λ k. refl))
+    (either_entered broken after_looping (at_entered (λ index. BrokenPath index) (broken_index d asked.paths) (λ k. refl))
+    (either_entered looping after_stray (at_entered (λ index. LoopingPath index) (first_index (is_loop_at d) asked.paths) (λ k. refl))
     (either_entered stray after_hops (at_entered (λ branch. NotATree branch) (least (is_stray asked.paths) (length asked.paths)) (λ k. refl))
     (either_entered hops after_held (if_entered (nat_lt (hops_within d.limits) (length tree)) TooManyHops refl)
     (either_entered held after_many (if_entered (list_any (λ (row : Row). is_text row.name asked.name) rows) NameHeld refl)
     (either_entered many short (if_entered (nat_le (streams_within d.limits) (length rows)) TooManyStreams refl)
-    (at_entered (λ l. BudgetShort l (left_on d rows tree pace l)) (short_link d rows (cost_of asked.octets) pace tree) (λ k. refl)))))))))))
+    (at_entered (λ l. BudgetShort l (left_on d rows tree pace l)) (short_link d rows (cost_of d.overhead asked.octets) pace tree) (λ k. refl)))))))))))
 
 -- a history that goes on keeps its running state
 pub run_on : HistoryGoesOn → SealsAreCounted →

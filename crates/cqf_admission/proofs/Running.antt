@@ -217,7 +217,7 @@ pub begins : (d : Domain) (slots : List (List ℕ)) → length slots ≡ 128 →
 begins d slots many none = record {
   running = record {
     legal = record {
-      replies = λ place e at. absurd (omega (arith, slice_get_within [] place e at));
+      replies = λ index e at. absurd (omega (arith, slice_get_within [] index e at));
       few_seals = omega arith;
       few_calls = omega arith;
     };

@@ -90,16 +90,16 @@ module _ (rows : List Row) (list : List (List ℕ × ℕ)) (name : List ℕ) (or
 
   module _ (numbered : ℕ) (known : AreNumbered list numbered rows) (none : row_numbered rows list name ≡ None) where
     -- a row of the name among the last rows is the row of the name
-    named_behind : (row : Row) → row_named (drop numbered rows) name ≡ Some row → row_named rows name ≡ Some row
-    named_behind row e =
+    named_after : (row : Row) → row_named (drop numbered rows) name ≡ Some row → row_named rows name ≡ Some row
+    named_after row e =
         let w = find_member (λ (r : Row). is_text r.name name) (drop numbered rows) row e in
         let there : Contains rows row = subst (λ (rs : List Row). Contains rs row) (take-append-drop numbered rows)
         (Contains-append_right (take numbered rows) (drop numbered rows) row w.0) in
         (the_row_named rows name order row).1 (there, is_text_same row.name name w.1)
 
     -- if the number of a name leads nowhere, the row of the name is one of the last
-    is_behind : (row : Row) → row_named rows name ≡ Some row → Contains (drop numbered rows) row
-    is_behind row found =
+    is_after : (row : Row) → row_named rows name ≡ Some row → Contains (drop numbered rows) row
+    is_after row found =
         let w = (the_row_named rows name order row).0 found in
         let parts : Contains (take numbered rows ++ drop numbered rows) row =
         subst (λ (rs : List Row). Contains rs row) (sym (take-append-drop numbered rows)) w.0 in
@@ -107,15 +107,15 @@ module _ (rows : List Row) (list : List (List ℕ × ℕ)) (name : List ℕ) (or
           | inl before ↦
               let is : IsNumbered list row = All-contains (IsNumbered list) (take numbered rows) row known.each before in
               absurd (none-some row (sym none ∙ leads_to row found is))
-          | inr behind ↦ behind
+          | inr following ↦ following
         ]
 
     -- so it is found among these
-    found_behind : (row : Row) → row_named rows name ≡ Some row → row_named (drop numbered rows) name ≡ Some row
-    found_behind row found =
+    found_after : (row : Row) → row_named rows name ≡ Some row → row_named (drop numbered rows) name ≡ Some row
+    found_after row found =
         let test = ap (λ (n : List ℕ). is_text n name) ((the_row_named rows name order row).0 found).1 ∙ is_text_itself name in
-        let s = find_some (λ (r : Row). is_text r.name name) (drop numbered rows) row (is_behind row found) test in
-        let same : s.0 ≡ row = same_Some s.0 row (sym (named_behind s.0 s.1) ∙ found) in
+        let s = find_some (λ (r : Row). is_text r.name name) (drop numbered rows) row (is_after row found) test in
+        let same : s.0 ≡ row = same_Some s.0 row (sym (named_after s.0 s.1) ∙ found) in
         s.1 ∙ ap (λ (r : Row). Some r) same
 
     -- if the number of a name leads nowhere, the row of the name is the one among the last rows
@@ -125,14 +125,14 @@ module _ (rows : List Row) (list : List (List ℕ × ℕ)) (name : List ℕ) (or
         at : (found : Option Row) → row_named rows name ≡ found → (last : Option Row) → row_named (drop numbered rows) name ≡ last →
             row_named (drop numbered rows) name ≡ found
         at None e None f = f
-        at None e (Some row) f = absurd (none-some row (sym e ∙ named_behind row f))
-        at (Some row) e last f = found_behind row e
+        at None e (Some row) f = absurd (none-some row (sym e ∙ named_after row f))
+        at (Some row) e last f = found_after row e
 
 -- the element at an index is among those from the index on
-behind : (rows : List Row) (k : ℕ) (row : Row) → k < length rows → row ≡ get_or rows k row → Contains (drop k rows) row
-behind [] k row low is = absurd (omega (arith, low))
-behind (x ∷ rows) zero row low is = subst (Contains (x ∷ rows)) (sym is) (contains_here x rows)
-behind (x ∷ rows) (suc k) row low is = behind rows k row (omega (arith, low)) is
+following : (rows : List Row) (k : ℕ) (row : Row) → k < length rows → row ≡ get_or rows k row → Contains (drop k rows) row
+following [] k row low is = absurd (omega (arith, low))
+following (x ∷ rows) zero row low is = subst (Contains (x ∷ rows)) (sym is) (contains_here x rows)
+following (x ∷ rows) (suc k) row low is = following rows k row (omega (arith, low)) is
 
 -- storing a row's number under its name makes one more row numbered
 pub one_numbered : (before after : BTreeMap (List ℕ) ℕ) (k : ℕ) (rows : List Row) (row : Row) → AllPairs (λ (a b : Row). a.name ≢ b.name) rows →
@@ -149,7 +149,7 @@ one_numbered before after k rows row pairs low is by known = record {
     differs : (other : Row) → Contains (take k rows) other → other.name ≢ row.name
     differs other earlier =
         pairs_across (λ (a b : Row). a.name ≢ b.name) (take k rows) (drop k rows) other row
-        (subst (AllPairs (λ (a b : Row). a.name ≢ b.name)) (sym (take-append-drop k rows)) pairs) earlier (behind rows k row low is)
+        (subst (AllPairs (λ (a b : Row). a.name ≢ b.name)) (sym (take-append-drop k rows)) pairs) earlier (following rows k row low is)
 
     numbered : (other : Row) → Contains (take k rows ++ row ∷ []) other → IsNumbered after.entries other
     numbered other among = elim (Contains-append_cases (take k rows) (row ∷ []) other among) [

@@ -17,24 +17,24 @@ use Rattle.cqf_admission.specs.Weighing.{FindsOpen, IsOpenAt, row_by, stand_refu
 use Rattle.cqf_admission.proofs.Found.{not_open}
 use Rattle.cqf_admission.proofs.RunLemmas.{refusal_is_entered, withdraw_entered}
 use Rattle.cqf_admission.proofs.Running.{granted_leaves, refused_leaves}
-use Rattle.cqf_admission.proofs.Weighed.{is_new, refusal_told}
+use Rattle.cqf_admission.proofs.Weighed.{is_new, refusal_reported}
 use Rattle.cqf_admission.proofs.Withdrawing.{withdrawn_leaves}
 
 module _ (goes_on : HistoryGoesOn) (count : SealsAreCounted) (sound : HeldAreSound) (before after : Figures) where
   module _ (d : Domain) (form : GoodForm) where
     -- a request that is refused because of the figures
     pub admits_refused : (refused : Refused) →
-        stand_refusal d before.stands form.name.now (cost_of form.octets) form.pace form.tree.now ≡ Some refused → StaysSo before after →
+        stand_refusal d before.stands form.name.now (cost_of d.overhead form.octets) form.pace form.tree.now ≡ Some refused → StaysSo before after →
         AdmitsForm d form before after (Err refused)
     admits_refused refused reason so entries asked seat r g few =
         let rows = held_in d entries (seals entries) in
-        let told : refusal_of d rows asked ≡ Some refused = refusal_told d entries before r asked form g ∙ reason in
-        refused_leaves d entries before r goes_on count seat (Admits asked) refused after (refusal_is_entered d rows asked refused told) few
-        (ap (admit_reply (next_number d entries) (seals entries)) told) so
+        let reported : refusal_of d rows asked ≡ Some refused = refusal_reported d entries before r asked form g ∙ reason in
+        refused_leaves d entries before r goes_on count seat (Admits asked) refused after (refusal_is_entered d rows asked refused reported) few
+        (ap (admit_reply (next_number d entries) (seals entries)) reported) so
 
     -- a request that is granted
     pub admits_granted : IsAccepted d → GrantedIsHeld → GrantedIsLast → (row : Row) (receipt : Receipt) →
-        stand_refusal d before.stands form.name.now (cost_of form.octets) form.pace form.tree.now ≡ None →
+        stand_refusal d before.stands form.name.now (cost_of d.overhead form.octets) form.pace form.tree.now ≡ None →
         receipt ≡ record { no = length before.stands; effect = record { 0 = before.sealed } } →
         row ≡ row_by form (length before.stands) (record { 0 = before.sealed }) →
         after.stands ≡ before.stands ++ held_by row ∷ [] → after.links ≡ before.links → after.slots ≡ before.slots → after.sealed ≡ before.sealed →

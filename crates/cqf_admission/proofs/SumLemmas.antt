@@ -12,7 +12,7 @@ use Rattle.cqf_admission.specs.Sums.{AreMoreOn, HaveRoomOn, part_on}
 
 -- the default hop for an index without one
 abbrev pub no_hop : Hop
-no_hop = record { link = 0; depth = 0; from = None }
+no_hop = record { link = 0; hop_number = 0; from = None }
 
 -- the link of a hop has the same index among the links
 pub link_at : (hops : List Hop) (k : ℕ) (none : Hop) → k < length hops → (k < length (links_in hops)) × ((get_or hops k none).link ≡ get_or (links_in hops) k 0)
@@ -60,17 +60,17 @@ module _ (links : List ℕ) (i : ℕ) (apart : AllPairs (λ (a b : ℕ). a ≢ b
   pub more_next : (sums now : List ℕ) (number : ℕ) → get_or links i 0 < length sums → AreMoreOn sums (take i links) number now →
       AreMoreOn sums (take (i + 1) links) number (set now (get_or links i 0) (get_or now (get_or links i 0) 0 + number))
   more_next sums now number low so_far = record {
-    as_many = length-set now place (get_or now place 0 + number) ∙ so_far.as_many;
-    each = λ l within. elim (cases_eq place l) [
-      | inl same ↦ subst (λ k. get_or (set now place (get_or now place 0 + number)) k 0 ≡ get_or sums k 0 + part_on (take (i + 1) links) number k) same
-          (omega (arith, get_or-set_same now place (get_or now place 0 + number) 0 (omega (arith, low, so_far.as_many)), so_far.each place low, here number, here_more number))
+    as_many = length-set now index (get_or now index 0 + number) ∙ so_far.as_many;
+    each = λ l within. elim (cases_eq index l) [
+      | inl same ↦ subst (λ k. get_or (set now index (get_or now index 0 + number)) k 0 ≡ get_or sums k 0 + part_on (take (i + 1) links) number k) same
+          (omega (arith, get_or-set_same now index (get_or now index 0 + number) 0 (omega (arith, low, so_far.as_many)), so_far.each index low, here number, here_more number))
       | inr other ↦
-          let kept = get_or-set_other now place l (get_or now place 0 + number) 0 (λ is. other (sym is)) in
+          let kept = get_or-set_other now index l (get_or now index 0 + number) 0 (λ is. other (sym is)) in
           omega (arith, kept, so_far.each l within, there_more number l other)
     ];
   } where
-    place : ℕ
-    place = get_or links i 0
+    index : ℕ
+    index = get_or links i 0
 
   -- there is still room for it, as there was
   pub room_next : (sums now : List ℕ) (number : ℕ) → get_or links i 0 < length sums → HaveRoomOn sums links number → AreMoreOn sums (take i links) number now →
@@ -79,21 +79,21 @@ module _ (links : List ℕ) (i : ℕ) (apart : AllPairs (λ (a b : ℕ). a ≢ b
       omega (arith, so_far.each (get_or links i 0) low, here number, in_all number, room (get_or links i 0) low)
 
   -- the same for the next link as a loop reads it, and its sum
-  pub room_step : (sums now : List ℕ) (number place here : ℕ) → place ≡ get_or links i 0 → All (λ (l : ℕ). l < length sums) links → here ≡ get_or now place here →
-      HaveRoomOn sums links number → AreMoreOn sums (take i links) number now → (place < length now) × (here + number < 2 ^ 64)
-  room_step sums now number place here same all is room so_far =
+  pub room_step : (sums now : List ℕ) (number index here : ℕ) → index ≡ get_or links i 0 → All (λ (l : ℕ). l < length sums) links → here ≡ get_or now index here →
+      HaveRoomOn sums links number → AreMoreOn sums (take i links) number now → (index < length now) × (here + number < 2 ^ 64)
+  room_step sums now number index here same all is room so_far =
       let low : get_or links i 0 < length sums = All-get_or (λ (l : ℕ). l < length sums) links i 0 inside all in
-      let within : place < length now = omega (arith, low, same, so_far.as_many) in
-      let fits : get_or now place 0 + number < 2 ^ 64 =
+      let within : index < length now = omega (arith, low, same, so_far.as_many) in
+      let fits : get_or now index 0 + number < 2 ^ 64 =
       subst (λ (p : ℕ). get_or now p 0 + number < 2 ^ 64) (sym same) (room_next sums now number low room so_far) in
-      (within, omega (arith, fits, is, get_or_default now place here 0 within))
+      (within, omega (arith, fits, is, get_or_default now index here 0 within))
 
-  pub more_step : (sums now : List ℕ) (number place here : ℕ) → place ≡ get_or links i 0 → All (λ (l : ℕ). l < length sums) links → here ≡ get_or now place here →
-      AreMoreOn sums (take i links) number now → AreMoreOn sums (take (i + 1) links) number (set now place (here + number))
-  more_step sums now number place here same all is so_far =
+  pub more_step : (sums now : List ℕ) (number index here : ℕ) → index ≡ get_or links i 0 → All (λ (l : ℕ). l < length sums) links → here ≡ get_or now index here →
+      AreMoreOn sums (take i links) number now → AreMoreOn sums (take (i + 1) links) number (set now index (here + number))
+  more_step sums now number index here same all is so_far =
       let low : get_or links i 0 < length sums = All-get_or (λ (l : ℕ). l < length sums) links i 0 inside all in
-      let within : place < length now = omega (arith, low, same, so_far.as_many) in
-      let value : here ≡ get_or now (get_or links i 0) 0 = is ∙ get_or_default now place here 0 within ∙ ap (λ (p : ℕ). get_or now p 0) same in
+      let within : index < length now = omega (arith, low, same, so_far.as_many) in
+      let value : here ≡ get_or now (get_or links i 0) 0 = is ∙ get_or_default now index here 0 within ∙ ap (λ (p : ℕ). get_or now p 0) same in
       subst₂ (λ (p n : ℕ). AreMoreOn sums (take (i + 1) links) number (set now p (n + number))) (sym same) (sym value) (more_next sums now number low so_far)
 
 -- before the first link the sums are unchanged

@@ -11,7 +11,7 @@ use Rattle.std.proofs.lemmas.Cmp.{ranked}
 use Rattle.std.proofs.lemmas.List.{get_or-map, length-map}
 use Rattle.std.proofs.lemmas.List.Elements.{All-map, Contains-get_or}
 use Rattle.std.proofs.lemmas.Option.{get_or_from_slice_get, slice_get_within}
-use Rattle.cqf_lists.proofs.Members.{contains_cases, contains_from_map, contains_map, contains_none, find_member, place_of_member}
+use Rattle.cqf_lists.proofs.Members.{contains_cases, contains_from_map, contains_map, contains_none, find_member, index_of_member}
 use Rattle.cqf_lists.proofs.Pairs.{pairs_head, pairs_tail}
 use Rattle.cqf_model.proofs.Texts.{is_text_itself, is_text_same}
 use Rattle.cqf_model.specs.declared.topology.Hop.{Hop}
@@ -82,7 +82,7 @@ module _ {X : Type 0} (row_in : X → Row) (xs : List X) (number : ℕ) (order :
       -- no element with the number is before the index or from it on
       nowhere : (x : X) → Contains xs x → (row_in x).no ≡ number → ⊥
       nowhere x held of_number =
-          let p = place_of_member xs x held in
+          let p = index_of_member xs x held in
           let there : get_or xs p.0 x ≡ x = get_or_from_slice_get xs p.0 x x p.1 in
           let is : (row_in (get_or xs p.0 x)).no ≡ number = ap (λ (y : X). (row_in y).no) there ∙ of_number in
           elim (cases_lt p.0 i) [
@@ -90,9 +90,9 @@ module _ {X : Type 0} (row_in : X → Row) (xs : List X) (number : ℕ) (order :
                 let less : (row_in (get_or xs p.0 x)).no < number =
                 ranked (row_in (get_or xs p.0 x)).no number Less (sym ((parted numbers_rise).0 p.0 x (omega arith) before)) in
                 absurd (omega (arith, less, is))
-            | inr behind ↦
+            | inr following ↦
                 let more : number < (row_in (get_or xs p.0 x)).no =
-                ranked (row_in (get_or xs p.0 x)).no number Greater (sym ((parted numbers_rise).1 p.0 x behind (slice_get_within xs p.0 x p.1))) in
+                ranked (row_in (get_or xs p.0 x)).no number Greater (sym ((parted numbers_rise).1 p.0 x following (slice_get_within xs p.0 x p.1))) in
                 absurd (omega (arith, more, is))
           ]
 
@@ -104,10 +104,10 @@ module _ {X : Type 0} (row_in : X → Row) (xs : List X) (number : ℕ) (order :
           absurd (nowhere p.0 p.1 (ap (λ (r : Row). r.no) p.2 ∙ w.1))
 
 -- the element at an index whose row has a number has the row with this number
-pub row_at : {X : Type 0} (row_in : X → Row) (xs : List X) (number : ℕ) (order : AreInOrder (map row_in xs)) (place : ℕ) (x : X) →
-    true ≡ nat_lt place (length xs) → x ≡ get_or xs place x → (row_in x).no ≡ number → row_of (map row_in xs) number ≡ Some (row_in x)
-row_at row_in xs number order place x inside there is =
-    let held = subst (Contains xs) (sym there) (Contains-get_or xs place x (leb-true (suc place) (length xs) (sym inside))) in
+pub row_at : {X : Type 0} (row_in : X → Row) (xs : List X) (number : ℕ) (order : AreInOrder (map row_in xs)) (index : ℕ) (x : X) →
+    true ≡ nat_lt index (length xs) → x ≡ get_or xs index x → (row_in x).no ≡ number → row_of (map row_in xs) number ≡ Some (row_in x)
+row_at row_in xs number order index x inside there is =
+    let held = subst (Contains xs) (sym there) (Contains-get_or xs index x (leb-true (suc index) (length xs) (sym inside))) in
     (the_row_of (map row_in xs) number order (row_in x)).1 (contains_map row_in xs x held, is)
 
 -- trees of the domain use its links

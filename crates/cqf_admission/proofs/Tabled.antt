@@ -13,8 +13,8 @@ use Rattle.cqf_model.specs.Domain.{Domain}
 use Rattle.cqf_model.specs.History.{Recorded, held_in, next_number, seals, streams_of}
 use Rattle.cqf_model.specs.Table.{is_held}
 use Rattle.cqf_laws_history.specs.StateLaws.{ended_row}
-use Rattle.cqf_laws_history.proofs.Growth.{streams_before, streams_behind}
-use Rattle.cqf_laws_history.proofs.Places.{admitted_at, admitted_before, with_end, withdrawn_before}
+use Rattle.cqf_laws_history.proofs.Growth.{streams_after, streams_before}
+use Rattle.cqf_laws_history.proofs.Indices.{admitted_at, admitted_before, with_end, withdrawn_before}
 use Rattle.cqf_admission.specs.Holdings.{Standing}
 use Rattle.cqf_admission.specs.Numbers.{AreNumbered, IsNumbered, number_in}
 use Rattle.cqf_admission.specs.State.{stands_in}
@@ -86,7 +86,7 @@ more_streams d entries e =
       arith,
       ap (λ (rows : List Row). length rows) (streams_before d entries e),
       length-map old (with_end (withdrawn_before whole (length entries))),
-      ap (λ (rows : List Row). length rows) (streams_behind d entries e),
+      ap (λ (rows : List Row). length rows) (streams_after d entries e),
       length-map (old ++ admitted_at d whole (length entries)) (with_end (withdrawn_before whole (suc (length entries)))),
       length-append old (admitted_at d whole (length entries)),
     )

@@ -21,12 +21,12 @@ pub taken_by : (stands : List Standing) (name : List ℕ) (o : Option ℕ) → M
 taken_by stands name None free = elim (cases_Bool (is_taken stands name)) [
   | inl t ↦ (
       let w = any_member (λ (stand : Standing). stand.held && is_text stand.row.name name) stands t in
-      let place = w.1.0 in
-      let at : get_or stands place w.0 ≡ w.0 = w.1.2 in
+      let index = w.1.0 in
+      let at : get_or stands index w.0 ≡ w.0 = w.1.2 in
       let parts = and_parts w.0.held (is_text w.0.row.name name) w.2 in
-      absurd (free place (record {
+      absurd (free index (record {
         inside = w.1.1;
-        held = λ d. ap (λ (s : Standing). s.held) (get_or_default stands place d w.0 w.1.1 ∙ at) ∙ parts.0;
+        held = λ d. ap (λ (s : Standing). s.held) (get_or_default stands index d w.0 w.1.1 ∙ at) ∙ parts.0;
       }) w.0 (ap (λ (s : Standing). s.row.name) at ∙ is_text_same w.0.row.name name parts.1)))
   | inr f ↦ f
 ]

@@ -56,45 +56,45 @@ all_of_it tree whole most (inl e) few within = e
 all_of_it tree whole most (inr more) few within = absurd (omega (arith, more.0, few, within))
 
 -- the first hops of a branch have been added to a tree
-pub record AreAdded (d : Domain) (branch : Branch) (first tree : List Hop) (place : ℕ) (before : Option ℕ) : Type 0 where
+pub record AreAdded (d : Domain) (branch : Branch) (first tree : List Hop) (index : ℕ) (before : Option ℕ) : Type 0 where
   pub added : (whole : List Hop) → AreAsFarAsRoom first whole →
-      AreAsFarAsRoom tree (fold keep_link whole (each_below (λ k. hop_to (k + 1) (link_before d branch k) (link_at d branch k)) place))
-  pub behind : before ≡ link_before d branch place
+      AreAsFarAsRoom tree (fold keep_link whole (each_below (λ k. hop_to (k + 1) (link_before d branch k) (link_at d branch k)) index))
+  pub following : before ≡ link_before d branch index
 
 -- before the first index nothing is added
 pub none_added : (d : Domain) (branch : Branch) (first : List Hop) → AreAdded d branch first first 0 None
-none_added d branch first = record { added = λ whole far. far; behind = refl }
+none_added d branch first = record { added = λ whole far. far; following = refl }
 
 -- one more index, with a link and without one
-module _ (d : Domain) (branch : Branch) (first tree after : List Hop) (place : ℕ) (before : Option ℕ)
-    (h : AreAdded d branch first tree place before) where
+module _ (d : Domain) (branch : Branch) (first tree after : List Hop) (index : ℕ) (before : Option ℕ)
+    (h : AreAdded d branch first tree index before) where
   -- one more index adds its hop if there is a link
-  grown : (whole : List Hop) (o : Option ℕ) → link_at d branch place ≡ o →
-      fold keep_link whole (each_below (λ k. hop_to (k + 1) (link_before d branch k) (link_at d branch k)) (suc place))
-      ≡ fold keep_link (fold keep_link whole (each_below (λ k. hop_to (k + 1) (link_before d branch k) (link_at d branch k)) place))
-      (hop_to (place + 1) before o)
+  grown : (whole : List Hop) (o : Option ℕ) → link_at d branch index ≡ o →
+      fold keep_link whole (each_below (λ k. hop_to (k + 1) (link_before d branch k) (link_at d branch k)) (suc index))
+      ≡ fold keep_link (fold keep_link whole (each_below (λ k. hop_to (k + 1) (link_before d branch k) (link_at d branch k)) index))
+      (hop_to (index + 1) before o)
   grown whole o e =
-      let hops = each_below (λ k. hop_to (k + 1) (link_before d branch k) (link_at d branch k)) place in
-      fold-append keep_link whole hops (hop_to (place + 1) (link_before d branch place) (link_at d branch place))
-      ∙ ap (λ (b : Option ℕ). fold keep_link (fold keep_link whole hops) (hop_to (place + 1) b (link_at d branch place))) (sym h.behind)
-      ∙ ap (λ (p : Option ℕ). fold keep_link (fold keep_link whole hops) (hop_to (place + 1) before p)) e
+      let hops = each_below (λ k. hop_to (k + 1) (link_before d branch k) (link_at d branch k)) index in
+      fold-append keep_link whole hops (hop_to (index + 1) (link_before d branch index) (link_at d branch index))
+      ∙ ap (λ (b : Option ℕ). fold keep_link (fold keep_link whole hops) (hop_to (index + 1) b (link_at d branch index))) (sym h.following)
+      ∙ ap (λ (p : Option ℕ). fold keep_link (fold keep_link whole hops) (hop_to (index + 1) before p)) e
 
   -- a link is added
-  pub one_added : (l : ℕ) → link_at d branch place ≡ Some l →
-      ((whole : List Hop) → AreAsFarAsRoom tree whole → AreAsFarAsRoom after (keep_link whole (record { link = l; depth = place + 1; from = before }))) →
-      AreAdded d branch first after (suc place) (Some l)
+  pub one_added : (l : ℕ) → link_at d branch index ≡ Some l →
+      ((whole : List Hop) → AreAsFarAsRoom tree whole → AreAsFarAsRoom after (keep_link whole (record { link = l; hop_number = index + 1; from = before }))) →
+      AreAdded d branch first after (suc index) (Some l)
   one_added l e adds = record {
     added = λ whole far.
         subst (AreAsFarAsRoom after) (sym (grown whole (Some l) e))
-        (adds (fold keep_link whole (each_below (λ k. hop_to (k + 1) (link_before d branch k) (link_at d branch k)) place)) (h.added whole far));
-    behind = sym e;
+        (adds (fold keep_link whole (each_below (λ k. hop_to (k + 1) (link_before d branch k) (link_at d branch k)) index)) (h.added whole far));
+    following = sym e;
   }
 
   -- nothing is added if there is no link
-  pub none_more : link_at d branch place ≡ None → AreAdded d branch first tree (suc place) None
+  pub none_more : link_at d branch index ≡ None → AreAdded d branch first tree (suc index) None
   none_more e = record {
     added = λ whole far. subst (AreAsFarAsRoom tree) (sym (grown whole None e)) (h.added whole far);
-    behind = sym e;
+    following = sym e;
   }
 
 -- any of the branches has at most 65 nodes

@@ -17,16 +17,17 @@ use Rattle.cqf_model.specs.Table.{cost_on, links_in, uses}
 use Rattle.cqf_model.proofs.Hops.{hops_apart, hops_inside}
 use Rattle.cqf_laws_history.specs.StateLaws.{HeldAreSound, granted_row}
 use Rattle.cqf_laws_history.proofs.Granted.{granted_fits_a_row}
-use Rattle.cqf_admission.specs.Turns.{IsGoodPace}
-use Rattle.cqf_admission.proofs.TurnLemmas.{asked_is_good}
+use Rattle.cqf_admission.specs.ActiveCycles.{IsGoodPace}
+use Rattle.cqf_admission.proofs.ActiveCycleLemmas.{asked_is_good}
 use Rattle.cqf_admission.specs.declared.state.GoodForm.{GoodForm}
 use Rattle.cqf_admission.specs.Holdings.{IsFree, Standing, held_cost}
 use Rattle.cqf_admission.specs.Rows.{IsSummable}
 use Rattle.cqf_admission.specs.State.{Figures, IsGoodFormOf, IsStateOf}
 use Rattle.cqf_admission.specs.Streams.{stand_of}
 use Rattle.cqf_admission.specs.Weighing.{is_taken, row_by, stand_refusal}
+use Rattle.cqf_units.proofs.Costs.{cost_within}
 use Rattle.cqf_admission.proofs.GrantLemmas.{form_paced, granted_countable, refusal_later}
-use Rattle.cqf_admission.proofs.Told.{costs, free_where_none, state_told}
+use Rattle.cqf_admission.proofs.Reported.{costs, free_where_none, state_reported}
 
 -- one more stream, from a request with no reason against it
 pub record IsNew (d : Domain) (entries : List Recorded) (before : Figures) (asked : Asked) (form : GoodForm) : Type 0 where
@@ -75,6 +76,7 @@ module _ (d : Domain) (asked : Asked) (form : GoodForm) (g : IsGoodFormOf d aske
         no = number;
         name = g.name i;
         octets = g.octets i;
+        overhead = g.overhead i;
         pace = g.paced i;
         tree = record { items = g.tree i };
         admitted = effect;
@@ -82,28 +84,29 @@ module _ (d : Domain) (asked : Asked) (form : GoodForm) (g : IsGoodFormOf d aske
       }
 
   -- its cost can be added to sums by link
-  form_summable : (number : ℕ) (effect : Cycle) → IsSummable (length d.links) (row_by form number effect)
-  form_summable number effect = record {
-    countable = granted_countable d (row_by form number effect) asked number effect.0 (form_row number effect.0) g.most_octets;
+  form_summable : IsAccepted d → (number : ℕ) (effect : Cycle) → IsSummable (length d.links) (row_by form number effect)
+  form_summable ok number effect = record {
+    countable = granted_countable d (row_by form number effect) asked number effect.0 ok.overhead_short (form_row number effect.0) g.most_octets;
     paced = good;
   }
 
 module _ (d : Domain) (entries : List Recorded) (before : Figures) (r : IsStateOf d entries before) (asked : Asked) (form : GoodForm)
     (g : IsGoodFormOf d asked form) where
   -- the reasons against it are those that the figures give
-  pub refusal_told : refusal_of d (held_in d entries (seals entries)) asked
-      ≡ stand_refusal d before.stands form.name.now (cost_of form.octets) form.pace form.tree.now
-  refusal_told =
+  pub refusal_reported : refusal_of d (held_in d entries (seals entries)) asked
+      ≡ stand_refusal d before.stands form.name.now (cost_of d.overhead form.octets) form.pace form.tree.now
+  refusal_reported =
       refusal_later d (held_in d entries (seals entries)) asked g.none
-      ∙ sym (state_told d entries asked before.stands form.name.now (cost_of form.octets) form.pace form.tree.now r.0.are_streams g.name
-      (ap cost_of g.octets) g.paced g.tree)
+      ∙ sym (state_reported d entries asked before.stands form.name.now (cost_of d.overhead form.octets) form.pace form.tree.now r.0.are_streams g.name
+      (ap (cost_of d.overhead) g.octets) g.paced g.tree)
 
   -- there is room for its cost in a sum
   fits : HeldAreSound → IsAccepted d → (l cycle number : ℕ) (effect : Cycle) →
       held_cost before.stands l cycle + cost_on (row_by form number effect) l cycle < 2 ^ 64
   fits sound ok l cycle number effect =
-      let part : cost_on (row_by form number effect) l cycle ≤ cost_of form.octets =
-      part_within (uses form.tree.now form.pace l cycle) (cost_of form.octets) in
+      let own : cost_of form.overhead form.octets ≡ cost_of d.overhead form.octets = ap (λ o. cost_of o form.octets) g.overhead in
+      let part : cost_on (row_by form number effect) l cycle ≤ cost_of form.overhead form.octets =
+      part_within (uses form.tree.now form.pace l cycle) (cost_of form.overhead form.octets) in
       let most : budget d l ≤ 11 * (d.cycle_time - guard_of d l) = budget_within d l in
       omega (
         arith,
@@ -111,22 +114,22 @@ module _ (d : Domain) (entries : List Recorded) (before : Figures) (r : IsStateO
         most,
         ok.cycle_most,
         part,
-        ap cost_of g.octets,
-        div-le_self asked.octets
-            64,
+        own,
+        cost_within d.overhead form.octets ok.overhead_short,
+        g.octets,
         g.most_octets,
       )
 
   -- if the figures give no reason against it, it is one more stream
-  pub is_new : HeldAreSound → IsAccepted d → stand_refusal d before.stands form.name.now (cost_of form.octets) form.pace form.tree.now ≡ None → IsNew d entries before asked form
+  pub is_new : HeldAreSound → IsAccepted d → stand_refusal d before.stands form.name.now (cost_of d.overhead form.octets) form.pace form.tree.now ≡ None → IsNew d entries before asked form
   is_new sound ok free =
-      let none : refusal_of d (held_in d entries (seals entries)) asked ≡ None = refusal_told ∙ free in
+      let none : refusal_of d (held_in d entries (seals entries)) asked ≡ None = refusal_reported ∙ free in
       record {
         none = none;
         few_hops = omega (arith, granted_fits_a_row d (held_in d entries (seals entries)) asked none, ap (λ (hops : List Hop). length hops) g.tree);
         is = (λ i. row_by form (numbers i) (record { 0 = r.0.running.counted i })) ∙ form_row d asked form g (next_number d entries) (seals entries);
         free = free_where_none before.stands form.name.now (first_not_due (is_taken before.stands form.name.now) _ free);
-        summable = form_summable d asked form g;
+        summable = form_summable d asked form g ok;
         fits = fits sound ok;
       }
     where

@@ -13,7 +13,7 @@ use Rattle.cqf_model.specs.Domain.{Domain}
 use Rattle.cqf_model.specs.History.{IsLegalHistory, Recorded, held_in, next_number, seals, streams_of}
 use Rattle.cqf_model.specs.Table.{is_held, residence}
 use Rattle.cqf_laws_history.specs.LedgerLaws.{end_from, ends_in}
-use Rattle.cqf_laws_history.proofs.Ends.{ends_are_soon, slot_tells}
+use Rattle.cqf_laws_history.proofs.Ends.{ends_are_soon, slot_reports}
 use Rattle.cqf_admission.specs.Holdings.{AreLetGo, IsHeldAt, Standing, with_row}
 use Rattle.cqf_admission.specs.Rows.{ended}
 use Rattle.cqf_admission.specs.Ring.{IsRing, in_slot}
@@ -63,7 +63,7 @@ slot_is_end d entries row legal c = elim (cases_Bool (is_held row (seals entries
         (record { held = refl; number = refl }) held e in
         ap (λ (x : Option Cycle). is_held row (seals entries) && option_map_or (λ (w : Cycle). (w.0 + residence row) % 128 == (seals entries + 1) % 128) x false)
         e
-        ∙ ap (λ (b : Bool). is_held row (seals entries) && b) (sym (slot_tells (seals entries) (end_from row w) soon.later soon.soon))
+        ∙ ap (λ (b : Bool). is_held row (seals entries) && b) (sym (slot_reports (seals entries) (end_from row w) soon.later soon.soon))
         ∙ sym (ap (λ (x : Option Cycle). is_held row (seals entries) && option_map_or (λ (w : Cycle). end_from row w == seals entries + 1) x false) e)
 
 pub ring_lists_ends : RingListsEnds

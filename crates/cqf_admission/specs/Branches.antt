@@ -10,7 +10,7 @@ use Rattle.cqf_model.specs.declared.history.Refused.TheVariants.{UnknownNode, Br
 use Rattle.cqf_model.specs.declared.topology.Hop.{Hop}
 use Rattle.cqf_model.specs.declared.topology.Node.{Node}
 use Rattle.cqf_model.specs.Domain.{Domain, node_named}
-use Rattle.cqf_model.specs.History.{Branch, broken_place, first_place, is_broken_at, is_loop_at, is_stray, node_at, refused_at, refused_if, tree_of}
+use Rattle.cqf_model.specs.History.{Branch, broken_index, first_index, is_broken_at, is_loop_at, is_stray, node_at, refused_at, refused_if, tree_of}
 use Rattle.cqf_model.specs.Limits.{hops_within, most_hops}
 use Rattle.cqf_admission.specs.declared.branches.Check.{Check}
 use Rattle.cqf_admission.specs.declared.branches.Check.TheVariants.{Known, Whole, Simple}
@@ -40,18 +40,18 @@ fault_in d Simple branch = least (is_loop_at d branch) (length branch + 1)
 -- the first index at which any of the branches fails a check; indexes count through the branches as one list
 abbrev pub first_fault : Domain → Check → List Branch → Option ℕ
 first_fault d check [] = None
-first_fault d check (branch ∷ paths) = or_else (fault_in d check branch) (option_map (λ place. length branch + place) (first_fault d check paths))
+first_fault d check (branch ∷ paths) = or_else (fault_in d check branch) (option_map (λ index. length branch + index) (first_fault d check paths))
 
 -- the number of names in all branches
-abbrev pub places_of : List Branch → ℕ
-places_of paths = length (flat_map (λ branch. branch) paths)
+abbrev pub indices_of : List Branch → ℕ
+indices_of paths = length (flat_map (λ branch. branch) paths)
 
 -- the first reason why the branches are no tree
 abbrev pub tree_refusal : Domain → List Branch → Option Refused
 tree_refusal d paths =
-    or_else (refused_at (λ place. UnknownNode place) (position (λ name. is_none (node_named d name)) (flat_map (λ branch. branch) paths)))
-    (or_else (refused_at (λ place. BrokenPath place) (broken_place d paths))
-    (or_else (refused_at (λ place. LoopingPath place) (first_place (is_loop_at d) paths))
+    or_else (refused_at (λ index. UnknownNode index) (position (λ name. is_none (node_named d name)) (flat_map (λ branch. branch) paths)))
+    (or_else (refused_at (λ index. BrokenPath index) (broken_index d paths))
+    (or_else (refused_at (λ index. LoopingPath index) (first_index (is_loop_at d) paths))
     (or_else (refused_at (λ branch. NotATree branch) (least (is_stray paths) (length paths)))
     (refused_if (nat_lt (hops_within d.limits) (length (tree_of d paths))) TooManyHops))))
 

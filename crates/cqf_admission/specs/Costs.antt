@@ -6,7 +6,7 @@ use Rattle.cqf_model.specs.declared.topology.Pace.{Pace}
 use Rattle.cqf_model.specs.declared.topology.Row.{Row}
 use Rattle.cqf_model.specs.Domain.{Domain, budget}
 use Rattle.cqf_model.specs.Limits.{most_every}
-use Rattle.cqf_model.specs.Paces.{is_turn}
+use Rattle.cqf_model.specs.Paces.{is_active}
 use Rattle.cqf_model.specs.Table.{link_cost}
 
 -- the most that the streams cost on a link in any cycle
@@ -19,9 +19,9 @@ left_beside d rows l = budget d l - most_cost rows l
 
 -- the most that the streams cost on a hop's link in the cycles in which frames of a pace use the hop; and what the link has left besides
 -- this
-abbrev pub most_in_turns : List Row → Pace → Hop → ℕ
-most_in_turns rows pace hop =
-    fold max 0 (each_below (λ cycle. if is_turn pace hop.depth cycle then link_cost rows hop.link cycle ∷ [] else []) most_every)
+abbrev pub most_in_active_cycles : List Row → Pace → Hop → ℕ
+most_in_active_cycles rows pace hop =
+    fold max 0 (each_below (λ cycle. if is_active pace hop.hop_number cycle then link_cost rows hop.link cycle ∷ [] else []) most_every)
 
-abbrev pub left_in_turns : Domain → List Row → Pace → Hop → ℕ
-left_in_turns d rows pace hop = budget d hop.link - most_in_turns rows pace hop
+abbrev pub left_in_active_cycles : Domain → List Row → Pace → Hop → ℕ
+left_in_active_cycles d rows pace hop = budget d hop.link - most_in_active_cycles rows pace hop

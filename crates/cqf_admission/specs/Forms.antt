@@ -23,7 +23,7 @@ IsFormOf d asked (Good row) = IsRowOfGoodForm d asked row
 
 -- nothing is known of any of the forms
 abbrev pub AreUnseen : List RequestForm → Type 0
-AreUnseen forms = (place : ℕ) → place < length forms → slice_index_or forms place Unseen ≡ Unseen
+AreUnseen forms = (index : ℕ) → index < length forms → slice_index_or forms index Unseen ≡ Unseen
 
 -- the form is known
 abbrev pub IsSeen : RequestForm → Type 0

@@ -10,9 +10,9 @@ use Rattle.cqf_lists.specs.Lists.{each_below}
 use Rattle.cqf_model.specs.declared.topology.Pace.{Pace}
 use Rattle.cqf_model.specs.declared.topology.Row.{Row}
 use Rattle.cqf_model.specs.Limits.{most_every}
-use Rattle.cqf_model.specs.Paces.{is_turn}
+use Rattle.cqf_model.specs.Paces.{is_active}
 use Rattle.cqf_model.specs.Table.{cost_on}
-use Rattle.cqf_admission.specs.Turns.{Turned, sum_on}
+use Rattle.cqf_admission.specs.ActiveCycles.{SumsByCycle, sum_on}
 use Rattle.cqf_admission.specs.Rows.{IsSummable, ended}
 use Rattle.cqf_admission.specs.declared.holdings.Stand.{Stand}
 
@@ -46,7 +46,7 @@ abbrev pub held_most : List Standing → ℕ → ℕ
 held_most rows l = fold max 0 (each_below (λ cycle. held_cost rows l cycle ∷ []) most_every)
 
 abbrev pub held_most_at : List Standing → ℕ → Pace → ℕ → ℕ
-held_most_at rows l pace depth = fold max 0 (each_below (λ cycle. if is_turn pace depth cycle then held_cost rows l cycle ∷ [] else []) most_every)
+held_most_at rows l pace hop_number = fold max 0 (each_below (λ cycle. if is_active pace hop_number cycle then held_cost rows l cycle ∷ [] else []) most_every)
 
 -- the number of held streams
 abbrev pub held_one : Standing → ℕ
@@ -90,7 +90,7 @@ held_under by_name name = get (slice_cmp nat_cmp) by_name name
 
 -- the figures are those of the streams: under each name the number of the stream held under it, the numbers of the held streams, and the
 -- sums
-pub record HaveFigures (rows : List Standing) (under : List ℕ → Option ℕ) (held : List ℕ) (sums : Turned) : Type 0 where
+pub record HaveFigures (rows : List Standing) (under : List ℕ → Option ℕ) (held : List ℕ) (sums : SumsByCycle) : Type 0 where
   pub along : (stand : Standing) → Contains rows stand → IsSummable sums.links stand.row
   pub costs : (l cycle : ℕ) → l < sums.links → sum_on sums l cycle ≡ held_cost rows l cycle
   pub numbers : held ≡ numbers_from 0 rows

@@ -35,17 +35,19 @@ pub record IsPaceOf (every phase : ℕ) (pace : Pace) : Type 0 where
 pub record IsOfGoodForm (d : Domain) (asked : Asked) (judged : JudgedRequest) : Type 0 where
   pub none : form_refusal d asked ≡ None
   pub named : judged.name ≡ asked.name
-  pub costs : judged.cost.0 ≡ cost_of asked.octets
+  pub costs : judged.cost.0 ≡ cost_of d.overhead asked.octets
   pub linked : judged.tree.items ≡ tree_of d asked.paths
   pub paced : judged.pace ≡ pace_of asked
   pub most_octets : asked.octets ≤ most_reserved
+  pub overhead : judged.overhead ≡ d.overhead
 
 -- the judgement of the request of good form that has this row
 pub record IsJudgedOf (row : Row) (judged : JudgedRequest) : Type 0 where
   pub named : judged.name ≡ row.name
-  pub costs : judged.cost.0 ≡ cost_of row.octets
+  pub costs : judged.cost.0 ≡ cost_of row.overhead row.octets
   pub paced : judged.pace ≡ row.pace
   pub linked : judged.tree.items ≡ row.tree.items
+  pub overhead : judged.overhead ≡ row.overhead
 
 -- the row of a judged request of good form, with a number and the cycle from which it is live
 abbrev pub row_by : JudgedRequest → ℕ → ℕ → Cycle → Row
@@ -53,6 +55,7 @@ row_by judged octets number effect = record {
   no = number;
   name = judged.name;
   octets = octets;
+  overhead = judged.overhead;
   pace = judged.pace;
   tree = record { items = judged.tree.items };
   admitted = effect;

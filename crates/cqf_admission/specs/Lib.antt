@@ -1,6 +1,6 @@
 pub mod Branches
 pub mod Sums
-pub mod Turns
+pub mod ActiveCycles
 pub mod Names
 pub mod Orders
 pub mod Admission

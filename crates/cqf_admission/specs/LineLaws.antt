@@ -12,10 +12,10 @@ use Rattle.cqf_admission.specs.Script.{Called, administrators, request_named, sc
 
 -- the number of Seals among the lines before an index, and the number of other lines
 abbrev pub seal_lines_before : List (List ℕ) → ℕ → ℕ
-seal_lines_before lines place = count_by is_seal_line (take place lines)
+seal_lines_before lines index = count_by is_seal_line (take index lines)
 
 abbrev pub other_lines_before : List (List ℕ) → ℕ → ℕ
-other_lines_before lines place = count_by (λ line. not (is_seal_line line)) (take place lines)
+other_lines_before lines index = count_by (λ line. not (is_seal_line line)) (take index lines)
 
 -- the line writes an order, and isn't a Seal
 pub record WritesOrder (line : List ℕ) (order : Written) : Type 0 where
@@ -28,24 +28,24 @@ IsActFor requests Admit name act = (asked : Asked) × (request_named requests na
 IsActFor requests Withdraw name act = act ≡ Withdraws name
 
 -- the line at an index closes a cycle: there are fewer Seals before it than cycles. The call's seat is the number of administrators
-pub record LineClosesCycle (cycles : ℕ) (lines : List (List ℕ)) (place : ℕ) (line : List ℕ) (call : Called) : Type 0 where
+pub record LineClosesCycle (cycles : ℕ) (lines : List (List ℕ)) (index : ℕ) (line : List ℕ) (call : Called) : Type 0 where
   pub seal : is_seal_line line ≡ true
-  pub room : seal_lines_before lines place < cycles
+  pub room : seal_lines_before lines index < cycles
   pub seat : call.0 ≡ administrators lines
   pub act : call.1 ≡ Seals
 
 -- the line at an index calls for what its order says: fewer than 100,000 of the lines before it aren't Seals. The call's seat is the
 -- administrator
-pub record MakesCall (requests : List Asked) (lines : List (List ℕ)) (place : ℕ) (line : List ℕ) (call : Called) : Type 0 where
+pub record MakesCall (requests : List Asked) (lines : List (List ℕ)) (index : ℕ) (line : List ℕ) (call : Called) : Type 0 where
   pub order : Written
   pub writes : WritesOrder line order
-  pub room : other_lines_before lines place < most_calls
+  pub room : other_lines_before lines index < most_calls
   pub seat : call.0 ≡ order.seat
   pub act : IsActFor requests order.wish order.name call.1
 
 -- what the line at an index calls for
 abbrev pub CallsFor : List Asked → ℕ → List (List ℕ) → ℕ → List ℕ → Called → Type 0
-CallsFor requests cycles lines place line call = LineClosesCycle cycles lines place line call ⊎ MakesCall requests lines place line call
+CallsFor requests cycles lines index line call = LineClosesCycle cycles lines index line call ⊎ MakesCall requests lines index line call
 
 -- the line has none of the forms of a line
 pub record HasNoForm (line : List ℕ) : Type 0 where
@@ -60,39 +60,39 @@ pub record AdmitsNone (requests : List Asked) (line : List ℕ) : Type 0 where
   pub none : request_named requests order.name ≡ None
 
 -- the line is a Seal, and there are already as many Seals before it as cycles
-pub record IsOneSealTooMany (cycles : ℕ) (lines : List (List ℕ)) (place : ℕ) (line : List ℕ) : Type 0 where
+pub record IsOneSealTooMany (cycles : ℕ) (lines : List (List ℕ)) (index : ℕ) (line : List ℕ) : Type 0 where
   pub seal : is_seal_line line ≡ true
-  pub full : cycles ≤ seal_lines_before lines place
+  pub full : cycles ≤ seal_lines_before lines index
 
 -- the line is call 100,001 among those that aren't Seals, and has no other fault
-pub record IsOneCallTooMany (requests : List Asked) (lines : List (List ℕ)) (place : ℕ) (line : List ℕ) : Type 0 where
+pub record IsOneCallTooMany (requests : List Asked) (lines : List (List ℕ)) (index : ℕ) (line : List ℕ) : Type 0 where
   pub order : Written
   pub writes : WritesOrder line order
   pub act : Act
   pub is_act : IsActFor requests order.wish order.name act
-  pub full : most_calls ≤ other_lines_before lines place
+  pub full : most_calls ≤ other_lines_before lines index
 
 -- the fault of the line at an index. A fault has the line's number, which counts from 1
 abbrev pub IsFaultOfLine : List Asked → ℕ → List (List ℕ) → ℕ → List ℕ → ScriptFault → Type 0
-IsFaultOfLine requests cycles lines place line (BadLine number) = (number ≡ place + 1) × HasNoForm line
-IsFaultOfLine requests cycles lines place line (UnknownStream number) = (number ≡ place + 1) × AdmitsNone requests line
-IsFaultOfLine requests cycles lines place line (TooMany number) =
-    (number ≡ place + 1) × (IsOneSealTooMany cycles lines place line ⊎ IsOneCallTooMany requests lines place line)
-IsFaultOfLine requests cycles lines place line Memory = ⊥
+IsFaultOfLine requests cycles lines index line (BadLine number) = (number ≡ index + 1) × HasNoForm line
+IsFaultOfLine requests cycles lines index line (UnknownStream number) = (number ≡ index + 1) × AdmitsNone requests line
+IsFaultOfLine requests cycles lines index line (TooMany number) =
+    (number ≡ index + 1) × (IsOneSealTooMany cycles lines index line ⊎ IsOneCallTooMany requests lines index line)
+IsFaultOfLine requests cycles lines index line Memory = ⊥
 
 -- some calls are those of some lines: one call for each line, in order, and it is what the line calls for
 pub record AreCallsOf (requests : List Asked) (cycles : ℕ) (lines : List (List ℕ)) (found : List Called) : Type 0 where
   pub one_each : length found ≡ length lines
-  pub each : (place : ℕ) (line : List ℕ) (call : Called) → slice_get lines place ≡ Some line → slice_get found place ≡ Some call →
-      CallsFor requests cycles lines place line call
+  pub each : (index : ℕ) (line : List ℕ) (call : Called) → slice_get lines index ≡ Some line → slice_get found index ≡ Some call →
+      CallsFor requests cycles lines index line call
 
 -- a fault is that of the first line with a fault: each line before it calls for something
 pub record IsFirstFaultyLine (requests : List Asked) (cycles : ℕ) (lines : List (List ℕ)) (fault : ScriptFault) : Type 0 where
-  pub place : ℕ
+  pub index : ℕ
   pub line : List ℕ
-  pub here : slice_get lines place ≡ Some line
-  pub faulty : IsFaultOfLine requests cycles lines place line fault
-  pub before : (earlier : ℕ) (other : List ℕ) → earlier < place → slice_get lines earlier ≡ Some other →
+  pub here : slice_get lines index ≡ Some line
+  pub faulty : IsFaultOfLine requests cycles lines index line fault
+  pub before : (earlier : ℕ) (other : List ℕ) → earlier < index → slice_get lines earlier ≡ Some other →
       (call : Called) × CallsFor requests cycles lines earlier other call
 
 -- the calls of a script are exactly those of its lines
@@ -118,6 +118,6 @@ pub record AreTheAdministrators (lines : List (List ℕ)) (count : ℕ) : Type 0
   pub above : (line : List ℕ) (order : Written) → Contains lines line → order_of_line line ≡ Some order → order.seat < count
   pub least : 0 < count → HasGreatest lines count
 
--- this is the number of administrators
+-- `administrators` returns the number of administrators of lines
 abbrev pub AdministratorsAreCounted : Type 0
 AdministratorsAreCounted = (lines : List (List ℕ)) → AreTheAdministrators lines (administrators lines)

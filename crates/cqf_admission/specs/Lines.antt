@@ -33,21 +33,21 @@ abbrev pub if_word : List ℕ → Option (List ℕ)
 if_word bytes = if is_word bytes then Some bytes else None
 
 -- the word that follows a prefix, up to the end of the line
-abbrev pub word_behind : List ℕ → List ℕ → Option (List ℕ)
-word_behind start text = if is_text start (take (length start) text) then if_word (drop (length start) text) else None
+abbrev pub word_after : List ℕ → List ℕ → Option (List ℕ)
+word_after start text = if is_text start (take (length start) text) then if_word (drop (length start) text) else None
 
 -- the order of an administrator, given what follows the digit
 abbrev pub order_of : Wish → ℕ → Option (List ℕ) → Option Written
 order_of wish seat name = option_map (λ word. record { seat = seat; wish = wish; name = word }) name
 
-abbrev pub order_behind : List ℕ → ℕ → Option Written
-order_behind rest seat =
-    or_else (order_of Admit seat (word_behind (codes " admit ") rest)) (order_of Withdraw seat (word_behind (codes " withdraw ") rest))
+abbrev pub order_after : List ℕ → ℕ → Option Written
+order_after rest seat =
+    or_else (order_of Admit seat (word_after (codes " admit ") rest)) (order_of Withdraw seat (word_after (codes " withdraw ") rest))
 
 -- the order that a line writes, if it writes one
 abbrev pub order_of_line : List ℕ → Option Written
 order_of_line [] = None
-order_of_line (digit ∷ rest) = option_and_then (order_behind rest) (seat_of_digit digit)
+order_of_line (digit ∷ rest) = option_and_then (order_after rest) (seat_of_digit digit)
 
 -- the line closes a cycle to changes
 abbrev pub is_seal_line : List ℕ → Bool

@@ -8,7 +8,7 @@ use Rattle.cqf_admission.specs.declared.orders.What.TheVariants.{Admit, Seal, Wi
 
 -- the request at an index
 abbrev pub request_at : List Asked → ℕ → Asked
-request_at requests place = slice_index_or requests place (record { name = []; octets = 0; every = 1; phase = 0; paths = [] })
+request_at requests index = slice_index_or requests index (record { name = []; octets = 0; every = 1; phase = 0; paths = [] })
 
 -- the word in a text, from an index on, with this number of octets
 abbrev pub word_at : List ℕ → ℕ → ℕ → List ℕ
@@ -16,13 +16,13 @@ word_at text from octets = take octets (drop from text)
 
 -- what an order calls for
 abbrev pub act_in : List Asked → List ℕ → What → Act
-act_in requests script (Admit place) = Admits (request_at requests place)
+act_in requests script (Admit index) = Admits (request_at requests index)
 act_in requests script (Withdraw from octets) = Withdraws (word_at script from octets)
 act_in requests script Seal = Seals
 
 -- the order's reference is valid: the index is that of a request, or the word is within the script and is UTF-8
 abbrev pub StandsIn : List Asked → List ℕ → What → Type 0
-StandsIn requests script (Admit place) = place < length requests
+StandsIn requests script (Admit index) = index < length requests
 StandsIn requests script (Withdraw from octets) = (from + octets ≤ length script) × IsUtf8 (word_at script from octets)
 StandsIn requests script Seal = ⊤
 

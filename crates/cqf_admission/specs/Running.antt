@@ -13,8 +13,8 @@ use Rattle.cqf_admission.specs.Forms.{IsFormOf}
 -- what is known of each request's form is true
 pub record AreForms (d : Domain) (requests : List PacedRequest) (forms : List RequestForm) : Type 0 where
   pub as_many : length forms ≡ length requests
-  pub each : (place : ℕ) (request : PacedRequest) → place < length requests →
-      IsFormOf d (asked_paced (slice_index_or requests place request)) (slice_index_or forms place Unseen)
+  pub each : (index : ℕ) (request : PacedRequest) → index < length requests →
+      IsFormOf d (asked_paced (slice_index_or requests index request)) (slice_index_or forms index Unseen)
 
 -- the request or word of each entry exists
 abbrev pub AreThere : List Asked → List ℕ → List Logged → Type 0

@@ -55,11 +55,11 @@ call_of_line requests seat cycles number sealed called line =
     else and_then (ok_or (order_of_line line) (BadLine number)) (call_of_order requests number called)
 
 -- the number of Seals before the next line, and the number of other calls before it
-abbrev pub sealed_behind : ℕ → List ℕ → ℕ
-sealed_behind sealed line = if is_seal_line line then sealed + 1 else sealed
+abbrev pub sealed_after : ℕ → List ℕ → ℕ
+sealed_after sealed line = if is_seal_line line then sealed + 1 else sealed
 
-abbrev pub called_behind : ℕ → List ℕ → ℕ
-called_behind called line = if is_seal_line line then called else called + 1
+abbrev pub called_after : ℕ → List ℕ → ℕ
+called_after called line = if is_seal_line line then called else called + 1
 
 -- the calls of lines, the first with this number, after `sealed` Seals and `called` other calls; or the fault of the first line
 -- with a fault. The Seals have a seat of their own
@@ -67,7 +67,7 @@ abbrev pub calls_from : List Asked → ℕ → ℕ → ℕ → ℕ → ℕ → L
 calls_from requests seat cycles number sealed called [] = Ok []
 calls_from requests seat cycles number sealed called (line ∷ lines) =
     and_first (call_of_line requests seat cycles number sealed called line)
-    (calls_from requests seat cycles (number + 1) (sealed_behind sealed line) (called_behind called line) lines)
+    (calls_from requests seat cycles (number + 1) (sealed_after sealed line) (called_after called line) lines)
 
 -- the calls of a script for this number of cycles, given the streams that may be admitted; or its first fault. The seat of the Seals is the
 -- number of administrators

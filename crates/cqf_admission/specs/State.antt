@@ -54,6 +54,7 @@ pub record IsGoodFormOf (d : Domain) (asked : Asked) (form : GoodForm) : Type 0 
   pub tree : form.tree.now ≡ tree_of d asked.paths
   pub most_octets : asked.octets ≤ most_reserved
   pub paced : form.pace ≡ pace_of asked
+  pub overhead : form.overhead ≡ d.overhead
 
 pub record SomeRequest (d : Domain) (form : GoodForm) : Type 0 where
   pub asked : Asked

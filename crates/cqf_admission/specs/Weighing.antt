@@ -22,6 +22,7 @@ row_by form number effect = record {
   no = number;
   name = form.name.now;
   octets = form.octets;
+  overhead = form.overhead;
   pace = form.pace;
   tree = record { items = form.tree.now };
   admitted = effect;
@@ -41,7 +42,7 @@ abbrev pub left_by : Domain → List Standing → List Hop → Pace → ℕ → 
 left_by d stands tree pace l = budget d l - held_beside stands tree pace l
 
 abbrev pub left_at : Domain → List Standing → Pace → Hop → ℕ
-left_at d stands pace hop = budget d hop.link - held_most_at stands hop.link pace hop.depth
+left_at d stands pace hop = budget d hop.link - held_most_at stands hop.link pace hop.hop_number
 
 -- the refusal that names the first of some links with less left than a cost; and the same for the links of the tree
 abbrev pub short_among : Domain → List Standing → ℕ → Pace → List Hop → List ℕ → Option Refused

@@ -7,10 +7,10 @@ ghost use Rattle.cqf_admission.specs.Asking.{asked_of, asked_paced};
 ghost use Rattle.cqf_admission.specs.Calling.{IsJudgedCall};
 ghost use Rattle.cqf_model.specs.Limits.{most_calls};
 ghost use Rattle.cqf_admission.specs.Admission.{Answers, Closes, act_of, calls, EndsOne, HoldsOneMore, LetsGo, recorded_of};
-ghost use Rattle.cqf_admission.specs.Costs.{left_in_turns, most_cost};
-ghost use Rattle.cqf_admission.specs.Turns.{IsGoodPace};
+ghost use Rattle.cqf_admission.specs.Costs.{left_in_active_cycles, most_cost};
+ghost use Rattle.cqf_admission.specs.ActiveCycles.{IsGoodPace};
 
-use crate::count_places;
+use crate::count_indices;
 use crate::entries::{Call, Entry, SealFault, copied_entries, enter, reply_of};
 use crate::judged::{JudgedRequest, judge};
 use crate::shared::{SharedRequest, shared_request};
@@ -86,7 +86,7 @@ impl Admission {
         self.history.as_slice()
     }
 
-    /// Returns all entries, in order, of an admission controller that is no longer used. This takes no memory.
+    /// Returns all entries, in order, of an admission controller that is no longer used. Requests no memory.
     pub fn into_history(self) -> Vec<Entry>
         ensures entries { map recorded_of result.items ≡ self.entries }
         ensures legal { IsLegalHistory self.domain self.entries }
@@ -132,7 +132,7 @@ impl Admission {
             return Err(Refused::HistoryFull);
         }
         let asked = request.try_copy(self.alloc)?;
-        if count_places(request.paths.as_slice()).is_none() {
+        if count_indices(request.paths.as_slice()).is_none() {
             return Err(Refused::Memory);
         }
         let judged = judge(&self.domain, request);
@@ -169,7 +169,7 @@ impl Admission {
         }
         let asked = Arc::try_clone(request)?;
         let wanted = request.request();
-        if count_places(wanted.paths.as_slice()).is_none() {
+        if count_indices(wanted.paths.as_slice()).is_none() {
             return Err(Refused::Memory);
         }
         let judged = request.judge(&self.domain);
@@ -248,7 +248,8 @@ impl Admission {
         Ok(Table::new(cycle, listed))
     }
 
-    /// Returns the most that the streams held in the next cycle cost on a link in any cycle, in octets: never more than the link's budget.
+    /// Returns the most that the streams held in the next cycle cost on a link of the domain in any cycle, in octets: never more than the
+    /// link's budget.
     pub fn held_on(&self, link: u16) -> Octets
         requires { link < length self.now.domain.links }
         ensures held { result.0 ≡ most_cost (held_in self.now.domain self.now.entries (seals self.now.entries)) link }
@@ -258,12 +259,12 @@ impl Admission {
         self.state.taken_of(&self.domain, link)
     }
 
-    /// Returns what a hop's link has left besides the streams held in the next cycle, in octets: the least over the cycles in which frames
-    /// of the pace use the hop. The number of cycles of the pace divides 80.
+    /// Returns what the link of a hop, one of the domain's, has left besides the streams held in the next cycle, in octets: the least over
+    /// the cycles in which frames of the pace use the hop. The number of cycles of the pace divides 80.
     pub fn left_at(&self, hop: &Hop, pace: Pace) -> Octets
         requires inside { hop.now.link < length self.now.domain.links }
         requires good { IsGoodPace pace }
-        ensures { result.0 ≡ left_in_turns self.now.domain (held_in self.now.domain self.now.entries (seals self.now.entries)) pace hop.now }
+        ensures { result.0 ≡ left_in_active_cycles self.now.domain (held_in self.now.domain self.now.entries (seals self.now.entries)) pace hop.now }
     {
         state_follows_history();
         self.state.left_at(&self.domain, hop, pace)

@@ -4,7 +4,7 @@ ghost use Rattle.std.specs.List.{flat_map, list_any};
 ghost use Rattle.cqf_model.specs.Domain.{is_text, node_named};
 ghost use Rattle.cqf_lists.specs.Lists.{least};
 ghost use Rattle.cqf_model.specs.History.{node_at, link_at, link_from, are_apart, is_bridge, is_broken_at, is_loop_at, is_stray, make_a_tree, part};
-ghost use Rattle.cqf_admission.specs.Branches.{AreNodes, branch_of, branches_of, fault_in, first_fault, places_of, with_node};
+ghost use Rattle.cqf_admission.specs.Branches.{AreNodes, branch_of, branches_of, fault_in, first_fault, indices_of, with_node};
 
 use arrayvec::ArrayVec;
 use cqf_model::Node;
@@ -22,8 +22,8 @@ pub(crate) enum Check {
 }
 
 /// Returns the number of names in all branches, or `None` if a `usize` can't hold it.
-pub fn count_places(paths: &[Vec<String>]) -> Option<usize>
-    ensures { MatchOption result (2 ^ 64 ≤ places_of (branches_of paths.now)) (λ count. count ≡ places_of (branches_of paths.now)) }
+pub fn count_indices(paths: &[Vec<String>]) -> Option<usize>
+    ensures { MatchOption result (2 ^ 64 ≤ indices_of (branches_of paths.now)) (λ count. count ≡ indices_of (branches_of paths.now)) }
 {
     let mut count = 0usize;
     for branch in paths {
@@ -62,34 +62,34 @@ pub(crate) fn nodes_of(domain: &Domain, paths: &[Vec<String>]) -> ArrayVec<Optio
 }
 
 /// Returns the nodes after those of a branch of `count` names.
-pub(crate) fn nodes_behind(nodes: &[Option<Node>], count: usize) -> &[Option<Node>]
+pub(crate) fn nodes_after(nodes: &[Option<Node>], count: usize) -> &[Option<Node>]
     ensures { result.now ≡ drop (min count (length nodes.now)) nodes.now }
 {
     nodes.split_at(count.min(nodes.len())).1
 }
 
 /// Returns the node at an index of a branch, or `None` if there is none. The nodes of its first names are given.
-fn node_of(domain: &Domain, nodes: &[Option<Node>], branch: &[String], place: usize) -> Option<Node>
+fn node_of(domain: &Domain, nodes: &[Option<Node>], branch: &[String], index: usize) -> Option<Node>
     requires { AreNodes domain.now (branch_of branch.now) nodes.now }
-    ensures { result ≡ node_at domain.now (branch_of branch.now) place }
+    ensures { result ≡ node_at domain.now (branch_of branch.now) index }
 {
-    if place >= branch.len() {
+    if index >= branch.len() {
         return None;
     }
-    if place < nodes.len() {
-        return nodes[place];
+    if index < nodes.len() {
+        return nodes[index];
     }
-    domain.find(branch[place].as_str())
+    domain.find(branch[index].as_str())
 }
 
 /// Returns the first index of a branch whose node the domain lacks.
-fn unknown_place(domain: &Domain, nodes: &[Option<Node>], branch: &[String]) -> Option<usize>
+fn unknown_index(domain: &Domain, nodes: &[Option<Node>], branch: &[String]) -> Option<usize>
     requires { AreNodes domain.now (branch_of branch.now) nodes.now }
     ensures { result ≡ position (λ name. is_none (node_named domain.now name)) (branch_of branch.now) }
 {
-    for place in 0..branch.len() {
-        if node_of(domain, nodes, branch, place).is_none() {
-            return Some(place);
+    for index in 0..branch.len() {
+        if node_of(domain, nodes, branch, index).is_none() {
+            return Some(index);
         }
     }
     None
@@ -110,20 +110,20 @@ fn link_of(domain: &Domain, from: Option<Node>, to: Option<Node>) -> Option<u16>
 }
 
 /// Returns the link from the node at an index of a branch to the next one, or `None` if a node or the link doesn't exist.
-pub(crate) fn link_behind(
+pub(crate) fn link_after(
     domain: &Domain,
     nodes: &[Option<Node>],
     branch: &[String],
-    place: usize,
+    index: usize,
 ) -> Option<u16>
-    requires inside { place < length branch.now }
+    requires inside { index < length branch.now }
     requires nodes { AreNodes domain.now (branch_of branch.now) nodes.now }
-    ensures { result ≡ link_at domain.now (branch_of branch.now) place }
+    ensures { result ≡ link_at domain.now (branch_of branch.now) index }
 {
     link_of(
         domain,
-        node_of(domain, nodes, branch, place),
-        node_of(domain, nodes, branch, place + 1),
+        node_of(domain, nodes, branch, index),
+        node_of(domain, nodes, branch, index + 1),
     )
 }
 
@@ -140,31 +140,31 @@ fn is_branch_broken_at(
     domain: &Domain,
     nodes: &[Option<Node>],
     branch: &[String],
-    place: usize,
+    index: usize,
 ) -> bool
-    requires inside { place ≤ length branch.now }
+    requires inside { index ≤ length branch.now }
     requires nodes { AreNodes domain.now (branch_of branch.now) nodes.now }
-    ensures { result ≡ is_broken_at domain.now (branch_of branch.now) place }
+    ensures { result ≡ is_broken_at domain.now (branch_of branch.now) index }
 {
     let count = branch.len();
-    let begins_ill = place == 0 && !is_bridge_node(node_of(domain, nodes, branch, 0));
-    let unlinked = 1 <= place
-        && place < count
-        && link_behind(domain, nodes, branch, place - 1).is_none();
-    let ends_in_bridge = place + 1 == count
-        && is_bridge_node(node_of(domain, nodes, branch, place));
-    let too_long = place == domain.limits().nodes_within() && place < count;
+    let begins_ill = index == 0 && !is_bridge_node(node_of(domain, nodes, branch, 0));
+    let unlinked = 1 <= index
+        && index < count
+        && link_after(domain, nodes, branch, index - 1).is_none();
+    let ends_in_bridge = index + 1 == count
+        && is_bridge_node(node_of(domain, nodes, branch, index));
+    let too_long = index == domain.limits().nodes_within() && index < count;
     begins_ill || unlinked || ends_in_bridge || too_long
 }
 
 /// Returns the first index at which a branch is broken.
-fn broken_place(domain: &Domain, nodes: &[Option<Node>], branch: &[String]) -> Option<usize>
+fn broken_index(domain: &Domain, nodes: &[Option<Node>], branch: &[String]) -> Option<usize>
     requires { AreNodes domain.now (branch_of branch.now) nodes.now }
     ensures { result ≡ least (is_broken_at domain.now (branch_of branch.now)) (length branch.now + 1) }
 {
-    for place in 0..branch.len() + 1 {
-        if is_branch_broken_at(domain, nodes, branch, place) {
-            return Some(place);
+    for index in 0..branch.len() + 1 {
+        if is_branch_broken_at(domain, nodes, branch, index) {
+            return Some(index);
         }
     }
     None
@@ -175,30 +175,30 @@ fn is_branch_looping_at(
     domain: &Domain,
     nodes: &[Option<Node>],
     branch: &[String],
-    place: usize,
+    index: usize,
 ) -> bool
-    requires inside { place ≤ length branch.now }
+    requires inside { index ≤ length branch.now }
     requires nodes { AreNodes domain.now (branch_of branch.now) nodes.now }
-    ensures { result ≡ is_loop_at domain.now (branch_of branch.now) place }
+    ensures { result ≡ is_loop_at domain.now (branch_of branch.now) index }
 {
-    if place >= branch.len() {
+    if index >= branch.len() {
         return false;
     }
-    if node_of(domain, nodes, branch, place).is_none() {
+    if node_of(domain, nodes, branch, index).is_none() {
         return false;
     }
-    let name = &branch[place];
-    has_name(&branch[..place], name)
+    let name = &branch[index];
+    has_name(&branch[..index], name)
 }
 
 /// Returns the first index of a branch whose node occurred earlier.
-fn looping_place(domain: &Domain, nodes: &[Option<Node>], branch: &[String]) -> Option<usize>
+fn looping_index(domain: &Domain, nodes: &[Option<Node>], branch: &[String]) -> Option<usize>
     requires { AreNodes domain.now (branch_of branch.now) nodes.now }
     ensures { result ≡ least (is_loop_at domain.now (branch_of branch.now)) (length branch.now + 1) }
 {
-    for place in 0..branch.len() + 1 {
-        if is_branch_looping_at(domain, nodes, branch, place) {
-            return Some(place);
+    for index in 0..branch.len() + 1 {
+        if is_branch_looping_at(domain, nodes, branch, index) {
+            return Some(index);
         }
     }
     None
@@ -215,9 +215,9 @@ fn fault_of(
     ensures { result ≡ fault_in domain.now check (branch_of branch.now) }
 {
     match check {
-        Check::Known => unknown_place(domain, nodes, branch),
-        Check::Whole => broken_place(domain, nodes, branch),
-        Check::Simple => looping_place(domain, nodes, branch),
+        Check::Known => unknown_index(domain, nodes, branch),
+        Check::Whole => broken_index(domain, nodes, branch),
+        Check::Simple => looping_index(domain, nodes, branch),
     }
 }
 
@@ -228,18 +228,18 @@ pub(crate) fn first_fault_of(
     nodes: &[Option<Node>],
     paths: &[Vec<String>],
 ) -> Option<usize>
-    requires few { places_of (branches_of paths.now) < 2 ^ 64 }
+    requires few { indices_of (branches_of paths.now) < 2 ^ 64 }
     requires nodes { AreNodes domain.now (flat_map (λ branch. branch) (branches_of paths.now)) nodes.now }
     ensures { result ≡ first_fault domain.now check (branches_of paths.now) }
 {
     let mut before = 0;
     let mut rest = nodes;
     for branch in paths {
-        if let Some(place) = fault_of(domain, check, rest, branch.as_slice()) {
-            return Some(before + place);
+        if let Some(index) = fault_of(domain, check, rest, branch.as_slice()) {
+            return Some(before + index);
         }
         before += branch.len();
-        rest = nodes_behind(rest, branch.len());
+        rest = nodes_after(rest, branch.len());
     }
     None
 }
@@ -272,16 +272,16 @@ fn are_parts_apart(names: &[String], others: &[String]) -> bool
     !have_common(names, others)
 }
 
-/// Returns whether two branches part for good: after their common beginning both continue, and no node is in both.
+/// Returns whether two branches part for good: after their common beginning both continue, and the remainders have no node in common.
 fn do_part(names: &[String], others: &[String]) -> bool
     ensures { result ≡ part (branch_of names.now) (branch_of others.now) }
 {
-    let mut place = 0;
-    while place < names.len() && place < others.len() {
-        if !is_same_name(&names[place], &others[place]) {
-            return are_parts_apart(&names[place..], &others[place..]);
+    let mut index = 0;
+    while index < names.len() && index < others.len() {
+        if !is_same_name(&names[index], &others[index]) {
+            return are_parts_apart(&names[index..], &others[index..]);
         }
-        place += 1;
+        index += 1;
     }
     false
 }
@@ -296,8 +296,8 @@ fn do_make_a_tree(names: &[String], others: &[String]) -> bool
     is_same_name(&names[0], &others[0]) && do_part(names, others)
 }
 
-/// Returns whether a branch doesn't make a tree with any one of those before it.
-fn is_stray_behind(before: &[Vec<String>], branch: &[String]) -> bool
+/// Returns whether there is an earlier branch with which a branch doesn't make a tree.
+fn is_stray_after(before: &[Vec<String>], branch: &[String]) -> bool
     ensures { result ≡ list_any (λ other. not (make_a_tree (branch_of other.items) (branch_of branch.now))) before.now }
 {
     before
@@ -305,16 +305,16 @@ fn is_stray_behind(before: &[Vec<String>], branch: &[String]) -> bool
         .any(|other| !do_make_a_tree(other.as_slice(), branch))
 }
 
-/// Returns whether the branch with a number doesn't make a tree with one before it.
+/// Returns whether the branch with a number doesn't make a tree with some branch before it.
 fn is_branch_stray(paths: &[Vec<String>], number: usize) -> bool
     requires { number < length paths.now }
     ensures { result ≡ is_stray (branches_of paths.now) number }
 {
     let branch = &paths[number];
-    is_stray_behind(&paths[..number], branch.as_slice())
+    is_stray_after(&paths[..number], branch.as_slice())
 }
 
-/// Returns the number of the first branch that doesn't make a tree with one before it.
+/// Returns the number of the first branch that doesn't make a tree with some branch before it.
 pub(crate) fn stray_branch(paths: &[Vec<String>]) -> Option<usize>
     ensures { result ≡ least (is_stray (branches_of paths.now)) (length paths.now) }
 {

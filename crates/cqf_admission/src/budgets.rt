@@ -5,7 +5,8 @@ ghost use Rattle.cqf_model.specs.Domain.{budget, guard_of};
 use cqf_topology::Domain;
 use cqf_units::{Nanos, Octets, budget};
 
-/// Returns the guard band of a link of the domain: its own if it has one, else the domain's.
+/// Returns the guard band of a link of the domain: its own if it has one, else the domain's. It is at least 1 ns and
+/// shorter than the cycle time.
 pub fn guard_on(domain: &Domain, link: u16) -> Nanos
     requires { link < length domain.now.links }
     ensures value { result.0 ≡ guard_of domain.now link }
@@ -18,7 +19,7 @@ pub fn guard_on(domain: &Domain, link: u16) -> Nanos
     Nanos(u64::from(own))
 }
 
-/// Returns what reservations may cost on a link of the domain, in octets a cycle.
+/// Returns what reservations may cost on a link of the domain, in octets per cycle.
 pub fn budget_on(domain: &Domain, link: u16) -> Octets
     requires { link < length domain.now.links }
     ensures { result.0 ≡ budget domain.now link }

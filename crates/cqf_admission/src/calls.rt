@@ -12,7 +12,7 @@ ghost use Rattle.cqf_admission.specs.Lines.{order_of_line};
 ghost use Rattle.cqf_admission.specs.Placed.{LineEnds, NameEnds};
 ghost use Rattle.cqf_admission.specs.Written.{written};
 ghost use Rattle.cqf_admission.specs.Script.{AreFew, administrators, call_of_line, call_of_order, call_of_seal};
-ghost use Rattle.cqf_admission.specs.Script.{called_behind, called_of, script_of, sealed_behind, seats_up_to};
+ghost use Rattle.cqf_admission.specs.Script.{called_after, called_of, script_of, sealed_after, seats_up_to};
 
 use crate::lines::{Order, Wish, is_seal_line, read_order};
 use crate::shared::{SharedRequest, judged_request, shared_request};
@@ -25,30 +25,30 @@ use std::sync::Arc;
 
 /// The position of a line: its number, from 1, and how many Seals and other calls are before it.
 #[derive(Clone, Copy)]
-struct ScriptPlace {
+struct ScriptPosition {
     line: u64,
     sealed: u64,
     called: u64,
 }
 
-impl ScriptPlace {
+impl ScriptPosition {
     /// Returns the position of the line after this one.
-    fn behind(self, line: &[u8]) -> ScriptPlace
+    fn following(self, line: &[u8]) -> ScriptPosition
         requires counted { self.sealed + self.called < self.line }
         requires room { self.line + 1 < 2 ^ 64 }
         ensures line { result.line ≡ self.line + 1 }
-        ensures sealed { result.sealed ≡ sealed_behind self.sealed line.now }
-        ensures called { result.called ≡ called_behind self.called line.now }
+        ensures sealed { result.sealed ≡ sealed_after self.sealed line.now }
+        ensures called { result.called ≡ called_after self.called line.now }
     {
         let number = self.line + 1;
         if is_seal_line(line) {
-            ScriptPlace {
+            ScriptPosition {
                 line: number,
                 sealed: self.sealed + 1,
                 called: self.called,
             }
         } else {
-            ScriptPlace {
+            ScriptPosition {
                 line: number,
                 sealed: self.sealed,
                 called: self.called + 1,
@@ -75,9 +75,9 @@ pub fn administrators(text: &[u8]) -> u16
 {
     let mut most: u16 = 0;
     let mut left = text;
-    while let Some((line, behind)) = split_line(left) {
+    while let Some((line, following)) = split_line(left) {
         most = most.max(seats_up_to(line));
-        left = behind;
+        left = following;
     }
     most
 }
@@ -85,7 +85,7 @@ pub fn administrators(text: &[u8]) -> u16
 /// Returns the order on a line that ends at index `end` of the script's text.
 fn place_order(
     names: &Names<'_>,
-    place: ScriptPlace,
+    position: ScriptPosition,
     end: usize,
     order: &Order<'_>,
 ) -> Result<Ordered, ScriptFault>
@@ -93,15 +93,15 @@ fn place_order(
     requires long { length order.now.name.now ≤ end }
     ensures value { (text : List ℕ) → NameEnds text end order.now.name.now →
         Gives ScriptFault.Memory (ordered_in (map asked_paced names.now) text) result
-        (call_of_order (map asked_paced names.now) place.line place.called (written order.now)) }
+        (call_of_order (map asked_paced names.now) position.line position.called (written order.now)) }
     ensures stands { (text : List ℕ) → NameEnds text end order.now.name.now →
         IfOk result (λ ordered. StandsIn (map asked_paced names.now) text ordered.what) }
 {
-    let many = MOST_CALLS as u64 <= place.called;
+    let many = MOST_CALLS as u64 <= position.called;
     let what = match order.wish {
         Wish::Admit => {
-            let Some(request) = names.place_of(order.name) else {
-                return Err(ScriptFault::UnknownStream(place.line));
+            let Some(request) = names.index_of(order.name) else {
+                return Err(ScriptFault::UnknownStream(position.line));
             };
             What::Admit(request)
         }
@@ -111,7 +111,7 @@ fn place_order(
         },
     };
     if many {
-        return Err(ScriptFault::TooMany(place.line));
+        return Err(ScriptFault::TooMany(position.line));
     }
     Ok(Ordered {
         seat: order.seat,
@@ -120,13 +120,13 @@ fn place_order(
 }
 
 /// Returns the Seal of a line.
-fn place_seal(seat: u16, cycles: u32, place: ScriptPlace) -> Result<Ordered, ScriptFault>
+fn place_seal(seat: u16, cycles: u32, position: ScriptPosition) -> Result<Ordered, ScriptFault>
     ensures value { (requests : List Asked) (text : List ℕ) →
-        Gives ScriptFault.Memory (ordered_in requests text) result (call_of_seal seat cycles place.line place.sealed) }
+        Gives ScriptFault.Memory (ordered_in requests text) result (call_of_seal seat cycles position.line position.sealed) }
     ensures seal { IfOk result (λ ordered. ordered.what ≡ What.Seal) }
 {
-    if u64::from(cycles) <= place.sealed {
-        return Err(ScriptFault::TooMany(place.line));
+    if u64::from(cycles) <= position.sealed {
+        return Err(ScriptFault::TooMany(position.line));
     }
     Ok(Ordered {
         seat,
@@ -139,23 +139,23 @@ fn place_line(
     names: &Names<'_>,
     seat: u16,
     cycles: u32,
-    place: ScriptPlace,
+    position: ScriptPosition,
     end: usize,
     line: &[u8],
 ) -> Result<Ordered, ScriptFault>
     requires long { length line.now ≤ end }
     ensures value { (text : List ℕ) → LineEnds text end line.now →
         Gives ScriptFault.Memory (ordered_in (map asked_paced names.now) text) result
-        (call_of_line (map asked_paced names.now) seat cycles place.line place.sealed place.called line.now) }
+        (call_of_line (map asked_paced names.now) seat cycles position.line position.sealed position.called line.now) }
     ensures stands { (text : List ℕ) → LineEnds text end line.now →
         IfOk result (λ ordered. StandsIn (map asked_paced names.now) text ordered.what) }
 {
     if is_seal_line(line) {
-        return place_seal(seat, cycles, place);
+        return place_seal(seat, cycles, position);
     }
     match read_order(line) {
-        Some(order) => place_order(names, place, end, &order),
-        None => Err(ScriptFault::BadLine(place.line)),
+        Some(order) => place_order(names, position, end, &order),
+        None => Err(ScriptFault::BadLine(position.line)),
     }
 }
 
@@ -176,22 +176,22 @@ pub fn read_orders(
     ensures few { IfOk result (λ orders. AreFew cycles (map (ordered_in (map asked_paced names.now) text.now) orders.items)) }
 {
     let seat = administrators(text);
-    let mut place = ScriptPlace {
+    let mut position = ScriptPosition {
         line: 1,
         sealed: 0,
         called: 0,
     };
     let mut orders = Vec::new(alloc);
     let mut left = text;
-    while let Some((line, behind)) = split_line(left) {
+    while let Some((line, following)) = split_line(left) {
         let end = text.len() - left.len() + line.len();
-        let order = match place_line(names, seat, cycles, place, end, line) {
+        let order = match place_line(names, seat, cycles, position, end, line) {
             Ok(order) => order,
             Err(fault) => return Err(fault),
         };
         orders.push(order)?;
-        place = place.behind(line);
-        left = behind;
+        position = position.following(line);
+        left = following;
     }
     Ok(orders)
 }
@@ -214,29 +214,29 @@ fn asked_for(alloc: Global, requests: usize, orders: &[Ordered]) -> Result<Vec<b
         asked.push(false)?;
     }
     for order in orders {
-        if let What::Admit(place) = order.what {
-            note(asked.as_mut_slice(), place);
+        if let What::Admit(position) = order.what {
+            note(asked.as_mut_slice(), position);
         }
     }
     Ok(asked)
 }
 
 /// Records that the request at an index is named by an order, if there is such a request.
-fn note(asked: &mut [bool], place: usize) {
-    if place < asked.len() {
-        asked[place] = true;
+fn note(asked: &mut [bool], position: usize) {
+    if position < asked.len() {
+        asked[position] = true;
     }
 }
 
 /// Returns whether this was recorded for the request at an index.
-fn is_noted(asked: &[bool], place: usize) -> bool {
-    match asked.get(place) {
+fn is_noted(asked: &[bool], position: usize) -> bool {
+    match asked.get(position) {
         Some(noted) => *noted,
         None => false,
     }
 }
 
-/// Returns a copy of a request that calls for its stream can share. If `is_asked`, it is checked for a domain.
+/// Returns a copy of a request that several calls for its stream can share. If `is_asked`, it is checked for a domain.
 fn copy_for(
     alloc: Global,
     domain: &Arc<Domain>,
@@ -252,7 +252,7 @@ fn copy_for(
     }
 }
 
-/// Returns a copy of each request likewise. The requests that orders name are checked for a domain.
+/// Returns a copy of each request, which calls for its stream can share. The requests that orders name are checked for a domain.
 fn all_judged(
     alloc: Global,
     domain: &Domain,
@@ -264,9 +264,9 @@ fn all_judged(
     let shared = domain.try_share(alloc)?;
     let asked = asked_for(alloc, requests.len(), orders)?;
     let mut copies = Vec::with_capacity(alloc, requests.len())?;
-    for place in 0..requests.len() {
-        let is_asked = is_noted(asked.as_slice(), place);
-        let copy = copy_for(alloc, &shared, &requests[place], is_asked)?;
+    for position in 0..requests.len() {
+        let is_asked = is_noted(asked.as_slice(), position);
+        let copy = copy_for(alloc, &shared, &requests[position], is_asked)?;
         copies.push(copy)?;
     }
     Ok(copies)
@@ -298,7 +298,7 @@ fn call_of(
     ensures { IfOk result (λ call. called_of call ≡ ordered_in (map asked_shared requests.now) text.now order) }
 {
     let call = match order.what {
-        What::Admit(place) => Call::AdmitPaced(Arc::try_clone(&requests[place])?),
+        What::Admit(position) => Call::AdmitPaced(Arc::try_clone(&requests[position])?),
         What::Withdraw { from, octets } => {
             Call::Withdraw(String::from_str(alloc, word_of(text, from, octets))?)
         }

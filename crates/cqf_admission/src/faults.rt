@@ -45,7 +45,7 @@ impl From<Memory> for ScriptFault {
     }
 }
 
-/// Converts a failed allocation for a value likewise.
+/// Converts a failed allocation of a value into a fault.
 impl<T: Drop> From<AllocFailed<T>> for ScriptFault {
     ghost use Rattle.cqf_admission.specs.declared.faults.ScriptFault.TheVariants as variant;
 

@@ -3,7 +3,7 @@ ghost use Rattle.std.specs.Prelude.{◌≡◌, IfOk, OnOk, length};
 ghost use Rattle.cqf_admission.specs.Asking.{asked_paced};
 ghost use Rattle.cqf_admission.specs.Forms.{AreUnseen, IsFormOf, IsSeen};
 
-use crate::count_places;
+use crate::count_indices;
 use crate::judged::judge_paced;
 use cqf_model::{Refused, Row};
 use cqf_topology::{Domain, PacedRequest};
@@ -33,7 +33,7 @@ pub(crate) fn look_over(
     ensures seen { IfOk result IsSeen }
     ensures form { IfOk result (IsFormOf domain.now (asked_paced request.now)) }
 {
-    if count_places(request.paths.as_slice()).is_none() {
+    if count_indices(request.paths.as_slice()).is_none() {
         return Err(AllocError);
     }
     match judge_paced(domain, request) {

@@ -3,7 +3,7 @@ ghost use Rattle.std.specs.Arc.{arc_value};
 ghost use Rattle.std.specs.Prelude.{◌≡◌, ◌+◌, ◌-◌, ◌<◌, ◌^◌, ◌==◌, ℕ, [], ◌∷◌, ◌++◌, AllPairs, Contains, IfOk, MatchOption, OnErr, OnOk};
 ghost use Rattle.std.specs.Prelude.{filter, length, map, not, slice_index_or, slice_set, vec_len, vec_capacity};
 ghost use Rattle.cqf_model.specs.Table.{cost_on};
-ghost use Rattle.cqf_admission.specs.Turns.{IsGoodPace};
+ghost use Rattle.cqf_admission.specs.ActiveCycles.{IsGoodPace};
 ghost use Rattle.cqf_admission.specs.Rows.{IsSummable};
 ghost use Rattle.cqf_admission.specs.Holdings.{IsEnded, IsFree, IsHeldAt, IsHolder, Standing, held_by, held_cost, held_count, held_most, held_most_at};
 ghost use Rattle.cqf_admission.specs.Holdings.{released, standing_of, with_row};
@@ -92,13 +92,13 @@ fn take_out(held: &mut Vec<u32>, number: u32)
     requires there { Contains held.old.items number }
     ensures { held.new.items ≡ filter (λ other. not (other == number)) held.old.items }
 {
-    if let Ok(place) = held.binary_search(&number) {
-        let _ = held.remove(place);
+    if let Ok(index) = held.binary_search(&number) {
+        let _ = held.remove(index);
     }
 }
 
 impl Holdings {
-    /// Returns no streams, for this number of links, or `Memory` if an allocation fails.
+    /// Returns an empty list of streams, for this number of links, or `Memory` if an allocation fails.
     pub(crate) fn new(alloc: Global, links: u16) -> Result<Holdings, Memory>
         ensures rows { IfOk result (λ holdings. holdings.rows ≡ []) }
         ensures links { IfOk result (λ holdings. holdings.links ≡ links) }
@@ -156,7 +156,7 @@ impl Holdings {
     pub(crate) fn most_at(&self, hop: &Hop, pace: Pace) -> u64
         requires inside { hop.now.link < self.now.links }
         requires good { IsGoodPace pace }
-        ensures { result ≡ held_most_at self.now.rows hop.now.link pace hop.now.depth }
+        ensures { result ≡ held_most_at self.now.rows hop.now.link pace hop.now.hop_number }
     {
         let rows = &self.rows;
         self.sums.most_at(hop, pace)
@@ -187,7 +187,7 @@ impl Holdings {
         let name = row.name.copied();
         let row = Arc::new(alloc, row)?;
         self.by_name.insert(name, number)?;
-        let cost = cost(Octets(row.octets)).0;
+        let cost = cost(Octets(row.overhead), Octets(row.octets)).0;
         self.sums.add(row.tree.as_slice(), row.pace, cost);
         self.held.push(number).unwrap();
         self.rows.push(Stand { row, held: true }).unwrap();
@@ -210,13 +210,13 @@ impl Holdings {
         ensures rows { (d : Standing) → self.new.rows ≡ slice_set self.old.rows number (released (slice_index_or self.old.rows number d)) }
         ensures links { self.new.links ≡ self.old.links }
     {
-        let place = number as usize;
-        let row = &self.rows[place].row;
-        let cost = cost(Octets(row.octets)).0;
+        let index = number as usize;
+        let row = &self.rows[index].row;
+        let cost = cost(Octets(row.overhead), Octets(row.octets)).0;
         self.sums.take(row.tree.as_slice(), row.pace, cost);
         let _ = self.by_name.remove(&row.name);
         take_out(&mut self.held, number);
-        self.rows[place].held = false;
+        self.rows[index].held = false;
     }
 
     /// Returns the rows of the held streams, by number, each shared, or `Memory` if an allocation fails.

@@ -1,8 +1,8 @@
 //! The judgement of a request by itself, regardless of what is held.
 ghost use Rattle.std.specs.Prelude.{◌≡◌, ◌<◌, ◌≤◌, ◌^◌, IfOk, MatchOption, false};
 ghost use Rattle.cqf_model.specs.History.{is_pace};
-ghost use Rattle.cqf_model.specs.Limits.{most_reserved};
-ghost use Rattle.cqf_admission.specs.Branches.{branches_of, places_of};
+ghost use Rattle.cqf_model.specs.Limits.{most_overhead, most_reserved};
+ghost use Rattle.cqf_admission.specs.Branches.{branches_of, indices_of};
 ghost use Rattle.cqf_admission.specs.Asking.{asked_of, asked_paced, asked_with};
 ghost use Rattle.cqf_admission.specs.Judging.{IsJudgedOf, IsPaceOf, Judges, row_by};
 
@@ -14,11 +14,13 @@ use cqf_topology::{Domain, PacedRequest, Request};
 use cqf_units::{Cycle, Memory, Name, Octets, cost};
 use std::alloc::Global;
 
-/// A request of good form: its name, its cost on each link of its tree in octets in a cycle of its own, its pace, and its tree.
+/// A request of good form: its name, its cost on each link of its tree in octets in a cycle of its own, the octets of a frame that its gates
+/// don't count, its pace, and its tree.
 #[derive(Debug, Drop)]
 pub struct JudgedRequest {
     pub name: Name,
     pub cost: Octets,
+    pub overhead: u32,
     pub pace: Pace,
     pub tree: ArrayVec<Hop, 200>,
 }
@@ -26,12 +28,14 @@ pub struct JudgedRequest {
 impl JudgedRequest {
     /// Returns the request of good form that has this row, regardless of the row's number and cycles.
     pub(crate) fn of_row(row: &Row) -> JudgedRequest
-        requires { row.now.octets ≤ most_reserved }
+        requires octets { row.now.octets ≤ most_reserved }
+        requires overhead { row.now.overhead ≤ most_overhead }
         ensures { IsJudgedOf row.now result }
     {
         JudgedRequest {
             name: row.name.copied(),
-            cost: cost(Octets(row.octets)),
+            cost: cost(Octets(row.overhead), Octets(row.octets)),
+            overhead: row.overhead,
             pace: row.pace,
             tree: fitted(row.tree.as_slice()),
         }
@@ -51,6 +55,7 @@ impl JudgedRequest {
         Ok(Row {
             no,
             octets,
+            overhead: self.overhead,
             pace: self.pace,
             tree: Tree::new(alloc, self.tree.as_slice())?,
             name: self.name,
@@ -85,7 +90,7 @@ fn judge_parts(
     phase: u32,
     paths: &[Vec<String>],
 ) -> Result<JudgedRequest, Refused>
-    requires { places_of (branches_of paths.now) < 2 ^ 64 }
+    requires { indices_of (branches_of paths.now) < 2 ^ 64 }
     ensures { Judges domain.now (asked_with name.now octets every phase (branches_of paths.now)) result }
 {
     let Some(name) = Name::new(name.as_bytes()) else {
@@ -98,9 +103,11 @@ fn judge_parts(
         return Err(Refused::BadPace);
     };
     let tree = find_tree(domain, paths)?;
+    let overhead = domain.overhead();
     Ok(JudgedRequest {
         name,
-        cost: cost(Octets(octets)),
+        cost: cost(Octets(overhead), Octets(octets)),
+        overhead,
         pace,
         tree,
     })
@@ -113,7 +120,7 @@ fn judge_parts(
 /// The first reason against its form: `BadName`, `BadOctets`, `UnknownNode`, `BrokenPath`, `LoopingPath`, `NotATree`, each over all
 /// branches before the next, and `TooManyHops`.
 pub fn judge(domain: &Domain, request: &Request) -> Result<JudgedRequest, Refused>
-    requires { places_of (branches_of request.now.paths.items) < 2 ^ 64 }
+    requires { indices_of (branches_of request.now.paths.items) < 2 ^ 64 }
     ensures { Judges domain.now (asked_of request.now) result }
 {
     let (name, paths) = (request.name.as_str(), request.paths.as_slice());
@@ -126,7 +133,7 @@ pub fn judge(domain: &Domain, request: &Request) -> Result<JudgedRequest, Refuse
 /// # Errors
 /// As for [`judge`]. After `BadOctets` comes `BadPace`, if `every` doesn't divide 80 or `phase` isn't below `every`.
 pub fn judge_paced(domain: &Domain, request: &PacedRequest) -> Result<JudgedRequest, Refused>
-    requires { places_of (branches_of request.now.paths.items) < 2 ^ 64 }
+    requires { indices_of (branches_of request.now.paths.items) < 2 ^ 64 }
     ensures { Judges domain.now (asked_paced request.now) result }
 {
     let (name, paths) = (request.name.as_str(), request.paths.as_slice());

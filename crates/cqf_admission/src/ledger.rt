@@ -128,7 +128,7 @@ impl<'s> Ledger<'s> {
         self.state.next_cycle()
     }
 
-    /// Requests the stream of the request at index `place`. If it is granted, the receipt has its number and the cycle from which it is
+    /// Requests the stream of the request at index `index`. If it is granted, the receipt has its number and the cycle from which it is
     /// live. From then on it is held, with its costs and its name.
     ///
     /// # Errors
@@ -137,50 +137,52 @@ impl<'s> Ledger<'s> {
     /// before the next, `TooManyHops`, `NameHeld`, `TooManyStreams` (as many streams are held as the domain may have), `BudgetShort`. If
     /// none is due, `Memory` if the allocation of the stream's row fails. `HistoryFull` and `Memory` change nothing. Each other call enters
     /// the log with its answer.
-    pub fn admit(&mut self, seat: u16, place: usize) -> Result<Receipt, Refused>
-        requires { place < length self.old.requests }
+    pub fn admit(&mut self, seat: u16, index: usize) -> Result<Receipt, Refused>
+        requires { index < length self.old.requests }
         ensures requests { self.new.requests ≡ self.old.requests }
         ensures script { self.new.script ≡ self.old.script }
-        ensures answers { Answers self.old.administration self.new.administration seat (Admits (request_at self.old.requests place)) result }
-        ensures held { HoldsOneMore self.old.administration self.new.administration (request_at self.old.requests place) result }
+        ensures answers { Answers self.old.administration self.new.administration seat (Admits (request_at self.old.requests index)) result }
+        ensures held { HoldsOneMore self.old.administration self.new.administration (request_at self.old.requests index) result }
     {
         if self.state.is_full(self.log.len()) {
             return Err(Refused::HistoryFull);
         }
         self.log.reserve(1)?;
-        let request = &self.requests[place];
-        let form = &mut self.forms[place];
+        let request = &self.requests[index];
+        let form = &mut self.forms[index];
         see(self.alloc, self.domain, request, form)?;
         state_follows_history();
-        let answer = match &self.forms[place] {
+        let answer = match &self.forms[index] {
             RequestForm::Unseen => unreachable!(),
             RequestForm::Bad(refused) => Err(*refused),
             RequestForm::Good(row) => self
                 .state
                 .admit(self.alloc, self.domain, GoodForm::of_row(row))?,
         };
-        enter(&mut self.log, seat, What::Admit(place), reply_of(answer));
+        enter(&mut self.log, seat, What::Admit(index), reply_of(answer));
         answer
     }
 
-    /// Takes over the row of the request at index `place`, which is of good form, so that no call checks the request again.
+    /// Takes over the row of the request at index `index`, which is of good form, so that no call checks the request again.
     ///
     /// # Errors
     /// `Memory` if an allocation fails.
-    pub fn learn(&mut self, place: usize, row: &Row) -> Result<(), Memory>
-        requires there { place < length self.old.requests }
-        requires row { IsRowOfGoodForm self.old.administration.domain (request_at self.old.requests place) row.now }
+    pub fn learn(&mut self, index: usize, row: &Row) -> Result<(), Memory>
+        requires there { index < length self.old.requests }
+        requires row { IsRowOfGoodForm self.old.administration.domain (request_at self.old.requests index) row.now }
         ensures { self.new ≡ self.old }
     {
-        self.forms[place] = RequestForm::Good(row.try_copy(self.alloc)?);
+        self.forms[index] = RequestForm::Good(row.try_copy(self.alloc)?);
         Ok(())
     }
 
-    /// Withdraws the stream whose name is in the script, from index `from` on and with this number of octets. The receipt has its number
-    /// and the first cycle in which it is no longer live. It is held for as many more cycles as the greatest hop number of its tree.
+    /// Withdraws the stream whose name is in the script, from index `from` on and with this number of octets, which are within the script
+    /// and UTF-8. The receipt has its number and the first cycle in which it is no longer live. It is held for as many more cycles as the
+    /// greatest hop number of its tree.
     ///
     /// # Errors
-    /// `HistoryFull` and `Memory` as for [`Ledger::admit`]. Then `NotHeld` if no held stream has the name, or `AlreadyWithdrawn`.
+    /// `HistoryFull` and `Memory` as for [`Ledger::admit`]. Then `NotHeld` if no held stream has the name, or `AlreadyWithdrawn`. If
+    /// neither is due, `Memory` if the allocation of the withdrawn stream's row fails.
     pub fn withdraw(&mut self, seat: u16, from: usize, octets: u8) -> Result<Receipt, Refused>
         requires { StandsIn self.old.requests self.old.script (Withdraw from octets) }
         ensures requests { self.new.requests ≡ self.old.requests }
@@ -219,7 +221,8 @@ impl<'s> Ledger<'s> {
         Ok(cycle)
     }
 
-    /// Returns the most that the streams held in the next cycle cost on a link in any cycle, in octets: never more than the link's budget.
+    /// Returns the most that the streams held in the next cycle cost on a link of the domain in any cycle, in octets: never more than the
+    /// link's budget.
     pub fn held_on(&self, link: u16) -> Octets
         requires { link < length self.now.administration.domain.links }
         ensures held { result.0 ≡ most_cost (held_of self.now.administration) link }

@@ -1,7 +1,7 @@
 //! The admission of streams into a domain, and the scripts that call for it.
 //!
 //! In no cycle do streams cost more on a link than its budget. A withdrawn stream keeps its costs and its name until its last frame has
-//! left the last bridge of its deepest branch.
+//! left the last bridge of its longest branch.
 //!
 //! - **Two controllers.** [`Admission`] answers requests and withdrawals, keeps the history of calls, and closes cycles to changes one by
 //!   one. It returns the [`Table`] of each: the streams that are held in the cycle. [`Row::live`] says which of them are live. [`Ledger`]
@@ -14,9 +14,9 @@
 //!   branches. Each branch is a list of names of nodes. The checks are: the domain has each node; a link leads from each node to the next,
 //!   from a first bridge to a station, over no more nodes than a branch may have; no node occurs twice in a branch; any two branches begin
 //!   at the same bridge and part for good; and the tree has no more hops than it may have. Each check is made over all branches before the
-//!   next. An index counts through the branches as one list, which has [`count_places`] names. No branch at all is `BrokenPath 0`.
+//!   next. An index counts through the branches as one list, which has [`count_indices`] names. No branch at all is `BrokenPath 0`.
 //! - **Sums.** [`budget_on`] is what a link has for all streams, given its guard band, [`guard_on`]. [`CycleSums`] are the sums by link and
-//!   cycle of streams that are added and removed. [`add_on`] adds to sums by link alone.
+//!   cycle of streams that are added and removed. [`add_on`] adds to sums by link only.
 //! - **Scripts**, line by line. [`read_script`] reads the calls of a script, each with its seat, and [`administrators`] the seat of its
 //!   Seals. [`read_paced_script`] reads those for streams that are offered in some cycles. [`read_orders`] reads the same without a copy of
 //!   what is named: an [`Ordered`] says [`What`] is called for by an index, among the requests, which [`Names`] finds by their names, or in
@@ -24,7 +24,7 @@
 //!   the forms of a line. A [`ScriptFault`] is why a script is refused, and at which line. [`script_is_its_lines`] is a law, a function
 //!   that does nothing: there is one call for each line, or the fault of the first line with a fault.
 //!
-//! With a budget of 15,000 octets a cycle on each link:
+//! With a budget of 15,000 octets per cycle on each link:
 //!
 //! ```text
 //! admit(0, 1,500 octets on a, b, c, s)    Ok: number 0, effect 0; the stream costs 1,960 of each link of its tree
@@ -57,6 +57,7 @@ mod admission;
 mod branches;
 mod budgets;
 mod calls;
+mod cycle_sums;
 mod ends;
 mod entries;
 mod faults;
@@ -79,15 +80,15 @@ mod sums;
 mod table;
 mod tabling;
 mod trees;
-mod turns;
 
 pub use admission::Admission;
-pub use branches::count_places;
+pub use branches::count_indices;
 pub use budgets::{budget_on, guard_on};
 pub use calls::{administrators, calls_of, read_orders, read_paced_script, read_script};
 pub use cqf_model::{
     LEAST_OCTETS, MOST_CALLS, MOST_OCTETS, MOST_SEALS, MOST_STREAMS, Receipt, Refused, Reply, Row,
 };
+pub use cycle_sums::CycleSums;
 pub use entries::{Call, Command, Entry, SealFault};
 pub use faults::ScriptFault;
 pub use judged::{JudgedRequest, judge, judge_paced};
@@ -101,4 +102,3 @@ pub use shared::SharedRequest;
 pub use sums::add_on;
 pub use table::Table;
 pub use trees::find_tree;
-pub use turns::CycleSums;

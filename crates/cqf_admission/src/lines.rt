@@ -1,7 +1,7 @@
 //! The lines of a script.
 ghost use Rattle.std.specs.Prelude.{◌≡◌, ◌<◌, IfSome, is_some, option_map};
 ghost use Rattle.std.specs.List.{list_all};
-ghost use Rattle.cqf_admission.specs.Lines.{if_word, is_seal_line, is_word, is_word_byte, order_behind, order_of_line, seat_of_digit, word_behind};
+ghost use Rattle.cqf_admission.specs.Lines.{if_word, is_seal_line, is_word, is_word_byte, order_after, order_of_line, seat_of_digit, word_after};
 ghost use Rattle.cqf_admission.specs.Written.{written};
 
 /// What an administrator may order.
@@ -79,22 +79,22 @@ fn read_word(bytes: &[u8]) -> Option<&str>
 }
 
 /// Returns the word that follows a prefix.
-fn word_behind<'t>(start: &[u8], text: &'t [u8]) -> Option<&'t str>
-    ensures { option_map (λ word. word.now) result ≡ word_behind start.now text.now }
+fn word_after<'t>(start: &[u8], text: &'t [u8]) -> Option<&'t str>
+    ensures { option_map (λ word. word.now) result ≡ word_after start.now text.now }
 {
     read_word(text.strip_prefix(start)?)
 }
 
 /// Returns the order of an administrator, given what follows the digit.
-fn order_behind(rest: &[u8], seat: u16) -> Option<Order<'_>>
-    ensures value { option_map written result ≡ order_behind rest.now seat }
+fn order_after(rest: &[u8], seat: u16) -> Option<Order<'_>>
+    ensures value { option_map written result ≡ order_after rest.now seat }
     ensures seat { IfSome result (λ order. order.seat ≡ seat) }
 {
-    if let Some(name) = word_behind(b" admit ", rest) {
+    if let Some(name) = word_after(b" admit ", rest) {
         let wish = Wish::Admit;
         return Some(Order { seat, wish, name });
     }
-    let name = word_behind(b" withdraw ", rest)?;
+    let name = word_after(b" withdraw ", rest)?;
     let wish = Wish::Withdraw;
     Some(Order { seat, wish, name })
 }
@@ -106,7 +106,7 @@ pub(crate) fn read_order(line: &[u8]) -> Option<Order<'_>>
 {
     let (digit, rest) = line.split_first()?;
     let seat = seat_of_digit(*digit)?;
-    order_behind(rest, seat)
+    order_after(rest, seat)
 }
 
 /// Returns whether the line is `N admit NAME` or `N withdraw NAME`, as [`read_script`](crate::read_script) reads them.

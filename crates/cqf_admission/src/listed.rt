@@ -71,7 +71,7 @@ fn row_with_number(rows: &[Arc<Row>], no: u32) -> Option<&Row>
         return Some(row);
     }
     match rows.binary_search_by_key(&no, |row| row.no) {
-        Ok(place) => Some(&rows[place]),
+        Ok(index) => Some(&rows[index]),
         Err(_) => None,
     }
 }

@@ -1,6 +1,6 @@
 //! Requests, found by their names.
 ghost use Rattle.std.specs.Prelude.{◌≡◌, IfOk};
-ghost use Rattle.cqf_admission.specs.Names.{place_named};
+ghost use Rattle.cqf_admission.specs.Names.{index_named};
 
 use cqf_topology::PacedRequest;
 use cqf_units::Memory;
@@ -13,19 +13,19 @@ use std::marker::Model;
 pub struct Names<'r> {
     requests: &'r [PacedRequest],
     /// The index of the first request with each name.
-    places: BTreeMap<&'r str, usize>,
+    indices: BTreeMap<&'r str, usize>,
 }
 
 impl<'r> Model for Names<'r> {
     ghost use Rattle.std.specs.Prelude.{List};
     ghost use Rattle.cqf_topology.specs.declared.paced.PacedRequest.{PacedRequest};
-    ghost use Rattle.cqf_admission.specs.Names.{LeadToFirst, place_under};
+    ghost use Rattle.cqf_admission.specs.Names.{LeadToFirst, index_under};
 
     ghost Value = { List PacedRequest };
 
     ghost view = { λ n. n.requests.now };
 
-    ghost invariant = { λ n. LeadToFirst (place_under n.places) n.requests.now };
+    ghost invariant = { λ n. LeadToFirst (index_under n.indices) n.requests.now };
 }
 
 impl<'r> Names<'r> {
@@ -36,22 +36,22 @@ impl<'r> Names<'r> {
     pub fn new(alloc: Global, requests: &'r [PacedRequest]) -> Result<Names<'r>, Memory>
         ensures { IfOk result (λ names. names ≡ requests.now) }
     {
-        let mut places = BTreeMap::new(alloc);
-        for (place, request) in requests.iter().enumerate() {
+        let mut indices = BTreeMap::new(alloc);
+        for (index, request) in requests.iter().enumerate() {
             let name = request.name.as_str();
-            if places.contains_key(name) {
+            if indices.contains_key(name) {
                 continue;
             }
-            places.insert(name, place)?;
+            indices.insert(name, index)?;
         }
-        Ok(Names { requests, places })
+        Ok(Names { requests, indices })
     }
 
     /// Returns the index of the first request with the name, or `None` if no request has it. The time grows with the logarithm of the
     /// number of requests.
-    pub fn place_of(&self, name: &str) -> Option<usize>
-        ensures { result ≡ place_named self.now name.now }
+    pub fn index_of(&self, name: &str) -> Option<usize>
+        ensures { result ≡ index_named self.now name.now }
     {
-        self.places.get(name).copied()
+        self.indices.get(name).copied()
     }
 }

@@ -26,7 +26,7 @@ impl Model for Numbers {
 }
 
 impl Numbers {
-    /// Returns no numbers. This takes no memory.
+    /// Returns an empty list of numbers. Requests no memory.
     pub(crate) fn none(alloc: Global) -> Numbers {
         Numbers {
             numbers: BTreeMap::new(alloc),

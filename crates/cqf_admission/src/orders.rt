@@ -22,7 +22,8 @@ pub struct Ordered {
     pub what: What,
 }
 
-/// Returns the word in a script's text, from an index on, with this number of octets.
+/// Returns the word in a script's text, from an index on, with this number of octets. They are within the text and
+/// UTF-8.
 pub fn word_of(script: &[u8], from: usize, octets: u8) -> &str
     requires inside { from + octets ≤ length script.now }
     requires text { IsUtf8 (word_at script.now from octets) }

@@ -2,12 +2,12 @@
 ghost use Rattle.std.specs.Arc.{arc_value};
 ghost use Rattle.std.specs.Prelude.{◌≡◌, ◌↔◌, ◌<◌, ◌^◌, IfOk, IfSome, true};
 ghost use Rattle.cqf_admission.specs.Asking.{asked_paced, asked_shared};
-ghost use Rattle.cqf_admission.specs.Branches.{branches_of, places_of};
+ghost use Rattle.cqf_admission.specs.Branches.{branches_of, indices_of};
 ghost use Rattle.cqf_admission.specs.Forms.{IsFormOf};
 ghost use Rattle.cqf_admission.specs.Judging.{Judges};
 ghost use Rattle.cqf_admission.specs.Spelled.{spelled};
 
-use crate::count_places;
+use crate::count_indices;
 use crate::forms::{RequestForm, look_over};
 use crate::judged::{JudgedRequest, judge_paced};
 use crate::spelling::spell;
@@ -48,8 +48,8 @@ impl Model for SharedRequest {
 /// Returns whether a request has so few names that checking it is faster than comparing two domains.
 fn is_short(domain: &Domain, request: &PacedRequest) -> bool {
     let nodes = usize::from(domain.bridges()) + usize::from(domain.stations());
-    match count_places(request.paths.as_slice()) {
-        Some(places) => places.saturating_mul(places) < nodes + usize::from(domain.links()),
+    match count_indices(request.paths.as_slice()) {
+        Some(indices) => indices.saturating_mul(indices) < nodes + usize::from(domain.links()),
         None => false,
     }
 }
@@ -143,12 +143,13 @@ impl SharedRequest {
     /// Judges the request by itself in a domain, as [`judge_paced`](crate::judge_paced) does. It isn't checked again if it was checked for
     /// a domain that equals this one, unless that is faster than comparing the two.
     pub(crate) fn judge(&self, domain: &Domain) -> Result<JudgedRequest, Refused>
-        requires { places_of (branches_of self.now.paths.items) < 2 ^ 64 }
+        requires { indices_of (branches_of self.now.paths.items) < 2 ^ 64 }
         ensures { Judges domain.now (asked_paced self.now) result }
     {
         let Some(form) = self.form_for(domain) else {
             return judge_paced(domain, &self.request);
         };
+        domain.know();
         match form {
             RequestForm::Good(row) => Ok(JudgedRequest::of_row(row)),
             RequestForm::Bad(refused) => Err(*refused),
@@ -169,7 +170,7 @@ pub(crate) fn shared_request(
     Ok(shared)
 }
 
-/// Returns such a copy that was checked for a domain.
+/// Returns a copy of a request that calls for its stream can share, and that was checked for a domain.
 ///
 /// # Errors
 /// As for [`SharedRequest::judged`].

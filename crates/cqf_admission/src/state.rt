@@ -7,9 +7,9 @@ ghost use Rattle.cqf_model.specs.Domain.{Domain as ADomain, budget};
 ghost use Rattle.cqf_model.specs.History.{Recorded, held_in, seals, streams_of};
 ghost use Rattle.cqf_model.specs.Limits.{most_calls, most_cycles, most_hops, most_reserved};
 ghost use Rattle.cqf_model.specs.Table.{links_in};
-ghost use Rattle.cqf_admission.specs.Costs.{left_in_turns, most_cost};
+ghost use Rattle.cqf_admission.specs.Costs.{left_in_active_cycles, most_cost};
 ghost use Rattle.cqf_admission.specs.Holdings.{held_cost};
-ghost use Rattle.cqf_admission.specs.Turns.{IsGoodPace};
+ghost use Rattle.cqf_admission.specs.ActiveCycles.{IsGoodPace};
 ghost use Rattle.cqf_admission.specs.Rows.{ended};
 ghost use Rattle.cqf_admission.specs.State.{AdmitsForm, ClosesNext, IsStateOf, SomeDomain, SomeHistory, SomeRequest, StaysSo, WithdrawsName};
 ghost use Rattle.cqf_admission.specs.Weighing.{FindsOpen, left_at, row_by, stand_refusal, stand_short};
@@ -26,12 +26,13 @@ use std::alloc::Global;
 use std::marker::Model;
 use std::sync::Arc;
 
-/// A request of good form, borrowed: its name, the octets that its stream reserves in each cycle of its own, 64 to 1,000,000, its pace, and
-/// its tree.
+/// A request of good form, borrowed: its name, the octets that its stream reserves in each cycle of its own, 64 to 1,000,000, the octets of a
+/// frame that its gates don't count, its pace, and its tree.
 #[derive(Clone, Copy)]
 pub(crate) struct GoodForm<'f> {
     pub name: &'f Name,
     pub octets: u32,
+    pub overhead: u32,
     pub pace: Pace,
     pub tree: &'f [Hop],
 }
@@ -41,12 +42,14 @@ impl<'f> GoodForm<'f> {
     pub(crate) fn of_row(row: &'f Row) -> GoodForm<'f>
         ensures name { result.name.now ≡ row.now.name }
         ensures octets { result.octets ≡ row.now.octets }
+        ensures overhead { result.overhead ≡ row.now.overhead }
         ensures pace { result.pace ≡ row.now.pace }
         ensures tree { result.tree.now ≡ row.now.tree.items }
     {
         GoodForm {
             name: &row.name,
             octets: row.octets,
+            overhead: row.overhead,
             pace: row.pace,
             tree: row.tree.as_slice(),
         }
@@ -56,12 +59,14 @@ impl<'f> GoodForm<'f> {
     pub(crate) fn of_judged(judged: &'f JudgedRequest, octets: u32) -> GoodForm<'f>
         ensures name { result.name.now ≡ judged.now.name }
         ensures octets { result.octets ≡ octets }
+        ensures overhead { result.overhead ≡ judged.now.overhead }
         ensures pace { result.pace ≡ judged.now.pace }
         ensures tree { result.tree.now ≡ judged.now.tree.items }
     {
         GoodForm {
             name: &judged.name,
             octets,
+            overhead: judged.overhead,
             pace: judged.pace,
             tree: judged.tree.as_slice(),
         }
@@ -140,7 +145,7 @@ fn refusal_of(domain: &Domain, holdings: &Holdings, form: GoodForm<'_>) -> Optio
     requires columns { holdings.now.links ≡ length domain.now.links }
     requires within { (l cycle : ℕ) → l < length domain.now.links → held_cost holdings.now.rows l cycle ≤ budget domain.now l }
     requires good { IsGoodPace form.pace }
-    ensures { result ≡ stand_refusal domain.now holdings.now.rows form.entry.name.now (cost_of form.entry.octets) form.entry.pace form.entry.tree.now }
+    ensures { result ≡ stand_refusal domain.now holdings.now.rows form.entry.name.now (cost_of domain.now.overhead form.entry.octets) form.entry.pace form.entry.tree.now }
 {
     if holdings.holder(form.name).is_some() {
         return Some(Refused::NameHeld);
@@ -148,7 +153,7 @@ fn refusal_of(domain: &Domain, holdings: &Holdings, form: GoodForm<'_>) -> Optio
     if holdings.count() >= domain.limits().streams_within() {
         return Some(Refused::TooManyStreams);
     }
-    let cost = cost(Octets(form.octets)).0;
+    let cost = cost(Octets(domain.overhead()), Octets(form.octets)).0;
     short_of(domain, holdings, cost, form.pace, form.tree)
 }
 
@@ -161,6 +166,7 @@ fn row_by(alloc: Global, form: GoodForm<'_>, no: u32, admitted: Cycle) -> Result
         no,
         name: form.name.copied(),
         octets: form.octets,
+        overhead: form.overhead,
         pace: form.pace,
         tree: Tree::new(alloc, form.tree)?,
         admitted,
@@ -324,7 +330,7 @@ impl State {
         requires good { IsGoodPace pace }
         requires history { SomeHistory domain.now self.now }
         ensures { (entries : List Recorded) → IsStateOf domain.now entries self.now →
-            result.0 ≡ left_in_turns domain.now (held_in domain.now entries (seals entries)) pace hop.now }
+            result.0 ≡ left_in_active_cycles domain.now (held_in domain.now entries (seals entries)) pace hop.now }
     {
         state_follows_history();
         Octets(left_of(domain, &self.holdings, hop, pace))

@@ -2,7 +2,7 @@
 ghost use Rattle.std.specs.Arc.{arc_value};
 ghost use Rattle.std.specs.Prelude.{◌≡◌, IfOk, map, option_copied};
 ghost use Rattle.cqf_model.specs.Table.{row_named, row_of};
-ghost use Rattle.cqf_admission.specs.Turns.{AreOfGoodPaces};
+ghost use Rattle.cqf_admission.specs.ActiveCycles.{AreOfGoodPaces};
 ghost use Rattle.cqf_admission.specs.Tables.{AreInOrder, IsRowNamed, IsRowOf};
 
 use crate::listed::ListedRows;
@@ -23,7 +23,7 @@ pub struct Table {
 
 impl Model for Table {
     ghost use Rattle.std.specs.Arc.{arc_value};
-    ghost use Rattle.cqf_admission.specs.Turns.{AreOfGoodPaces};
+    ghost use Rattle.cqf_admission.specs.ActiveCycles.{AreOfGoodPaces};
     ghost use Rattle.cqf_admission.specs.Tables.{AreInOrder, CycleTable};
 
     ghost Value = { CycleTable };

@@ -18,7 +18,7 @@ use std::marker::Model;
 use std::sync::Arc;
 
 /// How many rows there may be after those that tables find by the numbers of their names. These are searched one by one.
-const MOST_BEHIND: usize = 32;
+const MOST_AFTER: usize = 32;
 
 /// The data from which tables are made. A row that several tables have is stored once, and tables between which nothing changes share one
 /// list.
@@ -84,7 +84,7 @@ impl Tabling {
         ensures listed { self.new.listed ≡ self.old.listed }
         ensures current { self.new.is_current ≡ self.old.is_current }
     {
-        if rows.len() - count_below(rows, self.below) > MOST_BEHIND {
+        if rows.len() - count_below(rows, self.below) > MOST_AFTER {
             let numbers = Numbers::new(alloc, rows)?;
             self.numbers = Arc::new(alloc, numbers)?;
             self.below = accepted;

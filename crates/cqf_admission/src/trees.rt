@@ -3,10 +3,10 @@ ghost use Rattle.std.specs.Prelude.{◌≡◌, ◌<◌, ◌≤◌, ◌==◌, ◌
 ghost use Rattle.cqf_model.specs.declared.topology.Hop.{Hop as HopValue};
 ghost use Rattle.std.specs.List.{flat_map, list_any};
 ghost use Rattle.cqf_model.specs.Domain.{node_named};
-ghost use Rattle.cqf_model.specs.History.{broken_place, first_place, hops_along, is_loop_at, tree_of};
-ghost use Rattle.cqf_admission.specs.Branches.{AreAsFarAsRoom, AreNodes, FindsTree, branch_of, branches_of, keep_link, places_of};
+ghost use Rattle.cqf_model.specs.History.{broken_index, first_index, hops_along, is_loop_at, tree_of};
+ghost use Rattle.cqf_admission.specs.Branches.{AreAsFarAsRoom, AreNodes, FindsTree, branch_of, branches_of, indices_of, keep_link};
 
-use crate::branches::{Check, first_fault_of, link_behind, nodes_behind, nodes_of, stray_branch};
+use crate::branches::{Check, first_fault_of, link_after, nodes_after, nodes_of, stray_branch};
 use arrayvec::ArrayVec;
 use cqf_model::{Hop, MOST_HOPS, Node, Refused};
 use cqf_topology::Domain;
@@ -44,12 +44,12 @@ fn add_branch(
         AreAsFarAsRoom tree.new.items (fold keep_link whole (hops_along domain.now (branch_of branch.now))) }
 {
     let mut before = None;
-    for place in 0..branch.len().saturating_sub(1) {
-        let link = link_behind(domain, nodes, branch, place);
+    for index in 0..branch.len().saturating_sub(1) {
+        let link = link_after(domain, nodes, branch, index);
         if let Some(link) = link {
             let hop = Hop {
                 link,
-                depth: place as u8 + 1,
+                hop_number: index as u8 + 1,
                 from: before,
             };
             add_hop(tree, hop);
@@ -69,7 +69,7 @@ fn tree_along(domain: &Domain, nodes: &[Option<Node>], paths: &[Vec<String>]) ->
     let mut rest = nodes;
     for branch in paths {
         add_branch(domain, rest, &mut tree, branch.as_slice());
-        rest = nodes_behind(rest, branch.len());
+        rest = nodes_after(rest, branch.len());
     }
     tree
 }
@@ -85,8 +85,8 @@ pub(crate) fn fitted(hops: &[Hop]) -> ArrayVec<Hop, 200>
 }
 
 /// Returns the first index of the branches whose node the domain lacks.
-fn unknown_place_of(domain: &Domain, nodes: &[Option<Node>], paths: &[Vec<String>]) -> Option<usize>
-    requires few { places_of (branches_of paths.now) < 2 ^ 64 }
+fn unknown_index_of(domain: &Domain, nodes: &[Option<Node>], paths: &[Vec<String>]) -> Option<usize>
+    requires few { indices_of (branches_of paths.now) < 2 ^ 64 }
     requires nodes { AreNodes domain.now (flat_map (λ branch. branch) (branches_of paths.now)) nodes.now }
     ensures { result ≡ position (λ name. is_none (node_named domain.now name)) (flat_map (λ branch. branch) (branches_of paths.now)) }
 {
@@ -94,10 +94,10 @@ fn unknown_place_of(domain: &Domain, nodes: &[Option<Node>], paths: &[Vec<String
 }
 
 /// Returns the first index at which the branches are broken, or 0 if there is no branch.
-fn broken_place_of(domain: &Domain, nodes: &[Option<Node>], paths: &[Vec<String>]) -> Option<usize>
-    requires few { places_of (branches_of paths.now) < 2 ^ 64 }
+fn broken_index_of(domain: &Domain, nodes: &[Option<Node>], paths: &[Vec<String>]) -> Option<usize>
+    requires few { indices_of (branches_of paths.now) < 2 ^ 64 }
     requires nodes { AreNodes domain.now (flat_map (λ branch. branch) (branches_of paths.now)) nodes.now }
-    ensures { result ≡ broken_place domain.now (branches_of paths.now) }
+    ensures { result ≡ broken_index domain.now (branches_of paths.now) }
 {
     if paths.len() == 0 {
         return Some(0);
@@ -106,16 +106,16 @@ fn broken_place_of(domain: &Domain, nodes: &[Option<Node>], paths: &[Vec<String>
 }
 
 /// Returns the first index of the branches whose node occurred earlier in its branch.
-fn looping_place_of(domain: &Domain, nodes: &[Option<Node>], paths: &[Vec<String>]) -> Option<usize>
-    requires few { places_of (branches_of paths.now) < 2 ^ 64 }
+fn looping_index_of(domain: &Domain, nodes: &[Option<Node>], paths: &[Vec<String>]) -> Option<usize>
+    requires few { indices_of (branches_of paths.now) < 2 ^ 64 }
     requires nodes { AreNodes domain.now (flat_map (λ branch. branch) (branches_of paths.now)) nodes.now }
-    ensures { result ≡ first_place (is_loop_at domain.now) (branches_of paths.now) }
+    ensures { result ≡ first_index (is_loop_at domain.now) (branches_of paths.now) }
 {
     first_fault_of(domain, Check::Simple, nodes, paths)
 }
 
 /// Returns the tree of branches: their hops, each link once, in the order of first occurrence. The branches have fewer than 2^64 names
-/// together, as [`count_places`](crate::count_places) finds.
+/// together, as [`count_indices`](crate::count_places) finds.
 ///
 /// # Errors
 /// The first reason why they are no tree. Each is checked over all branches before the next. Indexes count from 0 through all branches.
@@ -123,21 +123,22 @@ fn looping_place_of(domain: &Domain, nodes: &[Option<Node>], paths: &[Vec<String
 /// - `BrokenPath` with the first index at which a branch is broken: no link leads there from the node before, the branch doesn't begin with
 ///   a bridge or ends with one, or as many nodes as a branch may have come before it. It is 0 if there is no branch.
 /// - `LoopingPath` with the first index whose node occurred earlier in its branch.
-/// - `NotATree` with the number, from 0, of the first branch that begins elsewhere than one before it, or doesn't part from it for good.
-/// - `TooManyHops`.
+/// - `NotATree` with the number, from 0, of the first branch that begins elsewhere than an earlier branch, or doesn't part from it for
+///   good.
+/// - `TooManyHops` if the tree has more hops than the domain's limits allow.
 pub fn find_tree(domain: &Domain, paths: &[Vec<String>]) -> Result<ArrayVec<Hop, 200>, Refused>
-    requires { places_of (branches_of paths.now) < 2 ^ 64 }
+    requires { indices_of (branches_of paths.now) < 2 ^ 64 }
     ensures { FindsTree domain.now (branches_of paths.now) result }
 {
     let nodes = nodes_of(domain, paths);
-    if let Some(place) = unknown_place_of(domain, nodes.as_slice(), paths) {
-        return Err(Refused::UnknownNode(place));
+    if let Some(index) = unknown_index_of(domain, nodes.as_slice(), paths) {
+        return Err(Refused::UnknownNode(index));
     }
-    if let Some(place) = broken_place_of(domain, nodes.as_slice(), paths) {
-        return Err(Refused::BrokenPath(place));
+    if let Some(index) = broken_index_of(domain, nodes.as_slice(), paths) {
+        return Err(Refused::BrokenPath(index));
     }
-    if let Some(place) = looping_place_of(domain, nodes.as_slice(), paths) {
-        return Err(Refused::LoopingPath(place));
+    if let Some(index) = looping_index_of(domain, nodes.as_slice(), paths) {
+        return Err(Refused::LoopingPath(index));
     }
     if let Some(branch) = stray_branch(paths) {
         return Err(Refused::NotATree(branch));

@@ -70,8 +70,8 @@ module _ (opening posted : Posted) (shares : List Own) (before : ArePosted openi
     | inl inside ↦
         let p = said_at (pages_of posted bridge) (all_pages_of opening shares bridge) (sym (agree bridge inside).same) cycle page
         (sym (ap (λ (row : List Page). slice_get row cycle) (row_at bridge inside)) ∙ found) in
-        let place = are.in_place bridge cycle p.0 p.1 in
-        (sym (ap (λ (s : Said). s.bridge) p.2) ∙ place.0, sym (ap (λ (s : Said). s.cycle) p.2) ∙ place.1)
+        let index = are.in_place bridge cycle p.0 p.1 in
+        (sym (ap (λ (s : Said). s.bridge) p.2) ∙ index.0, sym (ap (λ (s : Said). s.cycle) p.2) ∙ index.1)
     | inr past ↦ absurd (none-some page (sym (ap (λ (row : List Page). slice_get row cycle) (row_past bridge past)) ∙ found))
   ]
 

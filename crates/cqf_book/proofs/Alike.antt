@@ -8,12 +8,12 @@ use Rattle.cqf_book.specs.Shares.{Said, said}
 use Rattle.cqf_book.proofs.Copying.{said_count}
 
 -- at each index they have pages that say the same
-pub alike_at : (pages others : List Page) → map said pages ≡ map said others → (place : ℕ) (page other : Page) → place < length pages →
-    page ≡ get_or pages place page → other ≡ get_or others place other → said page ≡ said other
-alike_at pages others same place page other inside is is_other =
-    let there : place < length others = omega (arith, inside, said_count pages others (sym same)) in
-    ap said is ∙ sym (get_or-map said pages place page) ∙ ap (λ (row : List Said). get_or row place (said page)) same
-    ∙ get_or-map said others place page ∙ sym (ap said (get_or_read others place other there is_other page))
+pub alike_at : (pages others : List Page) → map said pages ≡ map said others → (index : ℕ) (page other : Page) → index < length pages →
+    page ≡ get_or pages index page → other ≡ get_or others index other → said page ≡ said other
+alike_at pages others same index page other inside is is_other =
+    let there : index < length others = omega (arith, inside, said_count pages others (sym same)) in
+    ap said is ∙ sym (get_or-map said pages index page) ∙ ap (λ (row : List Said). get_or row index (said page)) same
+    ∙ get_or-map said others index page ∙ sym (ap said (get_or_read others index other there is_other page))
 
 module _ (pages earlier later : List Page) where
   -- the number of earlier pages

@@ -30,11 +30,11 @@ from_map f (Some x) y h = (x, refl, same_Some (f x) y h)
 from_map f None y h = absurd (none-some y h)
 
 -- if lists of pages say the same, so do the pages at each index
-pub said_at : (pages others : List Page) → map said others ≡ map said pages → (place : ℕ) (page : Page) → slice_get others place ≡ Some page →
-    (p : Page) × (slice_get pages place ≡ Some p) × (said p ≡ said page)
-said_at pages others same place page found = from_map said (slice_get pages place) (said page)
-    (sym (slice_get-map said pages place) ∙ ap (λ (row : List Said). slice_get row place) (sym same)
-    ∙ slice_get-map said others place ∙ ap (option_map said) found)
+pub said_at : (pages others : List Page) → map said others ≡ map said pages → (index : ℕ) (page : Page) → slice_get others index ≡ Some page →
+    (p : Page) × (slice_get pages index ≡ Some p) × (said p ≡ said page)
+said_at pages others same index page found = from_map said (slice_get pages index) (said page)
+    (sym (slice_get-map said pages index) ∙ ap (λ (row : List Said). slice_get row index) (sym same)
+    ∙ slice_get-map said others index ∙ ap (option_map said) found)
 
 -- and there are as many
 pub said_count : (pages others : List Page) → map said others ≡ map said pages → length others ≡ length pages
@@ -70,8 +70,8 @@ module _ (posted other : Posted) (same : rows_said other.pages ≡ rows_said pos
     in_cycles = λ bridge. omega (arith, facts.in_cycles bridge, same_count bridge, cycles);
     in_place = λ bridge cycle page found.
         let p = same_page bridge cycle page found in
-        let place = facts.in_place bridge cycle p.0 p.1 in
-        (sym (ap (λ (s : Said). s.bridge) p.2) ∙ place.0, sym (ap (λ (s : Said). s.cycle) p.2) ∙ place.1);
+        let index = facts.in_place bridge cycle p.0 p.1 in
+        (sym (ap (λ (s : Said). s.bridge) p.2) ∙ index.0, sym (ap (λ (s : Said). s.cycle) p.2) ∙ index.1);
   }
 
   -- the totals are the same

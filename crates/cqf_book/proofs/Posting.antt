@@ -98,12 +98,12 @@ totals_with rows bridge page frames octets frames_after octets_after inside befo
 }
 
 -- a row's page at an index, after one more is appended
-pushed_at : (row : List Page) (page other : Page) (place : ℕ) → slice_get (row ++ page ∷ []) place ≡ Some other
-    → (slice_get row place ≡ Some other) ⊎ ((place ≡ length row) × (page ≡ other))
+pushed_at : (row : List Page) (page other : Page) (index : ℕ) → slice_get (row ++ page ∷ []) index ≡ Some other
+    → (slice_get row index ≡ Some other) ⊎ ((index ≡ length row) × (page ≡ other))
 pushed_at [] page other zero found = inr (refl, same_Some page other found)
-pushed_at [] page other (suc place) found = absurd (none-some other found)
+pushed_at [] page other (suc index) found = absurd (none-some other found)
 pushed_at (first ∷ row) page other zero found = inl found
-pushed_at (first ∷ row) page other (suc place) found = elim (pushed_at row page other place found) [
+pushed_at (first ∷ row) page other (suc index) found = elim (pushed_at row page other index found) [
   | inl there ↦ inl there
   | inr last ↦ inr (omega (arith, last.0), last.1)
 ]

@@ -39,19 +39,20 @@ IsOfStrangeBridge posted page = posted.bridges ≤ page.bridge
 abbrev pub IsOfStrangeCycle : Posted → Page → Type 0
 IsOfStrangeCycle posted page = (page.bridge < posted.bridges) × (posted.cycles ≤ page.cycle.0)
 
--- both exist, and the bridge has posted its page of that cycle
+-- the page's bridge and cycle exist, and the bridge has posted its page of that cycle
 abbrev pub IsDouble : Posted → Page → Type 0
 IsDouble posted page = (page.bridge < posted.bridges) × (page.cycle.0 < posted.cycles) × (page.cycle.0 < page_count posted page.bridge)
 
--- both exist, and the bridge hasn't posted its page of the cycle before
+-- the page's bridge and cycle exist, and the bridge hasn't posted its page of the cycle before
 abbrev pub SkipsCycle : Posted → Page → Type 0
 SkipsCycle posted page = (page.bridge < posted.bridges) × (page.cycle.0 < posted.cycles) × (page_count posted page.bridge < page.cycle.0)
 
--- both exist, and the bridge has posted exactly its pages of the cycles before
+-- the page's bridge and cycle exist, and the bridge has posted exactly its pages of the cycles before
 abbrev pub IsNextPage : Posted → Page → Type 0
 IsNextPage posted page = (page.bridge < posted.bridges) × (page.cycle.0 < posted.cycles) × (page.cycle.0 ≡ page_count posted page.bridge)
 
--- both exist, and the bridge hasn't posted its page of the cycle yet: it may be the next page once those before it have been posted
+-- the page's bridge and cycle exist, and the bridge hasn't posted its page of the cycle yet: it may be the next page once those before it
+-- have been posted
 abbrev pub MayBeNext : Posted → Page → Type 0
 MayBeNext posted page = (page.bridge < posted.bridges) × (page.cycle.0 < posted.cycles) × (page_count posted page.bridge ≤ page.cycle.0)
 
@@ -75,7 +76,7 @@ over_pages of_page pages = sum_by (λ (row : List Page). sum_by of_page row) pag
 abbrev pub frames_posted : ℕ → List (List Page) → ℕ
 frames_posted link pages = over_pages (λ (page : Page). frames_on link page.starts.items) pages
 
--- their octets
+-- the octets of the streams' frames on the link on all pages
 abbrev pub octets_posted : ℕ → List (List Page) → ℕ
 octets_posted link pages = over_pages (λ (page : Page). octets_on link page.starts.items) pages
 

@@ -70,11 +70,11 @@ pub record Agrees (opening : Posted) (shares : List Own) (posted : Posted) (brid
   pub in_cycles : page_count posted bridge ≤ opening.cycles
   pub same : map said (pages_of posted bridge) ≡ map said (all_pages_of opening shares bridge)
 
--- the pages of each of the first bridges do
+-- the pages of each of the first bridges agree
 abbrev pub Agree : Posted → List Own → Posted → ℕ → Type 0
 Agree opening shares posted bridges = (bridge : ℕ) → bridge < bridges → Agrees opening shares posted bridge
 
--- the bridge is the first for which they don't
+-- the bridge is the first whose pages don't agree
 pub record IsLeastToDisagree (opening : Posted) (shares : List Own) (posted : Posted) (bridge : ℕ) : Type 0 where
   pub inside : bridge < opening.bridges
   pub disagrees : ¬ Agrees opening shares posted bridge

@@ -26,7 +26,7 @@ impl Model for BridgePages {
 }
 
 impl BridgePages {
-    /// Returns no pages. Allocates nothing yet.
+    /// Returns an empty list of pages. Allocates nothing yet.
     pub(crate) fn new(alloc: Global) -> BridgePages
         ensures { result ≡ [] }
     {
@@ -43,10 +43,10 @@ impl BridgePages {
     }
 
     /// Returns the page at an index, if there is one.
-    pub(crate) fn get(&self, place: usize) -> Option<&Page>
-        ensures { option_copied result ≡ slice_get self.now place }
+    pub(crate) fn get(&self, index: usize) -> Option<&Page>
+        ensures { option_copied result ≡ slice_get self.now index }
     {
-        self.pages.get(place)
+        self.pages.get(index)
     }
 
     /// Returns the pages, in order of cycle.

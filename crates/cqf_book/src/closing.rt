@@ -65,11 +65,11 @@ fn continues(pages: &[Page], earlier: &[Page], later: &[Page]) -> bool
     if pages.len() < earlier.len() {
         return false;
     }
-    let (before, behind) = pages.split_at(earlier.len());
+    let (before, following) = pages.split_at(earlier.len());
     if !are_same(before, earlier) {
         return false;
     }
-    are_same(behind, later)
+    are_same(following, later)
 }
 
 /// Returns the first bridge whose pages aren't those from before followed by its share's, if there is one.
@@ -137,7 +137,7 @@ pub fn book_of(alloc: Global, posted: &Pages, bridges: u16) -> Result<Book, Memo
     Ok(book)
 }
 
-/// Returns a fault if the shares aren't one for each bridge, or don't agree with the posted pages. Asks for no memory.
+/// Returns a fault if the shares aren't one for each bridge, or don't agree with the posted pages. Requests no memory.
 pub(crate) fn check_shares(
     opening: &Pages,
     posted: &Pages,

@@ -154,14 +154,14 @@ impl CycleBook {
         }
         let Ok(copy) = copy_with_room(&mut share.pages, &page) else {
             let fault = self.refusal(rt, &page);
-            return Err((self.told(&page, fault), page));
+            return Err((self.reported(&page, fault), page));
         };
         match self.take(rt, copy) {
             Ok(()) => {
                 share.pages.push(page).unwrap();
                 Ok(())
             }
-            Err(fault) => Err((self.told(&page, fault), page)),
+            Err(fault) => Err((self.reported(&page, fault), page)),
         }
     }
 
@@ -184,7 +184,7 @@ impl CycleBook {
     /// Returns why a page that may be the next one isn't taken, given the reason that the pages under the lock gave. A
     /// reason that the pages from which the book was made rule out becomes `Memory`, for example a skipped cycle if no
     /// cycle before the page's is missing.
-    fn told(&self, page: &Page, fault: PageFault) -> PageFault
+    fn reported(&self, page: &Page, fault: PageFault) -> PageFault
         requires may { MayBeNext self.now page.now }
         ensures strange_bridge { result ≡ PageFault.StrangeBridge → ⊥ }
         ensures strange_cycle { result ≡ PageFault.StrangeCycle → ⊥ }

@@ -59,7 +59,7 @@ impl fmt::Display for BookClose {
     }
 }
 
-/// Want of memory, as a fault.
+/// Converts a failed allocation into a fault.
 impl From<Memory> for BookClose {
     ghost use Rattle.cqf_book.specs.declared.faults.BookClose.TheVariants as variant;
 

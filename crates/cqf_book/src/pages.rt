@@ -37,8 +37,8 @@ impl Model for Pages {
 }
 
 impl Pages {
-    /// Returns no pages yet, for the given numbers of bridges and cycles, up to 1,024 bridges and 100,000 cycles.
-    /// Returns `Memory` if an allocation fails.
+    /// Returns the pages of a number of bridges and cycles, at most 1,024 bridges and 100,000 cycles. No page has been
+    /// posted yet. Returns `Memory` if an allocation fails.
     pub fn new(alloc: Global, bridges: u16, cycles: u32) -> Result<Pages, Memory>
         requires few_bridges { bridges ≤ 1024 }
         requires few_cycles { cycles ≤ most_cycles }
@@ -92,11 +92,11 @@ impl Pages {
             return Some(PageFault::StrangeCycle);
         }
         let own = &self.posted[usize::from(page.bridge)];
-        let place = page.cycle.0 as usize;
-        if place < own.len() {
+        let index = page.cycle.0 as usize;
+        if index < own.len() {
             return Some(PageFault::DoublePage);
         }
-        if place > own.len() {
+        if index > own.len() {
             return Some(PageFault::CycleSkipped);
         }
         None
@@ -187,7 +187,7 @@ fn copied_rows(alloc: Global, posted: &[BridgePages]) -> Result<Vec<BridgePages>
     Ok(rows)
 }
 
-/// Returns no pages for each of the given number of bridges.
+/// Returns an empty list of pages for each of the given number of bridges.
 fn no_pages(alloc: Global, bridges: u16) -> Result<Vec<BridgePages>, Memory>
     ensures { IfOk result (λ posted. posted.items ≡ replicate bridges []) }
 {

@@ -67,8 +67,8 @@ pub(crate) fn are_same(pages: &[Page], others: &[Page]) -> bool
     if pages.len() != others.len() {
         return false;
     }
-    for place in 0..pages.len() {
-        if !is_same(&pages[place], &others[place]) {
+    for index in 0..pages.len() {
+        if !is_same(&pages[index], &others[index]) {
             return false;
         }
     }

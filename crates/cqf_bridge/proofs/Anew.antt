@@ -7,11 +7,12 @@ use Rattle.std.proofs.lemmas.List.Sums.{sum_by-append}
 use Rattle.cqf_lists.proofs.Members.{contains_here, contains_later}
 use Rattle.cqf_lists.proofs.Sums.{sum_none}
 use Rattle.cqf_units.proofs.Cycles.{cycle_below}
+use Rattle.cqf_units.specs.Timing.{counted_of}
 use Rattle.cqf_model.specs.declared.topology.Row.{Row}
 use Rattle.cqf_model.specs.Domain.{Domain, cycle_of}
 use Rattle.cqf_model.specs.Run.{Run}
-use Rattle.cqf_model.specs.Table.{depth_behind, reserved_in, table_of}
-use Rattle.cqf_model.specs.Traffic.{Carried, Policed, Received, came_by, is_queued_of, police, police_all, policed_before, received_before, verdict_by, within_gate}
+use Rattle.cqf_model.specs.Table.{hop_number_after, reserved_in, table_of}
+use Rattle.cqf_model.specs.Policing.{Carried, Policed, Received, came_by, is_queued_of, police, police_all, policed_before, received_before, verdict_by, within_gate}
 use Rattle.cqf_model.proofs.Coming.{before_when}
 use Rattle.cqf_model.proofs.InCycle.{received_in_when}
 use Rattle.cqf_model.proofs.Policing.{police_member}
@@ -22,13 +23,13 @@ module _ (reserves : GateIsReservation) (d : Domain) (some : 0 < d.cycle_time) (
     (others : (p : Policed) → Contains earlier p → cycle_of d p.received.at ≡ cycle → ⊥) where
   -- what a reservation counts of a frame in the cycle
   abbrev counted : ℕ → Policed → ℕ
-  counted number p = if is_queued_of number p.verdict && (cycle_of d p.received.at == cycle) then p.received.octets else 0
+  counted number p = if is_queued_of number p.verdict && (cycle_of d p.received.at == cycle) then counted_of d.overhead p.received.octets else 0
 
   -- it counts nothing of other cycles
   counts_no_other : (number : ℕ) → octets_before d number cycle earlier ≡ 0
   counts_no_other number =
       sum_none (counted number) earlier (λ p h.
-      cond-false (is_queued_of number p.verdict && (cycle_of d p.received.at == cycle)) p.received.octets 0
+      cond-false (is_queued_of number p.verdict && (cycle_of d p.received.at == cycle)) (counted_of d.overhead p.received.octets) 0
       (and_right (is_queued_of number p.verdict) (cycle_of d p.received.at == cycle) (ne_eqb (cycle_of d p.received.at) cycle (others p h))))
 
   -- so after them it counts what it counts alone
@@ -46,14 +47,14 @@ module _ (reserves : GateIsReservation) (d : Domain) (some : 0 < d.cycle_time) (
       ∙ counts_alone row.no now
       ∙ sym (ap (λ (c : ℕ). octets_before d row.no c now) here) in
       reserves d (earlier ++ now) row x some
-      ∙ ap (λ (n : ℕ). nat_le (n + x.octets) (reserved_in row (depth_behind row (came_by x.way)) (cycle_of d x.at))) same
+      ∙ ap (λ (n : ℕ). nat_le (n + counted_of d.overhead x.octets) (reserved_in row (hop_number_after row (came_by x.ingress)) (cycle_of d x.at))) same
       ∙ sym (reserves d now row x some)
 
   -- so the verdict on a frame of the cycle is the same
   same_verdict : (now : List Policed) (x : Received) → cycle_of d x.at ≡ cycle → police d tables bridge (earlier ++ now) x ≡ police d tables bridge now x
   same_verdict now x here = λ i. record {
     received = x;
-    verdict = verdict_by d (table_of tables (cycle_of d x.at)) bridge (cycle_of d x.at) (λ row. same_gate now x here row i) x.way;
+    verdict = verdict_by d (table_of tables (cycle_of d x.at)) bridge (cycle_of d x.at) (λ row. same_gate now x here row i) x.ingress;
   }
 
   -- and on all of them

@@ -23,12 +23,12 @@ use Rattle.cqf_bridge.specs.Follows.{FollowsTheNetwork, HasTaken}
 none_legal : (rules : PortRules) (end : ℕ) → end ≡ 0 → AreLegal rules [] end []
 none_legal rules end first = record {
   in_order = pairs_none (λ (a b : Transmission). a.1 < b.1);
-  before_end = λ place s h. absurd (contains_none (place, s) h);
-  once = λ place s t h k. absurd (contains_none (place, s) h);
-  idle = λ place s h. absurd (contains_none (place, s) h);
-  first = λ place s h. absurd (contains_none (place, s) h);
-  eligible = λ place s h. absurd (contains_none (place, s) h);
-  strict_priority = λ place s other h. absurd (contains_none (place, s) h);
+  before_end = λ index s h. absurd (contains_none (index, s) h);
+  once = λ index s t h k. absurd (contains_none (index, s) h);
+  idle = λ index s h. absurd (contains_none (index, s) h);
+  first = λ index s h. absurd (contains_none (index, s) h);
+  eligible = λ index s h. absurd (contains_none (index, s) h);
+  strict_priority = λ index s other h. absurd (contains_none (index, s) h);
   work_conserving = λ t other before idle waits eligible. absurd (omega (arith, before, first));
 }
 

@@ -21,7 +21,7 @@ use Rattle.cqf_laws_cycle.specs.Gathered.{is_for_link}
 use Rattle.cqf_bridge.specs.declared.cycle_gate.KeptGate.{KeptGate}
 use Rattle.cqf_bridge.specs.Batch.{LinkBatch}
 use Rattle.cqf_bridge.specs.PortRecord.{PortRecord, new_record}
-use Rattle.cqf_bridge.specs.BridgeState.{AreBackedOf, BridgeState, IsBridge, IsInStep, IsNextToSend, SendsCycle, backed_on, links_from, new_bridge, port_behind}
+use Rattle.cqf_bridge.specs.BridgeState.{AreBackedOf, BridgeState, IsBridge, IsInStep, IsNextToSend, SendsCycle, backed_on, links_from, new_bridge, port_after}
 use Rattle.cqf_bridge.specs.Sending.{FirstSend}
 use Rattle.cqf_bridge.specs.Taking.{IsKept}
 
@@ -98,14 +98,14 @@ module _ (b : BridgeState) (is : IsBridge b) (fresh : b.spent ≡ false) (cycle 
 
   module _ (ports : List PortRecord) (given batches : List LinkBatch) (others : List Started)
       (h : FirstSend b.domain cycle backed (length b.ports) b.ports ports given batches [] others) where
-    all_ports : ports ≡ map (port_behind b.domain cycle backed) (zip b.ports h.made)
-    all_ports = h.ports ∙ ap (λ (rs : List PortRecord). map (port_behind b.domain cycle backed) (zip b.ports h.made) ++ rs) (drop-length b.ports)
-        ∙ append-nil (map (port_behind b.domain cycle backed) (zip b.ports h.made))
+    all_ports : ports ≡ map (port_after b.domain cycle backed) (zip b.ports h.made)
+    all_ports = h.ports ∙ ap (λ (rs : List PortRecord). map (port_after b.domain cycle backed) (zip b.ports h.made) ++ rs) (drop-length b.ports)
+        ∙ append-nil (map (port_after b.domain cycle backed) (zip b.ports h.made))
 
     -- a port after the cycle
-    in_step_behind : (p : PortRecord × List Transmission) → Contains (zip b.ports h.made) p →
-        IsInStep b.domain (b.sent + 1) b.received (port_behind b.domain cycle backed p)
-    in_step_behind p held =
+    in_step_after : (p : PortRecord × List Transmission) → Contains (zip b.ports h.made) p →
+        IsInStep b.domain (b.sent + 1) b.received (port_after b.domain cycle backed p)
+    in_step_after p held =
         let r = p.0 in
         let before : IsInStep b.domain b.sent b.received r = is.in_step fresh r (first_of_pair b.ports h.made p h.one_each held) in
         record {
@@ -143,8 +143,8 @@ module _ (b : BridgeState) (is : IsBridge b) (fresh : b.spent ≡ false) (cycle 
           ];
         }
 
-    abbrev behind : BridgeState
-    behind = record {
+    abbrev following : BridgeState
+    following = record {
       domain = b.domain;
       number = b.number;
       sent = b.sent + 1;
@@ -155,26 +155,26 @@ module _ (b : BridgeState) (is : IsBridge b) (fresh : b.spent ≡ false) (cycle 
     }
 
     -- it satisfies the invariant again
-    pub bridge_behind : cycle < 100000 → IsBridge behind
-    bridge_behind early = record {
+    pub bridge_after : cycle < 100000 → IsBridge following
+    bridge_after early = record {
       accepted = is.accepted;
       inside = is.inside;
       turn = inr (ap (λ (n : ℕ). n + 1) next.1);
       few = omega (arith, early, next.0, next.1);
       links = λ _.
           ap (map (λ (r : PortRecord). r.link)) all_ports
-          ∙ map-map (λ (r : PortRecord). r.link) (port_behind b.domain cycle backed) (zip b.ports h.made)
+          ∙ map-map (λ (r : PortRecord). r.link) (port_after b.domain cycle backed) (zip b.ports h.made)
           ∙ sym (map-map (λ (r : PortRecord). r.link) (λ (p : PortRecord × List Transmission). p.0) (zip b.ports h.made))
           ∙ ap (map (λ (r : PortRecord). r.link)) (firsts-zip b.ports h.made h.one_each)
           ∙ is.links fresh;
       in_step = λ _ r held.
-          let f = contains_from_map (port_behind b.domain cycle backed) (zip b.ports h.made) r (subst (λ (rs : List PortRecord). Contains rs r) all_ports held)
+          let f = contains_from_map (port_after b.domain cycle backed) (zip b.ports h.made) r (subst (λ (rs : List PortRecord). Contains rs r) all_ports held)
           in
-          subst (IsInStep b.domain (b.sent + 1) b.received) f.2 (in_step_behind f.0 f.1);
+          subst (IsInStep b.domain (b.sent + 1) b.received) f.2 (in_step_after f.0 f.1);
     }
 
     -- and has sent the cycle
-    pub cycle_sent : SendsCycle b behind cycle backed given batches
+    pub cycle_sent : SendsCycle b following cycle backed given batches
     cycle_sent = record {
       made = h.made;
       one_each = h.one_each;

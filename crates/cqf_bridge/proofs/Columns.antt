@@ -23,14 +23,14 @@ pub zip_even : {A B : Type 0} (xs : List A) (ys : List B) → length ys ≡ leng
 zip_even xs ys even = length-zip xs ys ∙ omega (arith, even)
 
 -- the elements of two columns at an index
-pub get_zip : {A B : Type 0} (xs : List A) (ys : List B) (place : ℕ) (x : A) (y : B) → slice_get xs place ≡ Some x → slice_get ys place ≡ Some y →
-    slice_get (zip xs ys) place ≡ Some (x, y)
-get_zip {A} {B} xs ys place x y here beside =
-    let a = slice_get_within xs place x here in
-    let b = slice_get_within ys place y beside in
-    slice_get-get_or (zip xs ys) place (x, y) (omega (arith, a, b, length-zip xs ys))
-    ∙ ap Some (get_or-zip xs ys place (x, y) a b
-    ∙ λ i. (get_or_from_slice_get xs place x x here i, get_or_from_slice_get ys place y y beside i))
+pub get_zip : {A B : Type 0} (xs : List A) (ys : List B) (index : ℕ) (x : A) (y : B) → slice_get xs index ≡ Some x → slice_get ys index ≡ Some y →
+    slice_get (zip xs ys) index ≡ Some (x, y)
+get_zip {A} {B} xs ys index x y here beside =
+    let a = slice_get_within xs index x here in
+    let b = slice_get_within ys index y beside in
+    slice_get-get_or (zip xs ys) index (x, y) (omega (arith, a, b, length-zip xs ys))
+    ∙ ap Some (get_or-zip xs ys index (x, y) a b
+    ∙ λ i. (get_or_from_slice_get xs index x x here i, get_or_from_slice_get ys index y y beside i))
 
 module _ (starts : List Nanos) (frames streams octets : List ℕ) (even : AreColumns starts frames streams octets) where
   ends_even : length (zip streams octets) ≡ length starts
@@ -75,13 +75,13 @@ module _ (starts : List Nanos) (frames streams octets : List ℕ) (even : AreCol
       ∙ map-append sent_across (zip starts (zip frames (zip streams octets))) ((sent.start, (sent.frame, (sent.stream, sent.octets))) ∷ [])
 
   -- the frame at an index consists of the elements there of all columns
-  pub across_at : (place : ℕ) (sent : Sent) → slice_get starts place ≡ Some sent.start → slice_get frames place ≡ Some sent.frame →
-      slice_get streams place ≡ Some sent.stream → slice_get octets place ≡ Some sent.octets →
-      slice_get (sents_across starts frames streams octets) place ≡ Some sent
-  across_at place sent start frame stream size =
-      slice_get-map sent_across (zip starts (zip frames (zip streams octets))) place
-      ∙ ap (option_map sent_across) (get_zip starts (zip frames (zip streams octets)) place sent.start _ start
-      (get_zip frames (zip streams octets) place sent.frame _ frame (get_zip streams octets place sent.stream sent.octets stream size)))
+  pub across_at : (index : ℕ) (sent : Sent) → slice_get starts index ≡ Some sent.start → slice_get frames index ≡ Some sent.frame →
+      slice_get streams index ≡ Some sent.stream → slice_get octets index ≡ Some sent.octets →
+      slice_get (sents_across starts frames streams octets) index ≡ Some sent
+  across_at index sent start frame stream size =
+      slice_get-map sent_across (zip starts (zip frames (zip streams octets))) index
+      ∙ ap (option_map sent_across) (get_zip starts (zip frames (zip streams octets)) index sent.start _ start
+      (get_zip frames (zip streams octets) index sent.frame _ frame (get_zip streams octets index sent.stream sent.octets stream size)))
 
   module _ (sent : Sent) (starts_after : List Nanos) (frames_after streams_after octets_after : List ℕ)
       (start : starts_after ≡ starts ++ sent.start ∷ []) (frame : frames_after ≡ frames ++ sent.frame ∷ [])

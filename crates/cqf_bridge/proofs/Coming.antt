@@ -3,7 +3,7 @@ use Rattle.std.proofs.Common.{◌≡◌, ◌+◌, ◌≤◌, ◌<◌, ℕ, true,
 use Rattle.std.specs.Prelude.{slice_get}
 use Rattle.std.proofs.lemmas.Bool.{cases_lt}
 use Rattle.std.proofs.lemmas.Option.{get_or_from_slice_get, slice_get_within}
-use Rattle.cqf_lists.proofs.Members.{contains_map, place_of_member}
+use Rattle.cqf_lists.proofs.Members.{contains_map, index_of_member}
 use Rattle.cqf_lists.proofs.Numbers.{kept_number}
 use Rattle.cqf_model.specs.declared.topology.Row.{Row}
 use Rattle.cqf_model.specs.Domain.{Domain, enters}
@@ -20,9 +20,9 @@ batch_enters d bridge batches b are held =
     (kept_number (λ l. enters d l bridge) (length d.links) b.link among).1
 
 -- what holds of the first elements, and of one more
-pub one_more_place : {X : Type 0} (P : X → Type 0) (xs : List X) (n : ℕ) (x : X) → x ≡ get_or xs n x → P x →
+pub one_more_index : {X : Type 0} (P : X → Type 0) (xs : List X) (n : ℕ) (x : X) → x ≡ get_or xs n x → P x →
     ((k : ℕ) (y : X) → k < n → slice_get xs k ≡ Some y → P y) → (k : ℕ) (y : X) → k < n + 1 → slice_get xs k ≡ Some y → P y
-one_more_place {X} P xs n x is here before k y less at = elim (cases_lt k n) [
+one_more_index {X} P xs n x is here before k y less at = elim (cases_lt k n) [
   | inl sooner ↦ before k y sooner at
   | inr from ↦
       let same : k ≡ n = omega (arith, less, from) in
@@ -41,7 +41,7 @@ module _ (d : Domain) (bridge cycle : ℕ) (rows : List Row) (batches : List Lin
     where
       of_member : (b : LinkBatch) → Contains batches b → IsBatchOf d bridge cycle rows b
       of_member b held =
-          let p = place_of_member batches b held in
+          let p = index_of_member batches b held in
           each p.0 b (omega (arith, past, slice_get_within batches p.0 b p.1)) p.1
 
   -- a batch that isn't of the cycle isn't one of them

@@ -53,7 +53,7 @@ module _ {X : Type 0} (key : X → ℕ) where
         ap
             (λ (c : ℕ). c * time) e,
       ))) in
-      let none_behind : filter of_cycle (drop count rest) ≡ [] = filter_none of_cycle (drop count rest) (λ x h.
+      let none_after : filter of_cycle (drop count rest) ≡ [] = filter_none of_cycle (drop count rest) (λ x h.
       ne_eqb (cycle_at time (key x)) cycle
       (λ e. omega (arith, later (cycle * time + time) rest count last within x h, cycle_upto time (key x) some, ap (λ (c : ℕ). c * time) e))) in
       let each : filter of_cycle (take count rest) ≡ take count rest = filter_each of_cycle (take count rest) (λ x h.
@@ -63,7 +63,7 @@ module _ {X : Type 0} (key : X → ℕ) where
       ap (filter of_cycle) (sym (take-append-drop from xs)) ∙ filter-append of_cycle (take from xs) rest
       ∙ ap (λ (ys : List X). ys ++ filter of_cycle rest) none_before
       ∙ ap (filter of_cycle) (sym (take-append-drop count rest)) ∙ filter-append of_cycle (take count rest) (drop count rest)
-      ∙ (λ i. each i ++ none_behind i)
+      ∙ (λ i. each i ++ none_after i)
       ∙ append-nil (take count rest))
 
   -- the same if the rest is taken whole

@@ -5,7 +5,7 @@ use Rattle.std.specs.Option.{option_to_list}
 use Rattle.std.proofs.lemmas.Option.{same_Some, slice_get_cases, slice_get_within}
 use Rattle.cqf_lists.proofs.Members.{contains_from_map}
 use Rattle.cqf_lists.proofs.Ones.{flat_map_ones}
-use Rattle.cqf_lists.proofs.Places.{slice_get_front}
+use Rattle.cqf_lists.proofs.Indices.{slice_get_front}
 use Rattle.cqf_lists.proofs.EachBelow.{get_or-singles}
 use Rattle.cqf_laws_history.specs.HistoryLaws.{ThereAreSoManyTables}
 use Rattle.cqf_model.specs.declared.topology.Row.{Row}
@@ -137,7 +137,7 @@ module _ (t : Traffic) (course : Course) (tables : List (List Row)) (cycles : â„
         GivesTheDrops (run_with t tables) cycle net (w.halfway cycle) (w.before (cycle + 1)) (w.dropped cycle)
     drops bridge w inside has =
         let run = run_with t tables in
-        let h = halfway_is bridge w inside (omega (arith, has, w.not_behind)) in
+        let h = halfway_is bridge w inside (omega (arith, has, w.not_after)) in
         let of_run : IsRunOfBridge t.domain bridge cycle (table_of (course.tables bridge) cycle) (offered_for t.domain t.offers bridge cycle) run = record {
           domain = refl;
           table = is.tables_are bridge cycle inside within (omega (arith, has, w.had_table));
@@ -160,7 +160,7 @@ module _ (t : Traffic) (course : Course) (tables : List (List Row)) (cycles : â„
         IsBefore (run_with t tables) net bridge (cycle + 1) (w.before (cycle + 1))
     next_before bridge w inside has =
         let r = drops bridge w inside has in
-        let h = halfway_is bridge w inside (omega (arith, has, w.not_behind)) in
+        let h = halfway_is bridge w inside (omega (arith, has, w.not_after)) in
         record { follows = r.follows; received = r.one_on; number = r.number âˆ™ h.number }
 
     -- its output in the cycle is the network's part for it
@@ -169,7 +169,7 @@ module _ (t : Traffic) (course : Course) (tables : List (List Row)) (cycles : â„
         â‰¡ page_given (batches_from t.domain net.carried bridge cycle) (on_links_of t.domain bridge (background_in t.domain net.backed cycle))
         (drops_of_cycle (run_with t tables) net bridge cycle)
     page_is bridge w inside has =
-        let sent : cycle < course.sent bridge = omega (arith, has, w.not_behind) in
+        let sent : cycle < course.sent bridge = omega (arith, has, w.not_after) in
         let before = all bridge w inside (omega (arith, has)) in
         let batches = sent_are bridge cycle w within sent before in
         let others = (gives bridge cycle w within sent before).background

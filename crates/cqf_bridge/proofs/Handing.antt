@@ -33,13 +33,13 @@ module _ (frames : List QueuedFrame) (made : List Transmission) (before : LinkBa
   none_handed = record { link = refl; cycle = refl; sent = refl; others = refl; few = omega arith }
 
   -- the next is handed on, with its arrival and stream
-  pub one_handed : (count : ℕ) (x e : Transmission) (arrival : Arrival) (stream : Option ℕ) (after more : LinkBatch) (behind later : List Started) →
-      HasHanded frames made count before after background behind → count < length made → x ≡ get_or made count e →
+  pub one_handed : (count : ℕ) (x e : Transmission) (arrival : Arrival) (stream : Option ℕ) (after more : LinkBatch) (following later : List Started) →
+      HasHanded frames made count before after background following → count < length made → x ≡ get_or made count e →
       sent_of frames x ≡ sent_by x.1 arrival stream → backed_of frames x ≡ backed_by x.1 arrival stream →
       more ≡ record after { frames = after.frames ++ sent_by x.1 arrival stream } →
-      later ≡ behind ++ map (started_backed after.cycle after.link) (backed_by x.1 arrival stream) →
+      later ≡ following ++ map (started_backed after.cycle after.link) (backed_by x.1 arrival stream) →
       HasHanded frames made (count + 1) before more background later
-  one_handed count x e arrival stream after more behind later h inside is_x are_sent are_backed is_more is_later =
+  one_handed count x e arrival stream after more following later h inside is_x are_sent are_backed is_more is_later =
       let rest = drop (count + 1) made in
       let sents = sent_by x.1 arrival stream in
       let backs = backed_by x.1 arrival stream in
@@ -61,10 +61,10 @@ module _ (frames : List QueuedFrame) (made : List Transmission) (before : LinkBa
             ∙ ap (λ (z : List Sent). after.frames ++ z) (sym all_sent) ∙ h.sent;
         others =
             ap (λ (z : List Started). z ++ map book (flat_map (backed_of frames) rest)) is_later
-            ∙ (λ i. (behind ++ map (started_backed (h.cycle i) (h.link i)) backs) ++ map book (flat_map (backed_of frames) rest))
-            ∙ append_assoc behind (map book backs) (map book (flat_map (backed_of frames) rest))
-            ∙ ap (λ (z : List Started). behind ++ z) (sym (map-append book backs (flat_map (backed_of frames) rest)))
-            ∙ ap (λ (z : List Start). behind ++ map book z) (sym all_backed) ∙ h.others;
+            ∙ (λ i. (following ++ map (started_backed (h.cycle i) (h.link i)) backs) ++ map book (flat_map (backed_of frames) rest))
+            ∙ append_assoc following (map book backs) (map book (flat_map (backed_of frames) rest))
+            ∙ ap (λ (z : List Started). following ++ z) (sym (map-append book backs (flat_map (backed_of frames) rest)))
+            ∙ ap (λ (z : List Start). following ++ map book z) (sym all_backed) ∙ h.others;
         few = omega (
           arith,
           h.few,
@@ -76,17 +76,17 @@ module _ (frames : List QueuedFrame) (made : List Transmission) (before : LinkBa
       }
 
   -- in the end all are
-  pub all_handed : (count : ℕ) (after : LinkBatch) (behind : List Started) → HasHanded frames made count before after background behind →
+  pub all_handed : (count : ℕ) (after : LinkBatch) (following : List Started) → HasHanded frames made count before after background following →
       length made ≤ count →
       (after ≡ record before { frames = before.frames ++ flat_map (sent_of frames) made })
-      × (behind ≡ background ++ map (started_backed before.cycle before.link) (flat_map (backed_of frames) made))
-  all_handed count after behind h past =
+      × (following ≡ background ++ map (started_backed before.cycle before.link) (flat_map (backed_of frames) made))
+  all_handed count after following h past =
       let none : drop count made ≡ [] = drop_of_length-le made past in (
         (λ i. record {
           link = h.link i;
           cycle = h.cycle i;
           frames = (sym (append-nil after.frames) ∙ ap (λ (z : List Transmission). after.frames ++ flat_map (sent_of frames) z) (sym none) ∙ h.sent) i;
         }),
-        sym (append-nil behind)
-            ∙ ap (λ (z : List Transmission). behind ++ map (started_backed before.cycle before.link) (flat_map (backed_of frames) z)) (sym none) ∙ h.others,
+        sym (append-nil following)
+            ∙ ap (λ (z : List Transmission). following ++ map (started_backed before.cycle before.link) (flat_map (backed_of frames) z)) (sym none) ∙ h.others,
       )

@@ -11,7 +11,7 @@ use Rattle.cqf_model.specs.declared.frames.Offer.{Offer}
 use Rattle.cqf_model.specs.declared.frames.Offered.{Offered}
 use Rattle.cqf_model.specs.Domain.{Domain}
 use Rattle.cqf_model.specs.Network.{numbered_background}
-use Rattle.cqf_model.specs.Traffic.{numbered}
+use Rattle.cqf_model.specs.Policing.{numbered}
 use Rattle.cqf_laws_cycle.specs.Gathered.{BackgroundStandsInOrder, IsInOrderOf, OffersStandInOrder}
 use Rattle.cqf_bridge.specs.Agenda.{AgendaOf, IsAgendaOf, instant_of_backed, instant_of_offer}
 use Rattle.cqf_bridge.specs.Picking.{is_backed_from, is_offered_to}

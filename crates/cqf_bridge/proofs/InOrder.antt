@@ -7,7 +7,7 @@ use Rattle.cqf_lists.proofs.Filters.{filter-map}
 use Rattle.cqf_lists.proofs.Sorted.{stable_at}
 use Rattle.cqf_model.specs.declared.frames.Dropped.{Dropped}
 use Rattle.cqf_model.specs.declared.frames.Reason.TheVariants.{Unknown}
-use Rattle.cqf_model.specs.Traffic.{Received}
+use Rattle.cqf_model.specs.Policing.{Received}
 use Rattle.cqf_laws_cycle.specs.Gathered.{IsInOrderOf}
 use Rattle.cqf_bridge.specs.declared.gathering.Came.TheVariants.{ByLink}
 use Rattle.cqf_bridge.specs.declared.gathering.Incoming.{Incoming}

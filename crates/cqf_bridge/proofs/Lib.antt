@@ -1,8 +1,8 @@
 mod Counting
 mod Frames
-mod GatePlaces
+mod GateIndices
 mod KeptGates
-mod Behind
+mod After
 mod Bridges
 mod Columns
 pub mod Coming

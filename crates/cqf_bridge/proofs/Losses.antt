@@ -1,4 +1,4 @@
--- If nothing is lost inside, the frames that the links bring in a cycle go on, and refused memory is the only fault.
+-- If nothing is lost inside, the frames that the links bring in a cycle go on, and a failed allocation is the only fault.
 use Rattle.std.proofs.Common.{◌≡◌, ℕ, ◌+◌, ◌-◌, ◌*◌, ◌<◌, ◌≤◌, ◌==◌, Bool, true, false, not, if◌then◌else◌, List, []}
 use Rattle.std.proofs.Common.{◌∷◌, ◌++◌, length, map, filter, sym, ap, refl, ◌∙◌, arith, inl, inr, subst, Contains}
 use Rattle.std.proofs.Common.{eq-eqb}
@@ -20,8 +20,8 @@ use Rattle.cqf_model.specs.Domain.{Domain, cycle_of, enters}
 use Rattle.cqf_model.specs.Network.{IsLoss, Network, LosesNothing}
 use Rattle.cqf_model.specs.Run.{Run}
 use Rattle.cqf_model.specs.Table.{goes_on, row_of, table_of}
-use Rattle.cqf_model.specs.Traffic.{Carried, ExceedsGate, LacksRow, Policed, Queued, Received, inside_verdict, offered_at, police, police_all, policed_before}
-use Rattle.cqf_model.specs.Traffic.{received_at, relayed_at, sent_received, whole_at, within_gate}
+use Rattle.cqf_model.specs.Policing.{Carried, ExceedsGate, LacksRow, Policed, Queued, Received, inside_verdict, offered_at, police, police_all, policed_before}
+use Rattle.cqf_model.specs.Policing.{received_at, relayed_at, sent_received, whole_at, within_gate}
 use Rattle.cqf_model.proofs.LinkEnds.{enters_inside}
 use Rattle.cqf_laws_cycle.specs.BridgeCycle.{BatchIsWholeInItsCycle, CycleBringsItsBatches, IsCompiledNetwork, policed_of, received_in}
 use Rattle.cqf_laws_cycle.specs.RunSteps.{LossesAreOfCycles}
@@ -142,7 +142,7 @@ none_over whole brings losses reserves run cycles cycle bridge frame net compile
     let taken = verdicts_are brings reserves run cycles cycle bridge net compiled in
     let batches = batches_into run.domain net.carried bridge cycle in
     let inside : Contains (policed_of run net.carried bridge cycle) over.over =
-    subst (λ (ps : List Policed). Contains ps over.over) taken (contains_at (verdicts_in run bridge cycle batches) over.place over.over over.there) in
+    subst (λ (ps : List Policed). Contains ps over.over) taken (contains_at (verdicts_in run bridge cycle batches) over.index over.over over.there) in
     none_lost_in run cycles cycle bridge net compiled loses in_cycles whole losses over.over inside (subst IsLoss (sym over.exceeds) tt)
 
 -- so a bridge that has sent the cycle refuses to receive it only if memory is refused

@@ -22,12 +22,12 @@ use Rattle.cqf_bridge.specs.PortRecord.{AreDemanded, PortRecord, RunsTo, frame_w
 
 module _ (arrivals : List Arrival) (streams : List (Option ℕ)) (even : length streams ≡ length arrivals) where
   -- the frame at an index has the arrival and the stream there
-  pub frame_at : (place : ℕ) → place < length arrivals →
-      slice_index_or (map frame_with (zip arrivals streams)) place no_frame
-      ≡ frame_with (slice_index_or arrivals place no_arrival, slice_index_or streams place None)
-  frame_at place inside =
-      get_or-map frame_with (zip arrivals streams) place (no_arrival, None) no_frame (omega (arith, inside, even, length-zip arrivals streams))
-      ∙ ap frame_with (get_or-zip arrivals streams place (no_arrival, None) inside (omega (arith, inside, even)))
+  pub frame_at : (index : ℕ) → index < length arrivals →
+      slice_index_or (map frame_with (zip arrivals streams)) index no_frame
+      ≡ frame_with (slice_index_or arrivals index no_arrival, slice_index_or streams index None)
+  frame_at index inside =
+      get_or-map frame_with (zip arrivals streams) index (no_arrival, None) no_frame (omega (arith, inside, even, length-zip arrivals streams))
+      ∙ ap frame_with (get_or-zip arrivals streams index (no_arrival, None) inside (omega (arith, inside, even)))
 
   -- so what a transmission sends is determined by its arrival and stream
   pub sent_at : (x : Transmission) (d : Arrival) (e : Option ℕ) → x.0 < length arrivals →
@@ -61,16 +61,16 @@ pub record HasRunTo (r : PortRecord) (after : PortState) (until : ℕ) (made : L
   pub few : length made + r.port.reached ≤ until
 
 -- this is so if it ran up to the instant, with the starts after those that it had
-pub has_run_to : (r : PortRecord) (after : PortState) (until : ℕ) (starts kept behind : List Transmission) →
+pub has_run_to : (r : PortRecord) (after : PortState) (until : ℕ) (starts kept following : List Transmission) →
     r.port.reached < until → RunsUpTo until r.port after → IsPort after →
-    starts ≡ after.starts → kept ≡ r.port.starts → behind ≡ take (length starts - length kept) (drop (length kept) starts) →
-    HasRunTo r after until behind
-has_run_to r after until starts kept behind forward a port all had is =
+    starts ≡ after.starts → kept ≡ r.port.starts → following ≡ take (length starts - length kept) (drop (length kept) starts) →
+    HasRunTo r after until following
+has_run_to r after until starts kept following forward a port all had is =
     let made = a.made in
     let whole : starts ≡ r.port.starts ++ made = all ∙ ap (λ (p : PortState). p.starts) a.value in
     let rest : drop (length kept) starts ≡ made =
     (λ i. drop (length (had i)) (whole i)) ∙ drop-append_seam r.port.starts made in
-    let same : behind ≡ made =
+    let same : following ≡ made =
     is ∙ ap (take (length starts - length kept)) rest
     ∙ take_all (length starts - length kept) made
     (omega (arith, ap (λ (xs : List Transmission). length xs) whole, length-append r.port.starts made, ap (λ (xs : List Transmission). length xs) had)) in

@@ -5,20 +5,20 @@ use Rattle.std.specs.List.{enumerate_from}
 use Rattle.std.proofs.lemmas.Bool.{cond-false, cond-true}
 use Rattle.std.proofs.lemmas.List.{take_more, map-append, length-take-le}
 use Rattle.std.proofs.lemmas.List.Elements.{filter-append}
-use Rattle.cqf_lists.proofs.Places.{enumerate_from-push}
+use Rattle.cqf_lists.proofs.Indices.{enumerate_from-push}
 use Rattle.cqf_model.specs.declared.frames.Offer.{Offer}
 use Rattle.cqf_model.specs.declared.frames.Offered.{Offered}
 use Rattle.cqf_model.specs.Domain.{Domain}
-use Rattle.cqf_model.specs.Traffic.{numbered}
+use Rattle.cqf_model.specs.Policing.{numbered}
 use Rattle.cqf_laws_cycle.specs.Gathered.{is_offered_in}
 
 -- the offer at an index, with its number
-abbrev at_place : List Offer → ℕ → Offer → Offered
-at_place offers k d = record { frame = k + 1; offer = get_or offers k d }
+abbrev at_index : List Offer → ℕ → Offer → Offered
+at_index offers k d = record { frame = k + 1; offer = get_or offers k d }
 
 -- the numbered offers before an index, and one more
 numbered_more : (offers : List Offer) (k : ℕ) (d : Offer) → k < length offers → numbered (take (k + 1) offers) ≡ numbered (take k offers)
-    ++ at_place offers k d ∷ []
+    ++ at_index offers k d ∷ []
 numbered_more offers k d below =
     let le : k ≤ length offers = omega arith in
     let count : 1 + length (take k offers) ≡ k + 1 = omega (arith, length-take-le k offers le) in

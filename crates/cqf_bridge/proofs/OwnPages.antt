@@ -7,7 +7,7 @@ use Rattle.cqf_model.specs.Book.{Contents, IsBook, background_in, page_drops, pa
 use Rattle.cqf_model.specs.Domain.{Domain, leaves}
 use Rattle.cqf_model.specs.Network.{Network, compiled_lists}
 use Rattle.cqf_model.specs.Run.{Run}
-use Rattle.cqf_model.specs.Traffic.{Carried, policed_before}
+use Rattle.cqf_model.specs.Policing.{Carried, policed_before}
 use Rattle.cqf_laws_network.specs.NetworkLaws.{LegalNetworkIsUnique}
 use Rattle.cqf_laws_cycle.specs.BridgeCycle.{DropsAreOfTheCycle, IsCompiledNetwork}
 use Rattle.cqf_laws_cycle.specs.PageLaws.{PageSaysTheBackground, PageSaysWhatIsDropped, PageSaysWhatItsLinksSend, on_links_of}
@@ -51,10 +51,10 @@ module _ (unique : LegalNetworkIsUnique) (says_starts : PageSaysWhatItsLinksSend
   page_drops_are : page_drops bridge cycle book.drops ≡ drops_of_cycle run net bridge cycle
   page_drops_are =
       let d = run.domain in
-      let places = length run.offers in
+      let indices = length run.offers in
       ap (page_drops bridge cycle) is.are_drops
-      ∙ says_drops d cycles places (λ b. policed_before run is.net.carried b (cycles * d.cycle_time)) bridge cycle in_bridges in_cycles
-      ∙ of_the_cycle run is.net.carried cycles cycle bridge places in_cycles
+      ∙ says_drops d cycles indices (λ b. policed_before run is.net.carried b (cycles * d.cycle_time)) bridge cycle in_bridges in_cycles
+      ∙ of_the_cycle run is.net.carried cycles cycle bridge indices in_cycles
       ∙ ap (λ (n : Network). drops_of_cycle run n bridge cycle) same_network
 
   -- are the bridge's output

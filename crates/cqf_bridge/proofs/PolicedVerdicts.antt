@@ -6,6 +6,7 @@ use Rattle.std.specs.Prelude.{◌==◌, if◌then◌else◌}
 use Rattle.std.specs.List.{list_any}
 use Rattle.std.proofs.lemmas.Bool.{cases_eq, cond-true, eq-eqb, ne_eqb}
 use Rattle.cqf_lists.proofs.Members.{contains_here}
+use Rattle.cqf_units.specs.Timing.{counted_of}
 use Rattle.cqf_model.specs.declared.frames.Dropped.{Dropped}
 use Rattle.cqf_model.specs.declared.frames.Reason.{Reason}
 use Rattle.cqf_model.specs.declared.frames.Reason.TheVariants.{Octets, OtherBridge, Withdrawn}
@@ -17,9 +18,9 @@ use Rattle.cqf_model.specs.Network.{IsLoss, QueuedFrame, queued_by, queued_frame
 use Rattle.cqf_model.specs.GateList.{IsOpen}
 use Rattle.cqf_model.specs.Port.{PortRules}
 use Rattle.cqf_model.specs.StreamGate.{gate_class, stream_list}
-use Rattle.cqf_model.specs.Table.{begins_at, depth_behind, goes_on, goes_to, is_live, row_named, row_of}
-use Rattle.cqf_model.specs.Traffic.{AtEdge as Offering, DroppedFor, ExceedsGate, LacksRow, Queued, Received, Relayed}
-use Rattle.cqf_model.specs.Traffic.{Verdict, Way, came_by, edge_verdict, inside_verdict, is_queued_of, verdict_by}
+use Rattle.cqf_model.specs.Table.{begins_at, goes_on, goes_to, hop_number_after, is_live, row_named, row_of}
+use Rattle.cqf_model.specs.Policing.{AtEdge as Offering, DroppedFor, ExceedsGate, LacksRow, Queued, Received, Relayed}
+use Rattle.cqf_model.specs.Policing.{Ingress, Verdict, came_by, edge_verdict, inside_verdict, is_queued_of, verdict_by}
 use Rattle.cqf_units.specs.Timing.{cycle_at}
 use Rattle.cqf_gates.specs.StreamGate.{Gate}
 use Rattle.cqf_gates.specs.declared.streams.Passed.TheVariants.{Class, OverOctets}
@@ -49,13 +50,13 @@ word_over false m said = refl
 
 module _ (d : Domain) (cycle : ℕ) (x : Received) (row : Row) (gates gates_after : List KeptGate) (some : 0 < d.cycle_time)
     (here : cycle_of d x.at ≡ cycle)
-    (after : gates_after ≡ with_gate gates (kept_after d.cycle_time row.no (gate_in d gates row (came_by x.way)) x.at x.octets)) where
+    (after : gates_after ≡ with_gate gates (kept_after d.cycle_time row.no (gate_in d gates row (came_by x.ingress)) x.at (counted_of d.overhead x.octets))) where
   -- the gate of the row, and its state after the frame
   abbrev gate : Gate
-  gate = gate_in d gates row (came_by x.way)
+  gate = gate_in d gates row (came_by x.ingress)
 
   abbrev put : KeptGate
-  put = kept_after d.cycle_time row.no gate x.at x.octets
+  put = kept_after d.cycle_time row.no gate x.at (counted_of d.overhead x.octets)
 
   -- if the gates were called before the cycle's end, they still were
   kept_again : AreKept (cycle + 1) gates → AreKept (cycle + 1) gates_after
@@ -71,14 +72,14 @@ module _ (d : Domain) (cycle : ℕ) (x : Received) (row : Row) (gates gates_afte
 
     -- what is counted for the row's own number
     own_counted : counted_in gates_after row.no cycle
-        ≡ counted_in gates row.no cycle + (if is_queued_of row.no (verdict_if went row) then x.octets else 0)
+        ≡ counted_in gates row.no cycle + (if is_queued_of row.no (verdict_if went row) then counted_of d.overhead x.octets else 0)
     own_counted =
         ap (λ (gs : List KeptGate). counted_in gs row.no cycle) after
         ∙ ap (λ (o : Option KeptGate). counted_by o cycle) (gate_put gates put)
         ∙ ap (λ (b : Bool). if b then put.taken else 0) (eq-eqb (cycle_of d x.at) cycle here)
-        ∙ counted_more counts d.cycle_time row.octets row.pace (depth_behind row (came_by x.way)) some (kept_of gates row.no) x.at x.octets
-        ∙ ap (λ (c : ℕ). counted_in gates row.no c + (if went then x.octets else 0)) here
-        ∙ ap (λ (b : Bool). counted_in gates row.no cycle + (if b then x.octets else 0)) (sym (own went))
+        ∙ counted_more counts d.cycle_time row.octets row.pace (hop_number_after row (came_by x.ingress)) some (kept_of gates row.no) x.at (counted_of d.overhead x.octets)
+        ∙ ap (λ (c : ℕ). counted_in gates row.no c + (if went then counted_of d.overhead x.octets else 0)) here
+        ∙ ap (λ (b : Bool). counted_in gates row.no cycle + (if b then counted_of d.overhead x.octets else 0)) (sym (own went))
       where
         own : (b : Bool) → is_queued_of row.no (verdict_if b row) ≡ b
         own true = eq-eqb row.no row.no refl
@@ -86,12 +87,12 @@ module _ (d : Domain) (cycle : ℕ) (x : Received) (row : Row) (gates gates_afte
 
     -- and for another number
     other_counted : (number : ℕ) → row.no ≢ number → counted_in gates_after number cycle
-        ≡ counted_in gates number cycle + (if is_queued_of number (verdict_if went row) then x.octets else 0)
+        ≡ counted_in gates number cycle + (if is_queued_of number (verdict_if went row) then counted_of d.overhead x.octets else 0)
     other_counted number apart =
         ap (λ (gs : List KeptGate). counted_in gs number cycle) after
         ∙ ap (λ (o : Option KeptGate). counted_by o cycle) (gate_beside gates put number apart)
         ∙ plus_none (counted_in gates number cycle)
-        ∙ ap (λ (b : Bool). counted_in gates number cycle + (if b then x.octets else 0)) (sym (none went))
+        ∙ ap (λ (b : Bool). counted_in gates number cycle + (if b then counted_of d.overhead x.octets else 0)) (sym (none went))
       where
         plus_none : (n : ℕ) → n ≡ n + 0
         plus_none n = omega arith
@@ -107,19 +108,19 @@ module _ (d : Domain) (cycle : ℕ) (x : Received) (row : Row) (gates gates_afte
       counted = λ number. elim (cases_eq row.no number) [
         | inl e ↦
             subst (λ (n : ℕ). counted_in gates_after n cycle ≡ counted_in gates n cycle
-            + (if is_queued_of n (verdict_if went row) then x.octets else 0)) e own_counted
+            + (if is_queued_of n (verdict_if went row) then counted_of d.overhead x.octets else 0)) e own_counted
         | inr apart ↦ other_counted number apart
       ];
       kept = kept_again;
     }
 
 -- the class that a stream's frame gets is 6 or 7
-pub class_of_stream : GateGivesClass → (time reserved : ℕ) (pace : Pace) (depth t : ℕ) → 0 < time →
-    (gate_class (stream_list time reserved pace depth) t ≡ 6) ⊎ (gate_class (stream_list time reserved pace depth) t ≡ 7)
-class_of_stream gives time reserved pace depth t some = either (cycle_at time t % 2 == 0) (gives time reserved pace depth t some)
+pub class_of_stream : GateGivesClass → (time reserved : ℕ) (pace : Pace) (hop_number t : ℕ) → 0 < time →
+    (gate_class (stream_list time reserved pace hop_number) t ≡ 6) ⊎ (gate_class (stream_list time reserved pace hop_number) t ≡ 7)
+class_of_stream gives time reserved pace hop_number t some = either (cycle_at time t % 2 == 0) (gives time reserved pace hop_number t some)
   where
-    either : (b : Bool) → gate_class (stream_list time reserved pace depth) t ≡ (if b then 6 else 7) →
-        (gate_class (stream_list time reserved pace depth) t ≡ 6) ⊎ (gate_class (stream_list time reserved pace depth) t ≡ 7)
+    either : (b : Bool) → gate_class (stream_list time reserved pace hop_number) t ≡ (if b then 6 else 7) →
+        (gate_class (stream_list time reserved pace hop_number) t ≡ 6) ⊎ (gate_class (stream_list time reserved pace hop_number) t ≡ 7)
     either true e = inl e
     either false e = inr e
 
@@ -128,14 +129,14 @@ module _ (d : Domain) (cycle : ℕ) (x : Received) (row : Row) (ports : List Por
     (arrival : Arrival)
     (is : arrival ≡ (queued_frame d x row).arrival) where
   -- a frame that passed may be recorded at each port by whose link it goes on
-  pub may_record : (r : PortRecord) → Contains ports r → list_any (λ next. next == r.link) (goes_to row (came_by x.way)) ≡ true → CanRecord r.port arrival
+  pub may_record : (r : PortRecord) → Contains ports r → list_any (λ next. next == r.link) (goes_to row (came_by x.ingress)) ≡ true → CanRecord r.port arrival
   may_record r held goes = (
     λ late.
         let waiting = each_waits r held in
         let frame = queued_frame d x row in
         let queued : Contains (queued_to d r.link (record { received = x; verdict = Queued row } ∷ [])) frame =
         subst (λ (fs : List QueuedFrame). Contains fs frame)
-        (sym (append-nil (queued_by d r.link x (Queued row)) ∙ cond-true (list_any (λ next. next == r.link) (goes_to row (came_by x.way)))
+        (sym (append-nil (queued_by d r.link x (Queued row)) ∙ cond-true (list_any (λ next. next == r.link) (goes_to row (came_by x.ingress)))
         (frame ∷ []) [] goes))
         (contains_here frame []) in
         let from : x.at ≤ late.instant = omega (arith, late.from_first, ap (λ (a : Arrival). a.at.0) is) in
@@ -145,7 +146,7 @@ module _ (d : Domain) (cycle : ℕ) (x : Received) (row : Row) (ports : List Por
         (subst (λ rules. IsOpen rules frame.arrival.class late.instant) (ap (λ (rules : PortRules). rules.entries) waiting.rules)
         (subst (λ (a : Arrival). IsOpen r.port.rules.entries a.class late.instant) is late.is_open)),
     not_out_of_order r.port arrival (λ b inside same.
-        let high : 6 ≤ b.class = (elim (class_of_stream gives d.cycle_time row.octets row.pace (depth_behind row (came_by x.way)) x.at (omega (arith, short r.link))) [
+        let high : 6 ≤ b.class = (elim (class_of_stream gives d.cycle_time row.octets row.pace (hop_number_after row (came_by x.ingress)) x.at (omega (arith, short r.link))) [
           | inl six ↦ omega (arith, same, ap (λ (a : Arrival). a.class) is, six)
           | inr seven ↦ omega (arith, same, ap (λ (a : Arrival). a.class) is, seven)
         ]) in
@@ -158,11 +159,11 @@ none_queued d x reason [] = refl
 none_queued d x reason (r ∷ ports) = λ i. sym (frames_none r) i ∷ none_queued d x reason ports i
 
 -- frames that get to the ports in the class that their gate gives are queued as the verdict says
-pub queued_as : (d : Domain) (x : Received) (row : Row) (class : ℕ) (way : Option ℕ) (ports after : List PortRecord) → class ≡ class_in d x row
-    → way ≡ came_by x.way →
-    after ≡ map (queue_on row way (record { at = record { 0 = x.at }; class = class; octets = x.octets; frame = x.frame })) ports →
+pub queued_as : (d : Domain) (x : Received) (row : Row) (class : ℕ) (ingress : Option ℕ) (ports after : List PortRecord) → class ≡ class_in d x row
+    → ingress ≡ came_by x.ingress →
+    after ≡ map (queue_on row ingress (record { at = record { 0 = x.at }; class = class; octets = x.octets; frame = x.frame })) ports →
     after ≡ map (with_verdict d x (Queued row)) ports
-queued_as d x row class way ports after gives came is =
+queued_as d x row class ingress ports after gives came is =
     let on : Option ℕ → ℕ → PortRecord → PortRecord = λ w k.
     queue_on row w (record { at = record { 0 = x.at }; class = k; octets = x.octets; frame = x.frame }) in
     is ∙ (λ i. map (on (came i) (gives i)) ports)
@@ -177,8 +178,8 @@ module _ (d : Domain) (rows : List Row) (bridge cycle : ℕ) (x : Received) (gat
     counted = λ number.
         ap (λ (gs : List KeptGate). counted_in gs number cycle) same
         ∙ plus_none (counted_in gates number cycle)
-        ∙ ap (λ (b : Bool). counted_in gates number cycle + (if b then x.octets else 0)) (sym (none number))
-        ∙ ap (λ (v : Verdict). counted_in gates number cycle + (if is_queued_of number v then x.octets else 0)) is;
+        ∙ ap (λ (b : Bool). counted_in gates number cycle + (if b then counted_of d.overhead x.octets else 0)) (sym (none number))
+        ∙ ap (λ (v : Verdict). counted_in gates number cycle + (if is_queued_of number v then counted_of d.overhead x.octets else 0)) is;
     kept = λ kept. subst (AreKept (cycle + 1)) (sym same) kept;
   }
     where
@@ -195,8 +196,8 @@ module _ (d : Domain) (rows : List Row) (bridge cycle : ℕ) (x : Received) (gat
     class = gives;
     counted = λ number.
         p.counted number
-        ∙ ap (λ (b : Bool). counted_in gates number cycle + (if b then x.octets else 0)) (same number)
-        ∙ ap (λ (v : Verdict). counted_in gates number cycle + (if is_queued_of number v then x.octets else 0)) is;
+        ∙ ap (λ (b : Bool). counted_in gates number cycle + (if b then counted_of d.overhead x.octets else 0)) (same number)
+        ∙ ap (λ (v : Verdict). counted_in gates number cycle + (if is_queued_of number v then counted_of d.overhead x.octets else 0)) is;
     kept = p.kept;
   }
 
@@ -232,7 +233,7 @@ module _ (d : Domain) (rows : List Row) (bridge cycle : ℕ) (x : Received) (gat
 
 -- the verdict on an offer, by the row of its name
 pub verdict_at_edge : (d : Domain) (rows : List Row) (bridge cycle : ℕ) (gates : List KeptGate) (x : Received) (name : List ℕ) (found : Option Row) →
-    x.way ≡ Offering name → found ≡ row_named rows name →
+    x.ingress ≡ Offering name → found ≡ row_named rows name →
     verdict_taken d rows bridge cycle gates x ≡ edge_verdict d bridge cycle (passes_by d gates x) found
 verdict_at_edge d rows bridge cycle gates x name found came is =
     ap (verdict_by d rows bridge cycle (passes_by d gates x)) came
@@ -240,7 +241,7 @@ verdict_at_edge d rows bridge cycle gates x name found came is =
 
 -- and on a frame that arrived by a link, with a row that leads on
 pub verdict_inside : (d : Domain) (rows : List Row) (bridge cycle : ℕ) (gates : List KeptGate) (x : Received) (link stream : ℕ) (row : Row) →
-    x.way ≡ Relayed link stream → Some row ≡ row_of rows stream → goes_on d row (Some link) bridge ≡ true →
+    x.ingress ≡ Relayed link stream → Some row ≡ row_of rows stream → goes_on d row (Some link) bridge ≡ true →
     verdict_taken d rows bridge cycle gates x ≡ verdict_if (passes_by d gates x row) row
 verdict_inside d rows bridge cycle gates x link stream row came is goes =
     let passes = passes_by d gates x in
@@ -256,14 +257,14 @@ verdict_inside d rows bridge cycle gates x link stream row came is goes =
 
 -- or with no row, or one that doesn't lead on
 pub verdict_lacking : (d : Domain) (rows : List Row) (bridge cycle : ℕ) (gates : List KeptGate) (x : Received) (link stream : ℕ) →
-    x.way ≡ Relayed link stream → None ≡ row_of rows stream → verdict_taken d rows bridge cycle gates x ≡ LacksRow
+    x.ingress ≡ Relayed link stream → None ≡ row_of rows stream → verdict_taken d rows bridge cycle gates x ≡ LacksRow
 verdict_lacking d rows bridge cycle gates x link stream came is =
     ap (verdict_by d rows bridge cycle (passes_by d gates x)) came
     ∙ ap (inside_verdict d bridge link (passes_by d gates x)) (sym is)
 
 -- a frame whose row leads on by no link of the bridge is lost there
 pub verdict_not_leading : (d : Domain) (rows : List Row) (bridge cycle : ℕ) (gates : List KeptGate) (x : Received) (link stream : ℕ) (row : Row) →
-    x.way ≡ Relayed link stream → Some row ≡ row_of rows stream → goes_on d row (Some link) bridge ≡ false →
+    x.ingress ≡ Relayed link stream → Some row ≡ row_of rows stream → goes_on d row (Some link) bridge ≡ false →
     verdict_taken d rows bridge cycle gates x ≡ LacksRow
 verdict_not_leading d rows bridge cycle gates x link stream row came is goes =
     let passes = passes_by d gates x in
@@ -298,19 +299,19 @@ edge_lacks_none d bridge cycle passes (Some row) lacks = reasons (not (is_live r
 -- nor does a frame that may be taken
 pub lacks_none : (d : Domain) (rows : List Row) (bridge cycle : ℕ) (gates : List KeptGate) (x : Received) → MayBeTaken d bridge cycle rows x →
     verdict_taken d rows bridge cycle gates x ≡ LacksRow → ⊥
-lacks_none d rows bridge cycle gates x may lacks = by_way x.way refl
+lacks_none d rows bridge cycle gates x may lacks = by_ingress x.ingress refl
   where
     -- a frame that passes its gate, or doesn't
     either : (b : Bool) (row : Row) → verdict_if b row ≡ LacksRow → ⊥
     either true row e = absurd cc
     either false row e = absurd cc
 
-    -- by the way it arrived
-    by_way : (way : Way) → x.way ≡ way → ⊥
-    by_way (Offering name) came =
+    -- by how it arrived
+    by_ingress : (ingress : Ingress) → x.ingress ≡ ingress → ⊥
+    by_ingress (Offering name) came =
         edge_lacks_none d bridge cycle (passes_by d gates x) (row_named rows name)
         (sym (verdict_at_edge d rows bridge cycle gates x name (row_named rows name) came refl) ∙ lacks)
-    by_way (Relayed link stream) came =
+    by_ingress (Relayed link stream) came =
         let k = may.leads_on link stream came in
         either (passes_by d gates x k.0) k.0 (sym (verdict_inside d rows bridge cycle gates x link stream k.0 came (sym k.1) k.2) ∙ lacks)
 

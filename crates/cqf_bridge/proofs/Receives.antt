@@ -12,7 +12,7 @@ use Rattle.cqf_model.specs.declared.topology.Row.{Row}
 use Rattle.cqf_model.specs.Domain.{Domain}
 use Rattle.cqf_model.specs.Network.{QueuedFrame, arrivals_of, queued_by, queued_to}
 use Rattle.cqf_model.specs.Run.{Run}
-use Rattle.cqf_model.specs.Traffic.{Policed, received_at}
+use Rattle.cqf_model.specs.Policing.{Policed, received_at}
 use Rattle.cqf_model.proofs.Coming.{queued_when, received_when}
 use Rattle.cqf_model.proofs.Policing.{police_member}
 use Rattle.cqf_laws_cycle.specs.BridgeCycle.{received_in}
@@ -81,8 +81,8 @@ module _ (b : BridgeState) (gates : List KeptGate) (cycle table_cycle : ℕ) (ma
 
   module _ (rows : List Row) (offers : List Offered) (batches : List LinkBatch) (gates_after : List KeptGate) (ports : List PortRecord) (drops : List Dropped)
       (kept : AreKept (cycle + 1) gates_after) where
-    abbrev behind : BridgeState
-    behind = record {
+    abbrev following : BridgeState
+    following = record {
       domain = b.domain;
       number = b.number;
       sent = b.sent;
@@ -124,7 +124,7 @@ module _ (b : BridgeState) (gates : List KeptGate) (cycle table_cycle : ℕ) (ma
           }
 
       -- the bridge satisfies the invariant again
-      pub bridge_received : HasGates behind gates_after
+      pub bridge_received : HasGates following gates_after
       bridge_received = record {
         bridge = record {
           accepted = may.has_gates.bridge.accepted;
@@ -144,7 +144,7 @@ module _ (b : BridgeState) (gates : List KeptGate) (cycle table_cycle : ℕ) (ma
       }
 
       -- and has received the cycle
-      pub cycle_received : ReceivesCycle run b behind cycle batches drops
+      pub cycle_received : ReceivesCycle run b following cycle batches drops
       cycle_received = record {
         bridge = λ i. record {
           domain = b.domain;

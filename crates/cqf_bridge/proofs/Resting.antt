@@ -15,9 +15,9 @@ use Rattle.cqf_bridge.specs.Taking.{HasGates}
 pub runs_quietly : (r : PortRecord) (after : PortState) (until : ℕ) → RunsUpTo until r.port after → AreOnly after → IsQuiet until r → after
     ≡ (rested until r).port
 runs_quietly r after until runs only quiet =
-    let behind : List Transmission → PortState = λ starts. record { rules = r.port.rules; reached = until; arrivals = r.port.arrivals; starts = starts } in
-    let here : AreOnly (behind (r.port.starts ++ runs.made)) = subst AreOnly runs.value only in
-    runs.value ∙ ap behind (sym (here r.port.starts quiet))
+    let following : List Transmission → PortState = λ starts. record { rules = r.port.rules; reached = until; arrivals = r.port.arrivals; starts = starts } in
+    let here : AreOnly (following (r.port.starts ++ runs.made)) = subst AreOnly runs.value only in
+    runs.value ∙ ap following (sym (here r.port.starts quiet))
 
 module _ (b : BridgeState) (cycle : ℕ) (is : IsBridge b) (may : MayPass b cycle) where
   -- what arrives before the received cycles' end arrives before the end of the cycle

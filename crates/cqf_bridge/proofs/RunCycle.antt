@@ -24,7 +24,7 @@ use Rattle.cqf_model.specs.Domain.{Domain, cycle_of, delay_of, enters, octet_tim
 use Rattle.cqf_model.specs.Network.{queued_to}
 use Rattle.cqf_model.specs.Run.{Run}
 use Rattle.cqf_model.specs.Table.{goes_on, row_of, table_of}
-use Rattle.cqf_model.specs.Traffic.{AtEdge, Policed, Received, Relayed, is_offered_at, numbered, offer_received, police_all, sent_received, whole_at}
+use Rattle.cqf_model.specs.Policing.{AtEdge, Policed, Received, Relayed, is_offered_at, numbered, offer_received, police_all, sent_received, whole_at}
 use Rattle.cqf_model.proofs.LinkEnds.{enters_inside}
 use Rattle.cqf_model.proofs.Policing.{police_same}
 use Rattle.cqf_laws_cycle.specs.BridgeCycle.{received_in}

@@ -14,7 +14,7 @@ use Rattle.cqf_model.specs.Domain.{Domain}
 use Rattle.cqf_model.specs.Port.{Transmission}
 use Rattle.cqf_bridge.specs.Batch.{LinkBatch}
 use Rattle.cqf_bridge.specs.PortRecord.{AreDemanded, PortRecord}
-use Rattle.cqf_bridge.specs.BridgeState.{background_from, batch_from, end_of_cycle, port_behind, port_with}
+use Rattle.cqf_bridge.specs.BridgeState.{background_from, batch_from, end_of_cycle, port_after, port_with}
 use Rattle.cqf_bridge.specs.Sending.{FirstSend, PortSends}
 
 -- a list zipped with no elements
@@ -38,7 +38,7 @@ module _ (d : Domain) (cycle : ℕ) (backed : List Backed) (before : List PortRe
         made = [];
         one_each = refl;
         demanded = λ x held. absurd (contains_none x (subst (λ (xs : List (PortRecord × List Transmission)). Contains xs x) none held));
-        ports = ap (λ (xs : List (PortRecord × List Transmission)). map (port_behind d cycle backed) xs ++ before) (sym none);
+        ports = ap (λ (xs : List (PortRecord × List Transmission)). map (port_after d cycle backed) xs ++ before) (sym none);
         batches = sym (append-nil given) ∙ ap (λ (xs : List (PortRecord × List Transmission)). given ++ map (batch_from cycle backed) xs) (sym none);
         others = sym (append-nil background) ∙ ap (λ (xs : List (PortRecord × List Transmission)). background ++ flat_map (background_from cycle backed) xs)
             (sym none);
@@ -46,24 +46,24 @@ module _ (d : Domain) (cycle : ℕ) (backed : List Backed) (before : List PortRe
 
   module _ (count : ℕ) (now : List PortRecord) (batches : List LinkBatch) (others : List Started)
       (h : FirstSend d cycle backed count before now given batches background others) (inside : count < length before) where
-    first_len : length (map (port_behind d cycle backed) (zip before h.made)) ≡ count
-    first_len = length-map (zip before h.made) (port_behind d cycle backed) ∙ omega (arith, length-zip before h.made, h.one_each, inside)
+    first_len : length (map (port_after d cycle backed) (zip before h.made)) ≡ count
+    first_len = length-map (zip before h.made) (port_after d cycle backed) ∙ omega (arith, length-zip before h.made, h.one_each, inside)
 
     -- the next port hasn't sent
-    pub next_port : (r : PortRecord) → now ≡ map (port_behind d cycle backed) (zip before h.made) ++ get_or before count r ∷ drop (count + 1) before
-    next_port r = h.ports ∙ ap (λ (xs : List PortRecord). map (port_behind d cycle backed) (zip before h.made) ++ xs) (drop_more before count r inside)
+    pub next_port : (r : PortRecord) → now ≡ map (port_after d cycle backed) (zip before h.made) ++ get_or before count r ∷ drop (count + 1) before
+    next_port r = h.ports ∙ ap (λ (xs : List PortRecord). map (port_after d cycle backed) (zip before h.made) ++ xs) (drop_more before count r inside)
 
     pub is_next : (r : PortRecord) → get_or now count r ≡ get_or before count r
     is_next r =
         ap (λ (xs : List PortRecord). get_or xs count r) (next_port r)
-        ∙ ap (λ (n : ℕ). get_or (map (port_behind d cycle backed) (zip before h.made) ++ get_or before count r ∷ drop (count + 1) before) n r) (sym first_len)
-        ∙ get_or-append_seam (map (port_behind d cycle backed) (zip before h.made)) (get_or before count r) (drop (count + 1) before) r
+        ∙ ap (λ (n : ℕ). get_or (map (port_after d cycle backed) (zip before h.made) ++ get_or before count r ∷ drop (count + 1) before) n r) (sym first_len)
+        ∙ get_or-append_seam (map (port_after d cycle backed) (zip before h.made)) (get_or before count r) (drop (count + 1) before) r
 
     -- it sends
-    pub one_sends : (r after : PortRecord) (more : List LinkBatch) (behind : List Started) → r ≡ get_or now count r →
-        PortSends d cycle backed r after batches more others behind →
-        FirstSend d cycle backed (count + 1) before (set now count after) given more background behind
-    one_sends r after more behind is sends =
+    pub one_sends : (r after : PortRecord) (more : List LinkBatch) (following : List Started) → r ≡ get_or now count r →
+        PortSends d cycle backed r after batches more others following →
+        FirstSend d cycle backed (count + 1) before (set now count after) given more background following
+    one_sends r after more following is sends =
         let same : r ≡ get_or before count r = is ∙ is_next r in
         let one : PortRecord × List Transmission = (r, sends.made) in
         let longer : zip before (h.made ++ sends.made ∷ []) ≡ zip before h.made ++ one ∷ [] =
@@ -82,13 +82,13 @@ module _ (d : Domain) (cycle : ℕ) (backed : List Backed) (before : List PortRe
               ];
           ports =
               ap (λ (xs : List PortRecord). set xs count after) (next_port r)
-              ∙ ap (λ (n : ℕ). set (map (port_behind d cycle backed) (zip before h.made) ++ get_or before count r ∷ drop (count + 1) before) n after)
+              ∙ ap (λ (n : ℕ). set (map (port_after d cycle backed) (zip before h.made) ++ get_or before count r ∷ drop (count + 1) before) n after)
               (sym first_len)
-              ∙ set-append_seam (map (port_behind d cycle backed) (zip before h.made)) (get_or before count r) (drop (count + 1) before) after
-              ∙ ap (λ (x : PortRecord). map (port_behind d cycle backed) (zip before h.made) ++ x ∷ drop (count + 1) before) sends.port
-              ∙ sym (append_assoc (map (port_behind d cycle backed) (zip before h.made)) (port_behind d cycle backed one ∷ []) (drop (count + 1) before))
+              ∙ set-append_seam (map (port_after d cycle backed) (zip before h.made)) (get_or before count r) (drop (count + 1) before) after
+              ∙ ap (λ (x : PortRecord). map (port_after d cycle backed) (zip before h.made) ++ x ∷ drop (count + 1) before) sends.port
+              ∙ sym (append_assoc (map (port_after d cycle backed) (zip before h.made)) (port_after d cycle backed one ∷ []) (drop (count + 1) before))
               ∙ ap (λ (xs : List PortRecord). xs ++ drop (count + 1) before)
-              (sym (map-append (port_behind d cycle backed) (zip before h.made) (one ∷ [])) ∙ ap (map (port_behind d cycle backed)) (sym longer));
+              (sym (map-append (port_after d cycle backed) (zip before h.made) (one ∷ [])) ∙ ap (map (port_after d cycle backed)) (sym longer));
           batches =
               sends.batches ∙ ap (λ (xs : List LinkBatch). xs ++ batch_from cycle backed one ∷ []) h.batches
               ∙ append_assoc given (map (batch_from cycle backed) (zip before h.made)) (batch_from cycle backed one ∷ [])

@@ -17,7 +17,7 @@ use Rattle.cqf_laws_cycle.specs.Gathered.{PortsGetTheirBackground, backed_for}
 use Rattle.cqf_laws_cycle.specs.PageLaws.{on_links_of}
 use Rattle.cqf_laws_cycle.specs.PortCycle.{PortStartsTheBatch, waits_in}
 use Rattle.cqf_bridge.specs.Batch.{LinkBatch}
-use Rattle.cqf_bridge.specs.BridgeState.{BridgeState, background_from, batch_from, end_of_cycle, links_from, port_behind, port_with}
+use Rattle.cqf_bridge.specs.BridgeState.{BridgeState, background_from, batch_from, end_of_cycle, links_from, port_after, port_with}
 use Rattle.cqf_bridge.specs.PortRecord.{AreDemanded, PortRecord}
 use Rattle.cqf_bridge.specs.Cycles.{GivesTheBatches, SendsOfTheRun}
 use Rattle.cqf_bridge.specs.Follows.{HasSentOfTheNetwork, HasTaken, IsOfRun, batch_of, batches_from}
@@ -86,40 +86,40 @@ module _ (run : Run) (cycles cycle : ℕ) (net : Network) (before after : Bridge
       ∙ made_of_kept (λ l. leaves run.domain l before.number) by_link (length run.domain.links)
 
   -- the bridge after the cycle
-  abbrev behind : BridgeState
-  behind = record {
+  abbrev following : BridgeState
+  following = record {
     domain = run.domain;
     number = before.number;
     sent = cycle + 1;
     received = cycle;
     spent = false;
-    ports = map (port_behind run.domain cycle handed) sent_ports;
+    ports = map (port_after run.domain cycle handed) sent_ports;
     background = flat_map (background_from cycle handed) sent_ports;
   }
 
   -- it is the result of the call
-  is_behind : after ≡ behind
-  is_behind = h.sends.bridge ∙ (λ i. record {
+  is_after : after ≡ following
+  is_after = h.sends.bridge ∙ (λ i. record {
     domain = h.follows.of_run.domain i;
     number = before.number;
     sent = (h.next.1 ∙ sym h.next.0) i + 1;
     received = sym h.next.0 i;
     spent = false;
-    ports = map (port_behind (h.follows.of_run.domain i) cycle handed) sent_ports;
+    ports = map (port_after (h.follows.of_run.domain i) cycle handed) sent_ports;
     background = flat_map (background_from cycle handed) sent_ports;
   })
 
   -- and has sent as the network does
-  behind_has_sent : HasSentOfTheNetwork run net behind
-  behind_has_sent = record {
+  after_has_sent : HasSentOfTheNetwork run net following
+  after_has_sent = record {
     of_run = record {
       domain = refl;
       inside = h.follows.of_run.inside;
       not_spent = refl;
-      links = map-map (λ (r : PortRecord). r.link) (port_behind run.domain cycle handed) sent_ports ∙ links_of_ports;
+      links = map-map (λ (r : PortRecord). r.link) (port_after run.domain cycle handed) sent_ports ∙ links_of_ports;
     };
     turn = refl;
-    ports = λ r held. (let f = contains_from_map (port_behind run.domain cycle handed) sent_ports r held in
+    ports = λ r held. (let f = contains_from_map (port_after run.domain cycle handed) sent_ports r held in
         let own = port_of_link run before h.follows.of_run f.0.0 (port_held f.0 f.1) in
         subst (λ (p : PortRecord). HasTaken run.domain ((cycle + 1) * run.domain.cycle_time) (waits_in run net.carried p.link cycle) p) f.2
         (port_has_sent run cycles cycle before.number net h.compiled h.within_run makes_batch gets f.0.0 own.0 own.1 (port_has f.0 f.1) f.0.1
@@ -131,8 +131,8 @@ module _ (run : Run) (cycles cycle : ℕ) (net : Network) (before after : Bridge
   pub cycle_is_sent : GivesTheBatches run cycle net before after given given_after
   cycle_is_sent = record {
     batches = h.sends.batches ∙ ap (λ (xs : List LinkBatch). given ++ xs) batches_are;
-    background = ap (λ (b : BridgeState). b.background) is_behind ∙ others_are;
-    number = ap (λ (b : BridgeState). b.number) is_behind;
-    cycle_same = ap (λ (b : BridgeState). b.received) is_behind;
-    has_sent = subst (HasSentOfTheNetwork run net) (sym is_behind) behind_has_sent;
+    background = ap (λ (b : BridgeState). b.background) is_after ∙ others_are;
+    number = ap (λ (b : BridgeState). b.number) is_after;
+    cycle_same = ap (λ (b : BridgeState). b.received) is_after;
+    has_sent = subst (HasSentOfTheNetwork run net) (sym is_after) after_has_sent;
   }

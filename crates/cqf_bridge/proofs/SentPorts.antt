@@ -14,7 +14,7 @@ use Rattle.cqf_laws_cycle.specs.BridgeCycle.{IsCompiledNetwork}
 use Rattle.cqf_laws_cycle.specs.Gathered.{PortsGetTheirBackground, backed_for, is_for_link}
 use Rattle.cqf_laws_cycle.specs.PortCycle.{MakesTheBatch, PortStartsTheBatch, StartsInCycle, waits_in}
 use Rattle.cqf_bridge.specs.Batch.{LinkBatch}
-use Rattle.cqf_bridge.specs.BridgeState.{background_from, backed_on, batch_from, end_of_cycle, port_behind, port_with}
+use Rattle.cqf_bridge.specs.BridgeState.{background_from, backed_on, batch_from, end_of_cycle, port_after, port_with}
 use Rattle.cqf_bridge.specs.PortRecord.{AreDemanded, PortRecord, frame_with, recorded, rules_on}
 use Rattle.cqf_bridge.specs.Follows.{HasTaken, batch_of, streams_of_starts}
 use Rattle.cqf_bridge.proofs.LinkLists.{bridge_it_leaves}
@@ -80,8 +80,8 @@ module _ (run : Run) (cycles cycle number : ℕ) (net : Network) (compiled : IsC
   starts_in_cycle : StartsInCycle run.domain r.link cycle queue r.port.starts made
   starts_in_cycle = record {
     legal = legal_then;
-    sooner = λ place s h. has.legal.before_end place s h;
-    later = λ place s h. omega (arith, demanded.later place s h, has.reached);
+    sooner = λ index s h. has.legal.before_end index s h;
+    later = λ index s h. omega (arith, demanded.later index s h, has.reached);
   }
 
   -- so it makes the batch
@@ -105,6 +105,6 @@ module _ (run : Run) (cycles cycle number : ℕ) (net : Network) (compiled : IsC
       (ap (λ (frames : List QueuedFrame). flat_map (backed_of frames) made) recorded_is ∙ sym makes.background_made)
 
   -- and then it has run to the cycle's end
-  pub port_has_sent : HasTaken run.domain ((cycle + 1) * run.domain.cycle_time) queue (port_behind run.domain cycle all_backed (r, made))
+  pub port_has_sent : HasTaken run.domain ((cycle + 1) * run.domain.cycle_time) queue (port_after run.domain cycle all_backed (r, made))
   port_has_sent =
       record { rules = has.rules; reached = refl; arrivals = arrivals_with; streams = streams_with; legal = legal_then }

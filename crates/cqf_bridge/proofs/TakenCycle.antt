@@ -12,8 +12,8 @@ use Rattle.std.proofs.lemmas.List.Elements.{Contains-append_cases, Contains-get_
 use Rattle.std.proofs.lemmas.Option.{get_or_from_slice_get, slice_get_within}
 use Rattle.std.proofs.lemmas.Simd.{map-map}
 use Rattle.cqf_lists.proofs.Made.{map_same}
-use Rattle.cqf_lists.proofs.Members.{contains_from_map, contains_none, contains_one, find_member, place_of_member}
-use Rattle.cqf_lists.proofs.Places.{slice_get-take, slice_get_behind}
+use Rattle.cqf_lists.proofs.Members.{contains_from_map, contains_none, contains_one, find_member, index_of_member}
+use Rattle.cqf_lists.proofs.Indices.{slice_get-take, slice_get_after}
 use Rattle.cqf_units.proofs.Cycles.{cycle_from}
 use Rattle.cqf_model.specs.declared.frames.Dropped.{Dropped}
 use Rattle.cqf_model.specs.declared.ports.Arrival.{Arrival}
@@ -22,7 +22,7 @@ use Rattle.cqf_model.specs.Book.{drop_by}
 use Rattle.cqf_model.specs.Domain.{Domain}
 use Rattle.cqf_model.specs.Network.{IsLoss, QueuedFrame, arrivals_of, queued_by, queued_to}
 use Rattle.cqf_model.specs.Table.{table_of}
-use Rattle.cqf_model.specs.Traffic.{Policed, Received, Verdict, police, police_all}
+use Rattle.cqf_model.specs.Policing.{Policed, Received, Verdict, police, police_all}
 use Rattle.cqf_model.proofs.Coming.{queued_when}
 use Rattle.cqf_model.proofs.Policing.{police_more}
 use Rattle.cqf_laws_cycle.specs.Compiled.{GateCountsCycles}
@@ -34,7 +34,7 @@ use Rattle.cqf_bridge.specs.Gates.{AreKept, counted_by, counted_in, kept_of}
 use Rattle.cqf_bridge.specs.PortRecord.{PortRecord, with_frames}
 use Rattle.cqf_bridge.specs.Taking.{AreWaiting, HasPoliced, IsFaultByVerdict, IsFaultByPoliced, IsWaiting, MayBeTaken}
 use Rattle.cqf_bridge.specs.Taking.{TakesFrame, policed_by, verdict_taken, with_verdict}
-use Rattle.cqf_bridge.proofs.Behind.{counted_behind, verdict_behind}
+use Rattle.cqf_bridge.proofs.After.{counted_after, verdict_after}
 use Rattle.cqf_bridge.proofs.Taking.{frames_more, frames_none}
 
 -- the table of the cycle, if each cycle has it
@@ -65,7 +65,7 @@ module _ (d : Domain) (rows : List Row) (bridge cycle : ℕ) (ports_before : Lis
     -- so the verdict is that of the definitions
     pub same_verdict : verdict_taken d rows bridge cycle gates x ≡ (policed_next policed x).verdict
     same_verdict =
-        verdict_behind d (replicate (cycle + 1) rows) rows bridge cycle counts some (table_held cycle rows) policed x gates may.in_cycle h.counted
+        verdict_after d (replicate (cycle + 1) rows) rows bridge cycle counts some (table_held cycle rows) policed x gates may.in_cycle h.counted
 
     module _ (gates_after : List KeptGate) (ports_after : List PortRecord) (drops_after : List Dropped)
         (takes : TakesFrame d rows bridge cycle x gates gates_after ports ports_after drops drops_after) where
@@ -75,7 +75,7 @@ module _ (d : Domain) (rows : List Row) (bridge cycle : ℕ) (ports_before : Lis
           let v = verdict_taken d rows bridge cycle gates x in
           let p = policed_next policed x in
           record {
-            counted = counted_behind d (replicate (cycle + 1) rows) rows bridge cycle counts some (table_held cycle rows) policed x gates
+            counted = counted_after d (replicate (cycle + 1) rows) rows bridge cycle counts some (table_held cycle rows) policed x gates
                 may.in_cycle h.counted
                 gates_after takes.counted;
             queued =
@@ -173,7 +173,7 @@ module _ (d : Domain) (rows : List Row) (bridge cycle : ℕ) (ports_before : Lis
       next_waiting = h.waiting x.at
           (omega (arith, ap (λ (c : ℕ). c * d.cycle_time) (may x among).in_cycle, cycle_from d.cycle_time x.at))
           (λ y held.
-          let p = place_of_member (take count frames) y held in
+          let p = index_of_member (take count frames) y held in
           let less : p.0 < count = omega (arith, slice_get_within (take count frames) p.0 y p.1, length-take-le count frames (omega (arith, inside))) in
           let there : get_or frames p.0 x ≡ y = get_or_from_slice_get frames p.0 y x (sym (slice_get-take frames count p.0 less) ∙ p.1) in
           omega (arith, ordered p.0 count x (omega (arith, less)) inside, ap (λ (z : Received). z.at) there, ap (λ (z : Received). z.at) is))
@@ -215,9 +215,9 @@ module _ (d : Domain) (rows : List Row) (bridge cycle : ℕ) (ports_before : Lis
           (drop_more frames count x inside ∙ ap (λ (z : Received). z ∷ drop (count + 1) frames) (sym is)))
           ∙ police_more d (replicate (cycle + 1) rows) bridge [] (take count frames) (x ∷ drop (count + 1) frames) in
           record {
-            place = length done;
+            index = length done;
             over = p;
-            there = ap (λ (ps : List Policed). slice_get ps (length done)) parts ∙ slice_get_behind done p rest (length done) refl;
+            there = ap (λ (ps : List Policed). slice_get ps (length done)) parts ∙ slice_get_after done p rest (length done) refl;
             exceeds =
                 sym (same_verdict d rows bridge cycle ports_before drops_before counts some done x gates ports drops (may x among) h.policed)
                 ∙ stops.0;

@@ -11,7 +11,7 @@ use Rattle.cqf_model.specs.GateList.{IsOpen}
 use Rattle.cqf_model.specs.Network.{Network, QueuedFrame, arrivals_of, comes_before, compiled_lists, queued_before, queued_to}
 use Rattle.cqf_model.specs.Port.{AreLegal}
 use Rattle.cqf_model.specs.Run.{Run}
-use Rattle.cqf_model.specs.Traffic.{Carried, Policed, police_all}
+use Rattle.cqf_model.specs.Policing.{Carried, Policed, police_all}
 use Rattle.cqf_model.proofs.Links.{guard_within, octet_positive}
 use Rattle.cqf_laws_cycle.specs.BridgeCycle.{CycleBringsItsBatches, IsCompiledNetwork, policed_of}
 use Rattle.cqf_laws_cycle.specs.PortCycle.{ClosedArrivalsChangeNothing, PortGoesOn, QueuedFramesWait, QueuedInItsCycle, waits_in}
@@ -110,8 +110,8 @@ module _ (run : Run) (cycles cycle : ℕ) (net : Network) (before after : Bridge
   taken_is = verdicts_are brings reserves run cycles cycle before.number net h.compiled
 
   -- the bridge after the cycle
-  abbrev behind : BridgeState
-  behind = record {
+  abbrev following : BridgeState
+  following = record {
     domain = run.domain;
     number = before.number;
     sent = cycle + 1;
@@ -122,8 +122,8 @@ module _ (run : Run) (cycles cycle : ℕ) (net : Network) (before after : Bridge
   }
 
   -- it is the result of the call
-  is_behind : after ≡ behind
-  is_behind = h.receives.bridge ∙ (λ i. record {
+  is_after : after ≡ following
+  is_after = h.receives.bridge ∙ (λ i. record {
     domain = h.has_sent.of_run.domain i;
     number = before.number;
     sent = (h.has_sent.turn ∙ ap (λ (n : ℕ). n + 1) (sym h.next)) i;
@@ -141,8 +141,8 @@ module _ (run : Run) (cycles cycle : ℕ) (net : Network) (before after : Bridge
       (h.has_sent.ports r held)
 
   -- so it follows the network, one cycle further
-  behind_follows : FollowsTheNetwork run net behind
-  behind_follows = record {
+  after_follows : FollowsTheNetwork run net following
+  after_follows = record {
     of_run = record {
       domain = refl;
       inside = h.has_sent.of_run.inside;
@@ -167,8 +167,8 @@ module _ (run : Run) (cycles cycle : ℕ) (net : Network) (before after : Bridge
   pub cycle_is_received : GivesTheDrops run cycle net before after drops
   cycle_is_received = record {
     are_drops = drops_are;
-    number = ap (λ (b : BridgeState). b.number) is_behind;
-    one_on = ap (λ (b : BridgeState). b.received) is_behind;
-    background = ap (λ (b : BridgeState). b.background) is_behind;
-    follows = subst (FollowsTheNetwork run net) (sym is_behind) behind_follows;
+    number = ap (λ (b : BridgeState). b.number) is_after;
+    one_on = ap (λ (b : BridgeState). b.received) is_after;
+    background = ap (λ (b : BridgeState). b.background) is_after;
+    follows = subst (FollowsTheNetwork run net) (sym is_after) after_follows;
   }

@@ -29,7 +29,7 @@ not_out_of_order p a before h =
     absurd (omega (
       arith,
       h.earlier,
-      before (get_or p.arrivals h.place no_arrival) (Contains-get_or p.arrivals h.place no_arrival h.last.inside)
+      before (get_or p.arrivals h.index no_arrival) (Contains-get_or p.arrivals h.index no_arrival h.last.inside)
           h.last.of_class,
     ))
 

@@ -63,7 +63,7 @@ pub record AreBackedOf (d : Domain) (bridge cycle : ℕ) (backed : List Backed) 
   pub each : (x : Backed) → Contains backed x → IsBackedOf d bridge cycle x
   pub in_order : AllPairs (λ (a b : Backed). a.background.at.0 ≤ b.background.at.0) backed
 
--- those of the background frames that a link's port gets
+-- the background frames that a link's port gets
 abbrev pub backed_on : ℕ → List Backed → List QueuedFrame
 backed_on link backed = map backed_frame (filter (is_for_link link) backed)
 
@@ -76,8 +76,8 @@ abbrev pub port_with : List Backed → PortRecord → PortRecord
 port_with backed r = with_frames r (backed_on r.link backed)
 
 -- a port after the cycle, and the batch and the background frames that it returns for the cycle
-abbrev pub port_behind : Domain → ℕ → List Backed → PortRecord × List Transmission → PortRecord
-port_behind d cycle backed x = with_starts (port_with backed x.0) (end_of_cycle d cycle) x.1
+abbrev pub port_after : Domain → ℕ → List Backed → PortRecord × List Transmission → PortRecord
+port_after d cycle backed x = with_starts (port_with backed x.0) (end_of_cycle d cycle) x.1
 
 abbrev pub batch_from : ℕ → List Backed → PortRecord × List Transmission → LinkBatch
 batch_from cycle backed x = batch_by (port_with backed x.0) cycle x.1
@@ -98,7 +98,7 @@ pub record SendsCycle (before after : BridgeState) (cycle : ℕ) (backed : List 
     sent = before.sent + 1;
     received = before.received;
     spent = false;
-    ports = map (port_behind before.domain cycle backed) (zip before.ports made);
+    ports = map (port_after before.domain cycle backed) (zip before.ports made);
     background = flat_map (background_from cycle backed) (zip before.ports made);
   }
   pub batches : given_after ≡ given ++ map (batch_from cycle backed) (zip before.ports made)

@@ -42,7 +42,7 @@ BridgesStandHalfway =
     AreUnderWay t entries course → bridge < length t.domain.bridges → cycle < course.sent bridge →
     HasGone t bridge (cycle + 1) cycle (worked.halfway cycle)
 
--- so the next cycle is refused for sending only if memory is refused
+-- under the tables of one history, a bridge refuses to send its next cycle only if an allocation fails
 abbrev pub BridgesSendButForMemory : Type 0
 BridgesSendButForMemory =
     (t : Traffic) (entries : List Recorded) (course : Course) (bridge : ℕ) (worked : HasWorked t course bridge) (after : BridgeState)
@@ -63,7 +63,8 @@ handed_next t course bridge = record {
   batches = taken_in t.domain course bridge (posted course bridge);
 }
 
--- then the cycle is refused for receiving only if memory is refused
+-- under the tables of one history, a bridge that has all that its next cycle requires refuses to receive the cycle only if an allocation
+-- fails
 abbrev pub BridgesReceiveButForMemory : Type 0
 BridgesReceiveButForMemory =
     (t : Traffic) (entries : List Recorded) (course : Course) (bridge : ℕ) (worked : HasWorked t course bridge) (after : BridgeState)

@@ -49,7 +49,7 @@ pub record HasWorked (t : Traffic) (course : Course) (bridge : ℕ) : Type 0 whe
   pub batches : ℕ → List LinkBatch
   pub dropped : ℕ → List Dropped
   pub began : before 0 ≡ new_bridge t.domain bridge
-  pub not_behind : posted course bridge ≤ course.sent bridge
+  pub not_after : posted course bridge ≤ course.sent bridge
   pub not_ahead : course.sent bridge ≤ posted course bridge + 1
   pub sends : (cycle : ℕ) → cycle < course.sent bridge →
       SendsCycle (before cycle) (halfway cycle) cycle (backed_for t.domain t.background bridge cycle) [] (batches cycle)

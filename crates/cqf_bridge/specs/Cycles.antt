@@ -39,7 +39,7 @@ pub record SendsOfTheRun (run : Run) (cycles cycle : ℕ) (net : Network) (befor
   pub within_run : cycle < cycles
   pub sends : SendsCycle before after cycle (backed_for run.domain run.background before.number cycle) given given_after
 
--- then it returns the network's batches of its links, and has sent as the network does
+-- a bridge that has sent a cycle of the run returned the network's batches of its links, and has sent as the network does
 pub record GivesTheBatches (run : Run) (cycle : ℕ) (net : Network) (before after : BridgeState) (given given_after : List LinkBatch) :
     Type 0 where
   pub batches : given_after ≡ given ++ batches_from run.domain net.carried before.number cycle
@@ -64,7 +64,8 @@ pub record ReceivesOfTheRun (run : Run) (cycles cycle : ℕ) (net : Network) (be
   pub next : cycle ≡ before.received
   pub receives : ReceivesCycle run before after cycle (batches_into run.domain net.carried before.number cycle) drops
 
--- then it drops what is dropped at it in the network, and follows the network again, one cycle further
+-- a bridge that has received a cycle of the run dropped what is dropped at it in the network, and follows the network again, one cycle
+-- further
 pub record GivesTheDrops (run : Run) (cycle : ℕ) (net : Network) (before after : BridgeState) (drops : List Dropped) : Type 0 where
   pub are_drops : drops ≡ drops_of_cycle run net before.number cycle
   pub number : after.number ≡ before.number
@@ -84,7 +85,7 @@ starts_of_batch x = map (started x.cycle x.link) x.frames
 abbrev pub page_given : List LinkBatch → List Started → List Dropped → Contents
 page_given batches background drops = record { starts = flat_map starts_of_batch batches; background = background; drops = drops }
 
--- and that is its page of the run's book
+-- the page of a bridge's output in a cycle is its page of the run's book
 abbrev pub PageFollows : Type 0
 PageFollows = (run : Run) (cycles cycle bridge : ℕ) (net : Network) (book : Contents) → IsCompiledNetwork run cycles net →
     IsBook run (compiled_lists run.domain) cycles book → bridge < length run.domain.bridges → cycle < cycles →

@@ -44,7 +44,7 @@ SendsInCourse run course bridge cycle =
     SendsCycle (course.before bridge cycle) (course.halfway bridge cycle) cycle (backed_for run.domain run.background bridge cycle)
     (course.given bridge cycle) (course.given bridge cycle ++ course.sent bridge cycle)
 
--- and receives it, with the run's table and offers
+-- a bridge sends a cycle, and receives it with the run's table and offers
 pub record GoesThrough (run : Run) (course : DrivenCourse) (bridge cycle : ℕ) : Type 0 where
   pub sends : SendsInCourse run course bridge cycle
   pub passed_on : ArePassedOn run.domain course bridge cycle
@@ -56,8 +56,8 @@ pub record AreDriven (run : Run) (cycles : ℕ) (course : DrivenCourse) : Type 0
   pub begin : (bridge : ℕ) → bridge < length run.domain.bridges → course.before bridge 0 ≡ new_bridge run.domain bridge
   pub go_on : (bridge cycle : ℕ) → bridge < length run.domain.bridges → cycle < cycles → GoesThrough run course bridge cycle
 
--- then each follows the network before each cycle and after the last one, and has sent as the network does in between. The network may be
--- one of more cycles
+-- each bridge that is driven in this way follows the network before each cycle and after the last one, and has sent as the network does in
+-- between. The network may be one of more cycles
 abbrev pub DrivenBridgesFollow : Type 0
 DrivenBridgesFollow = (run : Run) (cycles driven bridge cycle : ℕ) (net : Network) (course : DrivenCourse) → IsCompiledNetwork run cycles net →
     driven ≤ cycles → AreDriven run driven course → bridge < length run.domain.bridges → cycle ≤ driven →
@@ -84,7 +84,7 @@ DrivenBridgesGiveTheBook = (run : Run) (cycles : ℕ) (course : DrivenCourse) (b
     IsBook run (compiled_lists run.domain) cycles book → AreDriven run cycles course →
     book ≡ book_of_pages run.domain cycles (page_of_course course)
 
--- a bridge that was driven through the cycles before this one refuses to send it only if memory is refused
+-- a bridge that was driven through the cycles before this one refuses to send it only if an allocation fails
 abbrev pub DrivenBridgesSendButForMemory : Type 0
 DrivenBridgesSendButForMemory = (run : Run) (cycles cycle bridge : ℕ) (net : Network) (course : DrivenCourse) (after : BridgeState) (fault : BridgeFault) →
     IsCompiledNetwork run cycles net → cycle ≤ cycles → AreDriven run cycle course → bridge < length run.domain.bridges →
@@ -95,7 +95,7 @@ pub record HaveAllSent (run : Run) (course : DrivenCourse) (cycle : ℕ) : Type 
   pub driven : AreDriven run cycle course
   pub sent_it : (bridge : ℕ) → bridge < length run.domain.bridges → SendsInCourse run course bridge cycle
 
--- if nothing is lost inside, a bridge that is given what the others sent refuses to receive the cycle only if memory is refused
+-- if nothing is lost inside, a bridge that is given what the others sent refuses to receive the cycle only if an allocation fails
 abbrev pub DrivenBridgesReceiveButForMemory : Type 0
 DrivenBridgesReceiveButForMemory = (run : Run) (cycles cycle bridge : ℕ) (net : Network) (course : DrivenCourse) (after : BridgeState) (fault : BridgeFault) →
     IsCompiledNetwork run cycles net → LosesNothing run cycles net → cycle < cycles → HaveAllSent run course cycle →

@@ -6,7 +6,7 @@ use Rattle.cqf_model.specs.Network.{Network, QueuedFrame, arrivals_of, comes_bef
 use Rattle.cqf_model.specs.Port.{AreLegal}
 use Rattle.cqf_model.specs.Run.{Run}
 use Rattle.cqf_model.specs.Table.{table_of}
-use Rattle.cqf_model.specs.Traffic.{Carried}
+use Rattle.cqf_model.specs.Policing.{Carried}
 use Rattle.cqf_laws_cycle.specs.PageLaws.{on_links_of}
 use Rattle.cqf_laws_cycle.specs.PortCycle.{waits_in}
 use Rattle.cqf_bridge.specs.Batch.{LinkBatch}

@@ -5,8 +5,8 @@ use Rattle.cqf_units.specs.Timing.{cycle_at}
 use Rattle.cqf_model.specs.declared.gates.StreamEntry.{StreamEntry}
 use Rattle.cqf_model.specs.declared.topology.Row.{Row}
 use Rattle.cqf_model.specs.Domain.{Domain}
-use Rattle.cqf_model.specs.StreamGate.{Call}
-use Rattle.cqf_model.specs.Traffic.{Policed, calls_of, gate_behind}
+use Rattle.cqf_model.specs.StreamGate.{PassedFrame}
+use Rattle.cqf_model.specs.Policing.{Policed, calls_of, gate_list_after}
 use Rattle.cqf_gates.specs.StreamGate.{Gate, gate_after}
 use Rattle.cqf_bridge.specs.declared.cycle_gate.KeptGate.{KeptGate}
 
@@ -32,7 +32,7 @@ gate_or cycle_time entries found = record {
 
 -- the gate for a row's stream after a link, or at the edge
 abbrev pub gate_in : Domain → List KeptGate → Row → Option ℕ → Gate
-gate_in d gates row way = gate_or d.cycle_time (gate_behind d row way) (kept_of gates row.no)
+gate_in d gates row ingress = gate_or d.cycle_time (gate_list_after d row ingress) (kept_of gates row.no)
 
 -- the kept state of a number's gate after a frame
 abbrev pub kept_after : ℕ → ℕ → Gate → ℕ → ℕ → KeptGate
@@ -48,10 +48,10 @@ abbrev pub AreKept : ℕ → List KeptGate → Type 0
 AreKept cycle gates = (k : KeptGate) → Contains gates k → k.cycle < cycle
 
 -- the octets of the calls in a cycle
-abbrev pub octets_of_cycle : ℕ → ℕ → List Call → ℕ
-octets_of_cycle cycle_time cycle calls = sum_by (λ (call : Call). if cycle_at cycle_time call.0 == cycle then call.1 else 0) calls
+abbrev pub octets_of_cycle : ℕ → ℕ → List PassedFrame → ℕ
+octets_of_cycle cycle_time cycle calls = sum_by (λ (call : PassedFrame). if cycle_at cycle_time call.0 == cycle then call.1 else 0) calls
 
 -- in this cycle the gates have counted the frames that went on
-abbrev pub HaveCounted : ℕ → ℕ → List Policed → List KeptGate → Type 0
-HaveCounted cycle_time cycle policed gates =
-    (number : ℕ) → counted_in gates number cycle ≡ octets_of_cycle cycle_time cycle (calls_of number policed)
+abbrev pub HaveCounted : Domain → ℕ → List Policed → List KeptGate → Type 0
+HaveCounted d cycle policed gates =
+    (number : ℕ) → counted_in gates number cycle ≡ octets_of_cycle d.cycle_time cycle (calls_of d.overhead number policed)

@@ -14,7 +14,7 @@ abbrev pub TablesToComeDontCount : Type 0
 TablesToComeDontCount = (run : Run) (others : List (List Row)) (net : Network) (b : BridgeState) → HaveTheSameTables b.received run.tables others →
     FollowsTheNetwork run net b → FollowsTheNetwork (with_tables run others) net b
 
--- and halfway through a cycle the cycle's own table doesn't matter yet
+-- halfway through a cycle the cycle's own table doesn't matter yet
 abbrev pub TablesToComeDontCountHalfway : Type 0
 TablesToComeDontCountHalfway = (run : Run) (others : List (List Row)) (net : Network) (b : BridgeState) → HaveTheSameTables b.received run.tables others →
     HasSentOfTheNetwork run net b → HasSentOfTheNetwork (with_tables run others) net b
@@ -30,7 +30,7 @@ abbrev pub LongerRunIsFollowed : Type 0
 LongerRunIsFollowed = (run : Run) (others : List (List Row)) (cycles longer : ℕ) (net more : Network) (b : BridgeState) →
     IsLonger run others cycles longer net more → b.received ≤ cycles → FollowsTheNetwork (with_tables run others) net b → FollowsTheNetwork run more b
 
--- and so does one that has sent a cycle of it
+-- a bridge that has sent a cycle of the shorter run's network has sent a cycle of the longer one's
 abbrev pub LongerRunIsFollowedHalfway : Type 0
 LongerRunIsFollowedHalfway = (run : Run) (others : List (List Row)) (cycles longer : ℕ) (net more : Network) (b : BridgeState) →
     IsLonger run others cycles longer net more → b.received < cycles → HasSentOfTheNetwork (with_tables run others) net b → HasSentOfTheNetwork run more b

@@ -33,18 +33,18 @@ abbrev pub BatchesMayCome : Type 0
 BatchesMayCome = (run : Run) (cycles cycle bridge : ℕ) (net : Network) → IsCompiledNetwork run cycles net → LosesNothing run cycles net →
     cycle < cycles → AreBatchesOf run.domain bridge cycle (table_of run.tables cycle) (batches_into run.domain net.carried bridge cycle)
 
--- and none of them is over its octets
+-- if nothing is lost, no frame of the batches that end in a bridge in a cycle is over its octets
 abbrev pub NoneIsOver : Type 0
 NoneIsOver = (run : Run) (cycles cycle bridge frame : ℕ) (net : Network) → IsCompiledNetwork run cycles net → LosesNothing run cycles net →
     cycle < cycles → ¬ IsFirstOver (verdicts_in run bridge cycle (batches_into run.domain net.carried bridge cycle)) frame
 
--- a bridge that isn't spent refuses to send its next cycle only if memory is refused
+-- a bridge that isn't spent refuses to send its next cycle only if an allocation fails
 abbrev pub SendsButForMemory : Type 0
 SendsButForMemory = (cycle : ℕ) (before after : BridgeState) (fault : BridgeFault) →
     before.spent ≡ false → IsNextToSend before cycle → IsSendFault before after cycle fault → fault ≡ Memory
 
--- if nothing is lost, a bridge refuses to receive the cycle that it has sent, with the table of the cycle and the network's batches, only
--- if memory is refused, no matter what was recorded at its ports
+-- if nothing is lost, a bridge that is given the table of the cycle and the network's batches refuses to receive the cycle that it has sent
+-- only if an allocation fails, no matter what was recorded at its ports
 abbrev pub ReceivesButForMemory : Type 0
 ReceivesButForMemory = (run : Run) (cycles cycle : ℕ) (net : Network) (before after : BridgeState) (fault : BridgeFault) →
     IsCompiledNetwork run cycles net → LosesNothing run cycles net → before.domain ≡ run.domain →

@@ -56,7 +56,7 @@ with_starts r until made = record {
 -- unique
 pub record AreDemanded (r : PortRecord) (until : ℕ) (made : List Transmission) : Type 0 where
   pub legal : AreLegal r.port.rules r.port.arrivals until (r.port.starts ++ made)
-  pub later : (place s : ℕ) → Contains made (place, s) → r.port.reached ≤ s
+  pub later : (index s : ℕ) → Contains made (index, s) → r.port.reached ≤ s
 
 -- what these starts send: the batch, and the background frames
 abbrev pub batch_by : PortRecord → ℕ → List Transmission → LinkBatch

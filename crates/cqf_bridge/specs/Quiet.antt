@@ -13,7 +13,7 @@ IsNextStartOf r next = MatchOption next (StartsNoMore r.port) (λ x. StartsNext 
 
 -- the next start of the port at an index
 abbrev pub IsNextAt : List PortRecord → ℕ → Option (Nanos × ℕ) → Type 0
-IsNextAt ports place next = (e : PortRecord) → IsNextStartOf (slice_index_or ports place e) next
+IsNextAt ports index next = (e : PortRecord) → IsNextStartOf (slice_index_or ports index e) next
 
 -- a port starts no frame before an instant: what it has started is legal up to that instant
 abbrev pub IsQuiet : ℕ → PortRecord → Type 0

@@ -11,7 +11,7 @@ use Rattle.cqf_model.specs.Domain.{Domain, cycle_of, enters}
 use Rattle.cqf_model.specs.Network.{IsLoss, queued_to}
 use Rattle.cqf_model.specs.Run.{AreOffers, Run}
 use Rattle.cqf_model.specs.Table.{goes_on, row_of, table_of}
-use Rattle.cqf_model.specs.Traffic.{Carried, ExceedsGate, Policed, whole_at}
+use Rattle.cqf_model.specs.Policing.{Carried, ExceedsGate, Policed, whole_at}
 use Rattle.cqf_laws_cycle.specs.BridgeCycle.{policed_in}
 use Rattle.cqf_laws_cycle.specs.Gathered.{offered_for}
 use Rattle.cqf_bridge.specs.declared.faults.BridgeFault.{BridgeFault}
@@ -80,12 +80,12 @@ IsNextToReceive b cycle table_cycle = (cycle ≡ b.received) × (b.sent ≡ b.re
 -- the frame is the first, in the order in which frames are taken, that arrived by a link and exceeds the octets that its stream's gate has
 -- left
 pub record IsFirstOver (policed : List Policed) (frame : ℕ) : Type 0 where
-  pub place : ℕ
+  pub index : ℕ
   pub over : Policed
-  pub there : slice_get policed place ≡ Some over
+  pub there : slice_get policed index ≡ Some over
   pub exceeds : over.verdict ≡ ExceedsGate
   pub is_frame : over.received.frame ≡ frame
-  pub first : (p : Policed) → Contains (take place policed) p → ¬ (p.verdict ≡ ExceedsGate)
+  pub first : (p : Policed) → Contains (take index policed) p → ¬ (p.verdict ≡ ExceedsGate)
 
 -- what a bridge is given with a cycle: the table's cycle and rows, and the batches
 pub record Handed : Type 0 where
@@ -98,7 +98,7 @@ pub record MayReceive (b : BridgeState) (cycle : ℕ) (handed : Handed) : Type 0
   pub not_spent : b.spent ≡ false
   pub next : IsNextToReceive b cycle handed.table_cycle
 
--- and the batches are those of the cycle
+-- the bridge may receive the cycle, and the batches are those of the cycle
 pub record CanReceive (b : BridgeState) (cycle : ℕ) (handed : Handed) : Type 0 where
   pub may : MayReceive b cycle handed
   pub batches : AreBatchesOf b.domain b.number cycle handed.rows handed.batches

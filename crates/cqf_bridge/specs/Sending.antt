@@ -7,7 +7,7 @@ use Rattle.cqf_model.specs.Domain.{Domain}
 use Rattle.cqf_model.specs.Port.{Transmission}
 use Rattle.cqf_bridge.specs.Batch.{LinkBatch}
 use Rattle.cqf_bridge.specs.PortRecord.{AreDemanded, PortRecord}
-use Rattle.cqf_bridge.specs.BridgeState.{AreBackedOf, IsInStep, background_from, batch_from, end_of_cycle, port_behind, port_with}
+use Rattle.cqf_bridge.specs.BridgeState.{AreBackedOf, IsInStep, background_from, batch_from, end_of_cycle, port_after, port_with}
 
 -- a port that is in step, and background frames of its bridge in the cycle that it sends next
 pub record CanTake (background : List Backed) (r : PortRecord) : Type 0 where
@@ -22,7 +22,7 @@ pub record PortSends (d : Domain) (cycle : ℕ) (backed : List Backed) (before a
     (background background_after : List Started) : Type 0 where
   pub made : List Transmission
   pub demanded : AreDemanded (port_with backed before) (end_of_cycle d cycle) made
-  pub port : after ≡ port_behind d cycle backed (before, made)
+  pub port : after ≡ port_after d cycle backed (before, made)
   pub batches : given_after ≡ given ++ batch_from cycle backed (before, made) ∷ []
   pub others : background_after ≡ background ++ background_from cycle backed (before, made)
 
@@ -33,6 +33,6 @@ pub record FirstSend (d : Domain) (cycle : ℕ) (backed : List Backed) (count : 
   pub one_each : length made ≡ count
   pub demanded : (x : PortRecord × List Transmission) → Contains (zip before made) x →
       AreDemanded (port_with backed x.0) (end_of_cycle d cycle) x.1
-  pub ports : after ≡ map (port_behind d cycle backed) (zip before made) ++ drop count before
+  pub ports : after ≡ map (port_after d cycle backed) (zip before made) ++ drop count before
   pub batches : given_after ≡ given ++ map (batch_from cycle backed) (zip before made)
   pub others : background_after ≡ background ++ flat_map (background_from cycle backed) (zip before made)

@@ -2,6 +2,7 @@
 use Rattle.std.specs.Prelude.{ℕ, ◌≡◌, ◌+◌, ◌≤◌, ◌<◌, ◌++◌, ◌==◌, Bool, false, true, not, List, [], ◌∷◌, Contains}
 use Rattle.std.specs.Prelude.{Option, Some, None, if◌then◌else◌, length, map, replicate}
 use Rattle.std.specs.List.{flat_map, list_any}
+use Rattle.cqf_units.specs.Timing.{counted_of}
 use Rattle.cqf_model.specs.declared.frames.Dropped.{Dropped}
 use Rattle.cqf_model.specs.declared.frames.Offered.{Offered}
 use Rattle.cqf_model.specs.declared.frames.Reason.{Reason}
@@ -15,9 +16,9 @@ use Rattle.cqf_model.specs.Network.{IsLoss, queued_by, queued_to}
 use Rattle.cqf_model.specs.Run.{Run}
 use Rattle.cqf_model.specs.StreamGate.{gate_class}
 use Rattle.cqf_model.specs.Table.{goes_on, goes_to, row_of}
-use Rattle.cqf_model.specs.Traffic.{AtEdge as Offering, DroppedFor, ExceedsGate, LacksRow, Policed, Queued, Received}
-use Rattle.cqf_model.specs.Traffic.{Relayed, Verdict, Way, came_by, gate_behind, is_queued_of, offer_received, police, police_all}
-use Rattle.cqf_model.specs.Traffic.{sent_received, verdict_by}
+use Rattle.cqf_model.specs.Policing.{AtEdge as Offering, DroppedFor, ExceedsGate, LacksRow, Policed, Queued, Received}
+use Rattle.cqf_model.specs.Policing.{Ingress, Relayed, Verdict, came_by, gate_list_after, is_queued_of, offer_received, police, police_all}
+use Rattle.cqf_model.specs.Policing.{sent_received, verdict_by}
 use Rattle.cqf_laws_cycle.specs.Gathered.{dropped_of}
 use Rattle.cqf_gates.specs.StreamGate.{lets_pass}
 use Rattle.cqf_port.specs.PortState.{IsLate, IsOutOfOrder, PortState}
@@ -42,12 +43,12 @@ pub record IsBatchOf (d : Domain) (bridge cycle : ℕ) (rows : List Row) (batch 
   pub frames : (sent : Sent) → Contains batch.frames sent → MayCome d bridge cycle rows batch.link sent
 
 -- a frame that arrives at a bridge, in the terms of the definitions
-abbrev pub way_taken : Came → Way
-way_taken (ByLink link stream) = Relayed link stream
-way_taken (AtEdge name) = Offering name
+abbrev pub ingress_taken : Came → Ingress
+ingress_taken (ByLink link stream) = Relayed link stream
+ingress_taken (AtEdge name) = Offering name
 
 abbrev pub received_as : Incoming → Received
-received_as x = record { at = x.at.0; octets = x.octets; frame = x.frame; way = way_taken x.came }
+received_as x = record { at = x.at.0; octets = x.octets; frame = x.frame; ingress = ingress_taken x.came }
 
 -- a batch is of a link of the domain, and its frames start early enough for sums with their instants
 pub record CanGather (d : Domain) (b : LinkBatch) : Type 0 where
@@ -64,8 +65,8 @@ CanRecord p arrival = (¬ IsLate p arrival) × (¬ IsOutOfOrder p arrival)
 
 -- a port after an arrival of a row's stream, which is queued if the stream goes on by the port's link
 abbrev pub queue_on : Row → Option ℕ → Arrival → PortRecord → PortRecord
-queue_on row way arrival r =
-    with_frames r (if list_any (λ next. next == r.link) (goes_to row way) then record { arrival = arrival; stream = Some row.no } ∷ [] else [])
+queue_on row ingress arrival r =
+    with_frames r (if list_any (λ next. next == r.link) (goes_to row ingress) then record { arrival = arrival; stream = Some row.no } ∷ [] else [])
 
 -- a port has run to the end of a cycle, and each of its streams' frames arrived before an instant
 pub record IsWaiting (d : Domain) (cycle until : ℕ) (r : PortRecord) : Type 0 where
@@ -79,11 +80,11 @@ AreWaiting d cycle until ports = (r : PortRecord) → Contains ports r → IsWai
 
 -- whether the gate for a row's stream passes a frame
 abbrev pub passes_by : Domain → List KeptGate → Received → Row → Bool
-passes_by d gates x row = lets_pass (gate_in d gates row (came_by x.way)) x.at x.octets
+passes_by d gates x row = lets_pass (gate_in d gates row (came_by x.ingress)) x.at (counted_of d.overhead x.octets)
 
 -- the verdict on a frame by the gates
 abbrev pub verdict_taken : Domain → List Row → ℕ → ℕ → List KeptGate → Received → Verdict
-verdict_taken d rows bridge cycle gates x = verdict_by d rows bridge cycle (passes_by d gates x) x.way
+verdict_taken d rows bridge cycle gates x = verdict_by d rows bridge cycle (passes_by d gates x) x.ingress
 
 -- a port with the frame that a verdict queues to it
 abbrev pub with_verdict : Domain → Received → Verdict → PortRecord → PortRecord
@@ -95,13 +96,13 @@ verdict_if went row = if went then Queued row else ExceedsGate
 
 -- the class in which a frame of a row's stream waits if its gate passes it
 abbrev pub class_in : Domain → Received → Row → ℕ
-class_in d x row = gate_class (gate_behind d row (came_by x.way)) x.at
+class_in d x row = gate_class (gate_list_after d row (came_by x.ingress)) x.at
 
 -- a frame passes the gate of a row's stream and gets a class, or doesn't pass and gets none
 pub record PassesGate (d : Domain) (cycle : ℕ) (x : Received) (row : Row) (gates gates_after : List KeptGate) (class : Option ℕ) : Type 0 where
   pub decided : class ≡ (if passes_by d gates x row then Some (class_in d x row) else None)
   pub counted : (number : ℕ) → counted_in gates_after number cycle
-      ≡ counted_in gates number cycle + (if is_queued_of number (verdict_if (passes_by d gates x row) row) then x.octets else 0)
+      ≡ counted_in gates number cycle + (if is_queued_of number (verdict_if (passes_by d gates x row) row) then counted_of d.overhead x.octets else 0)
   pub kept : AreKept (cycle + 1) gates → AreKept (cycle + 1) gates_after
 
 -- the verdict on an offer with the name of a row's stream, given a reason that doesn't depend on its gate
@@ -128,27 +129,27 @@ pub record Polices (d : Domain) (rows : List Row) (bridge cycle : ℕ) (x : Rece
   pub verdict : verdict_as made ≡ verdict_taken d rows bridge cycle gates x
   pub class : HasClass d x made
   pub counted : (number : ℕ) → counted_in gates_after number cycle
-      ≡ counted_in gates number cycle + (if is_queued_of number (verdict_taken d rows bridge cycle gates x) then x.octets else 0)
+      ≡ counted_in gates number cycle + (if is_queued_of number (verdict_taken d rows bridge cycle gates x) then counted_of d.overhead x.octets else 0)
   pub kept : AreKept (cycle + 1) gates → AreKept (cycle + 1) gates_after
 
 -- so after the frames of the cycle that the gates have counted, it is the verdict in a run with such a table in the cycle, and the gates
 -- have counted the frame too
-pub record IsPolicedBehind (d : Domain) (tables : List (List Row)) (bridge cycle : ℕ) (x : Received) (policed : List Policed)
+pub record IsPolicedAfter (d : Domain) (tables : List (List Row)) (bridge cycle : ℕ) (x : Received) (policed : List Policed)
     (gates_after : List KeptGate) (made : FrameVerdict) : Type 0 where
   pub verdict : verdict_as made ≡ (police d tables bridge policed x).verdict
-  pub counted : HaveCounted d.cycle_time cycle (policed ++ police d tables bridge policed x ∷ []) gates_after
+  pub counted : HaveCounted d cycle (policed ++ police d tables bridge policed x ∷ []) gates_after
 
 -- a frame arrives in the cycle, and if it arrived by a link, its stream goes on from the bridge
 pub record MayBeTaken (d : Domain) (bridge cycle : ℕ) (rows : List Row) (x : Received) : Type 0 where
   pub in_cycle : cycle_of d x.at ≡ cycle
-  pub leads_on : (link stream : ℕ) → x.way ≡ Relayed link stream →
+  pub leads_on : (link stream : ℕ) → x.ingress ≡ Relayed link stream →
       (row : Row) × (row_of rows stream ≡ Some row) × (goes_on d row (Some link) bridge ≡ true)
 
 -- a frame is taken: the gates have counted it if it went on, the ports have it, and it is among the drops if it is dropped
 pub record TakesFrame (d : Domain) (rows : List Row) (bridge cycle : ℕ) (x : Received) (gates gates_after : List KeptGate)
     (ports ports_after : List PortRecord) (drops drops_after : List Dropped) : Type 0 where
   pub counted : (number : ℕ) → counted_in gates_after number cycle
-      ≡ counted_in gates number cycle + (if is_queued_of number (verdict_taken d rows bridge cycle gates x) then x.octets else 0)
+      ≡ counted_in gates number cycle + (if is_queued_of number (verdict_taken d rows bridge cycle gates x) then counted_of d.overhead x.octets else 0)
   pub kept : AreKept (cycle + 1) gates → AreKept (cycle + 1) gates_after
   pub queued : ports_after ≡ map (with_verdict d x (verdict_taken d rows bridge cycle gates x)) ports
   pub dropped : drops_after ≡ drops ++ drop_by cycle bridge x (verdict_taken d rows bridge cycle gates x)
@@ -169,7 +170,7 @@ policed_by d rows bridge cycle frames = police_all d (replicate (cycle + 1) rows
 -- the gates, the ports and the drops are the result of policing these frames of a cycle
 pub record HasPoliced (d : Domain) (bridge cycle : ℕ) (ports_before : List PortRecord) (drops_before : List Dropped)
     (policed : List Policed) (gates : List KeptGate) (ports : List PortRecord) (drops : List Dropped) : Type 0 where
-  pub counted : HaveCounted d.cycle_time cycle policed gates
+  pub counted : HaveCounted d cycle policed gates
   pub queued : ports ≡ map (λ (r : PortRecord). with_frames r (queued_to d r.link policed)) ports_before
   pub dropped : drops ≡ drops_before ++ dropped_of cycle bridge policed
   pub none_lost : (p : Policed) → Contains policed p → ¬ IsLoss p.verdict
@@ -189,7 +190,7 @@ pub record TakesCycle (run : Run) (bridge cycle : ℕ) (batches : List LinkBatch
   pub none_lost : (p : Policed) → Contains (verdicts_in run bridge cycle batches) p → ¬ IsLoss p.verdict
   pub dropped : drops ≡ drops_in run.domain (length run.offers) (λ b. verdicts_in run b cycle batches) cycle bridge
 
--- or not all of it is taken
+-- why not all that arrives in a cycle is taken, in a run
 abbrev pub IsFaultInRun : Run → ℕ → ℕ → List LinkBatch → BridgeFault → Type 0
 IsFaultInRun run bridge cycle batches fault = IsFaultByPoliced (verdicts_in run bridge cycle batches) fault
 

@@ -3,7 +3,7 @@ use Rattle.std.specs.Prelude.{ℕ, ◌≡◌, ◌<◌, [], Contains}
 use Rattle.cqf_model.specs.Network.{IsLoss, Network}
 use Rattle.cqf_model.specs.Run.{Run}
 use Rattle.cqf_model.specs.Table.{table_of}
-use Rattle.cqf_model.specs.Traffic.{Carried, Policed}
+use Rattle.cqf_model.specs.Policing.{Carried, Policed}
 use Rattle.cqf_laws_cycle.specs.BridgeCycle.{IsCompiledNetwork, policed_in, policed_of}
 use Rattle.cqf_bridge.specs.Receiving.{AreBatchesOf, verdicts_in}
 use Rattle.cqf_bridge.specs.Follows.{batches_into}
@@ -22,8 +22,8 @@ abbrev pub VerdictsAreTheRuns : Type 0
 VerdictsAreTheRuns = (run : Run) (cycles cycle bridge : ℕ) (net : Network) → IsCompiledNetwork run cycles net →
     verdicts_in run bridge cycle (batches_into run.domain net.carried bridge cycle) ≡ policed_of run net.carried bridge cycle
 
--- and if it loses nothing in the cycle, these are the cycle's batches: each of their frames goes on there, by the table of the cycle, and
--- is whole there within it
+-- if a bridge loses nothing in a cycle, the network's batches are the cycle's: each of their frames goes on there, by the table of the
+-- cycle, and is whole there within it
 abbrev pub UnlostBatchesMayCome : Type 0
 UnlostBatchesMayCome = (run : Run) (cycles cycle bridge : ℕ) (net : Network) → IsCompiledNetwork run cycles net → LosesNothingIn run net bridge cycle →
     AreBatchesOf run.domain bridge cycle (table_of run.tables cycle) (batches_into run.domain net.carried bridge cycle)

@@ -30,7 +30,7 @@ impl Model for Agenda {
 
 impl Agenda {
     /// Returns a bridge's part of a run: the offers at that bridge, and the background frames of the links that leave it, each with its
-    /// number among all of the run, from 1. Returns `Memory` if an allocation fails.
+    /// number among all of the run, from 1. There are fewer than 2^32 of each kind. Returns `Memory` if an allocation fails.
     pub fn new(
         alloc: Global,
         domain: &Domain,
@@ -51,7 +51,7 @@ impl Agenda {
         })
     }
 
-    /// Returns the bridge's offers of a cycle, by instant, then index, for receiving the cycle. It takes no memory.
+    /// Returns the bridge's offers of a cycle, by instant, then index, for receiving the cycle. Requests no memory.
     pub fn offers(&self, cycle: Cycle) -> &[Offered]
         ensures { result.now ≡ offers_listed_at self.now cycle.0 }
     {
@@ -64,7 +64,7 @@ impl Agenda {
         &rest[..count]
     }
 
-    /// Returns the background frames of the bridge's links in a cycle, by instant, then index, for sending the cycle. It takes no memory.
+    /// Returns the background frames of the bridge's links in a cycle, by instant, then index, for sending the cycle. Requests no memory.
     pub fn background(&self, cycle: Cycle) -> &[Backed]
         ensures { result.now ≡ background_at self.now cycle.0 }
     {

@@ -31,11 +31,11 @@ impl Model for Batch {
 }
 
 /// Returns the element at an index of a column.
-fn at<T: Copy>(column: &[T], place: usize) -> T
-    requires { place < length column.now }
-    ensures { slice_get column.now place ≡ Some result }
+fn at<T: Copy>(column: &[T], index: usize) -> T
+    requires { index < length column.now }
+    ensures { slice_get column.now index ≡ Some result }
 {
-    column[place]
+    column[index]
 }
 
 impl Batch {
@@ -53,7 +53,7 @@ impl Batch {
         }
     }
 
-    /// Appends a frame. If memory is refused, the batch is unchanged.
+    /// Appends a frame. Returns `Memory` if an allocation fails; the batch is then unchanged.
     pub(crate) fn push(&mut self, sent: Sent) -> Result<(), Memory>
         requires { length self.old.frames + 1 < 2 ^ 32 }
         ensures ok { OnOk result (self.new ≡ record self.old { frames = self.old.frames ++ sent ∷ [] }) }
@@ -91,20 +91,20 @@ impl Batch {
         self.starts.as_slice().len()
     }
 
-    /// Returns the frame at an index, from 0, in order of start.
-    pub fn get(&self, place: usize) -> Sent
-        requires { place < length self.now.frames }
-        ensures { slice_get self.now.frames place ≡ Some result }
+    /// Returns the frame at an index, from 0 and below the number of frames, in order of start.
+    pub fn get(&self, index: usize) -> Sent
+        requires { index < length self.now.frames }
+        ensures { slice_get self.now.frames index ≡ Some result }
     {
         Sent {
-            start: at(self.starts.as_slice(), place),
-            frame: at(self.frames.as_slice(), place),
-            stream: at(self.streams.as_slice(), place),
-            octets: at(self.octets.as_slice(), place),
+            start: at(self.starts.as_slice(), index),
+            frame: at(self.frames.as_slice(), index),
+            stream: at(self.streams.as_slice(), index),
+            octets: at(self.octets.as_slice(), index),
         }
     }
 
-    /// Returns the sum of the frames' octets. It takes no memory.
+    /// Returns the sum of the frames' octets. Requests no memory.
     pub fn octets(&self) -> u64
         ensures { result ≡ octets_of_batch self.now }
     {

@@ -171,10 +171,15 @@ impl Bridge {
     /// link that ends in the bridge, by link number, and the table is the cycle's. The caller must ensure that the offers are those at the
     /// bridge in the cycle, by instant, then index.
     ///
-    /// Returns `Spent` if the bridge is spent, else `WrongCycle` if the cycle isn't the one sent and not yet received, or the table is of
-    /// another cycle, else `StrangeBatch` if the batches aren't these, or have a frame that the table and its link exclude, or that isn't
-    /// whole here within the cycle; nothing is changed then. Returns `OverOctets` for the first frame that arrived by a link and exceeds
-    /// the octets that its stream's gate has left, and `Memory` if an allocation fails; the bridge is spent then.
+    /// Returns the first of these that applies, and changes nothing then:
+    ///
+    /// - `Spent` if the bridge is spent.
+    /// - `WrongCycle` if the cycle isn't the one sent and not yet received, or the table is of another cycle.
+    /// - `StrangeBatch` if the batches aren't these, or have a frame that the table and its link exclude, or that isn't whole here within
+    ///   the cycle.
+    ///
+    /// Otherwise returns `OverOctets` for the first frame that arrived by a link and exceeds the octets that its stream's gate has left,
+    /// and `Memory` if an allocation fails; the bridge is spent then.
     pub fn receive(
         &mut self,
         alloc: Global,
@@ -227,7 +232,7 @@ impl Bridge {
     }
 
     /// Returns the background frames that started in the cycle last sent, by link, then instant; none before the first cycle. A refused
-    /// call doesn't change them. It takes no memory.
+    /// call doesn't change them. Requests no memory.
     pub fn background_starts(&self) -> &[Started]
         ensures { result.now ≡ self.now.background }
     {
@@ -241,14 +246,14 @@ impl Bridge {
         self.ports.len()
     }
 
-    /// Returns the instant of the next start on one of the links that leave the bridge, and the link's number; `place` is the link's index
+    /// Returns the instant of the next start on one of the links that leave the bridge, and the link's number; `index` is the link's index
     /// among these links, by number. Starts that were already sent don't count, and nothing more must arrive. Returns `None` if there would
-    /// be no start. It takes no memory.
-    pub fn next_start(&self, place: usize) -> Option<(Nanos, u16)>
-        requires { place < length self.now.ports }
-        ensures { IsNextAt self.now.ports place result }
+    /// be no start. Requests no memory.
+    pub fn next_start(&self, index: usize) -> Option<(Nanos, u16)>
+        requires { index < length self.now.ports }
+        ensures { IsNextAt self.now.ports index result }
     {
-        self.ports[place].next_start()
+        self.ports[index].next_start()
     }
 
     /// Passes over cycles in which the bridge does nothing, from the next one to this one. Its ports run to the end of the cycle without a

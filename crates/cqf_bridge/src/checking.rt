@@ -2,8 +2,8 @@
 ghost use Rattle.std.specs.Prelude.{◌≡◌, ◌<◌, ◌==◌, ◌&&◌, false, IfOk, length, map, true};
 ghost use Rattle.std.specs.List.{list_any};
 ghost use Rattle.cqf_model.specs.Domain.{cycle_of, enters, leaves};
-ghost use Rattle.cqf_model.specs.Table.{goes_on, same_way};
-ghost use Rattle.cqf_model.specs.Traffic.{whole_at};
+ghost use Rattle.cqf_model.specs.Table.{goes_on, same_ingress};
+ghost use Rattle.cqf_model.specs.Policing.{whole_at};
 ghost use Rattle.cqf_bridge.specs.Batch.{LinkBatch};
 ghost use Rattle.cqf_bridge.specs.Receiving.{AreBatchesOf, MayCome, links_into};
 ghost use Rattle.cqf_bridge.specs.Taking.{IsBatchOf};
@@ -18,11 +18,12 @@ use cqf_topology::Domain;
 use cqf_units::{Cycle, Memory, Nanos, Octets};
 use std::alloc::Global;
 
-/// Returns whether a frame that arrived by `way` goes on by a hop, and the hop's link leaves the bridge.
-pub fn leads_by(domain: &Domain, hop: &Hop, way: Option<u16>, bridge: u16) -> bool
-    ensures { result ≡ (same_way hop.now.from way && leaves domain.now hop.now.link bridge) }
+/// Returns whether a frame that arrived by the link `ingress`, or at the edge if it is `None`, goes on by a hop, and the hop's link leaves the
+/// bridge.
+pub fn leads_by(domain: &Domain, hop: &Hop, ingress: Option<u16>, bridge: u16) -> bool
+    ensures { result ≡ (same_ingress hop.now.from ingress && leaves domain.now hop.now.link bridge) }
 {
-    let same = match (hop.from, way) {
+    let same = match (hop.from, ingress) {
         (None, None) => true,
         (Some(link), Some(other)) => link == other,
         _ => false,
@@ -30,18 +31,19 @@ pub fn leads_by(domain: &Domain, hop: &Hop, way: Option<u16>, bridge: u16) -> bo
     same && hop.link < domain.links() && domain.link(hop.link).from == bridge
 }
 
-/// Returns whether a frame that arrived by `way` goes on from the bridge by one of these hops.
-fn lead_on(domain: &Domain, hops: &[Hop], way: Option<u16>, bridge: u16) -> bool
-    ensures { result ≡ list_any (λ hop. same_way hop.from way && leaves domain.now hop.link bridge) hops.now }
+/// Returns whether a frame that arrived by the link `ingress`, or at the edge if it is `None`, goes on from the bridge by one of these hops.
+fn lead_on(domain: &Domain, hops: &[Hop], ingress: Option<u16>, bridge: u16) -> bool
+    ensures { result ≡ list_any (λ hop. same_ingress hop.from ingress && leaves domain.now hop.link bridge) hops.now }
 {
-    hops.iter().any(|hop| leads_by(domain, hop, way, bridge))
+    hops.iter()
+        .any(|hop| leads_by(domain, hop, ingress, bridge))
 }
 
-/// Returns whether a frame of a row's stream that arrived by `way` goes on from the bridge.
-pub(crate) fn leads_on(domain: &Domain, row: &Row, way: Option<u16>, bridge: u16) -> bool
-    ensures { result ≡ goes_on domain.now row.now way bridge }
+/// Returns whether a frame of a row's stream that arrived by the link `ingress`, or at the edge if it is `None`, goes on from the bridge.
+pub(crate) fn leads_on(domain: &Domain, row: &Row, ingress: Option<u16>, bridge: u16) -> bool
+    ensures { result ≡ goes_on domain.now row.now ingress bridge }
 {
-    lead_on(domain, row.tree.as_slice(), way, bridge)
+    lead_on(domain, row.tree.as_slice(), ingress, bridge)
 }
 
 /// Returns the instant at which a frame that a link sent is whole in the next node.
@@ -100,8 +102,8 @@ fn is_batch_of(domain: &Domain, number: u16, cycle: Cycle, table: &Table, batch:
     if batch.cycle() != cycle {
         return false;
     }
-    for place in 0..batch.len() {
-        if !may_come(domain, number, cycle, table, batch.link(), batch.get(place)) {
+    for index in 0..batch.len() {
+        if !may_come(domain, number, cycle, table, batch.link(), batch.get(index)) {
             return false;
         }
     }
@@ -119,7 +121,7 @@ fn ends_in(domain: &Domain, link: u16, bridge: u16) -> bool
     }
 }
 
-/// Returns the links that end in a bridge, by number. It takes no memory.
+/// Returns the links that end in a bridge, by number. Requests no memory.
 pub fn incoming_links(domain: &Domain, number: u16) -> ArrayVec<u16, 4096>
     ensures { result.items ≡ links_into domain.now number }
 {
@@ -149,8 +151,8 @@ fn are_of_links(batches: &[Batch], links: &[u16]) -> bool
     if batches.len() != links.len() {
         return false;
     }
-    for (place, batch) in batches.iter().enumerate() {
-        if batch.link() != links[place] {
+    for (index, batch) in batches.iter().enumerate() {
+        if batch.link() != links[index] {
             return false;
         }
     }

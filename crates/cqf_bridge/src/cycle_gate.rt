@@ -2,7 +2,7 @@
 ghost use Rattle.std.specs.Prelude.{◌≡◌, Some, if◌then◌else◌, ◌==◌};
 ghost use Rattle.cqf_gates.specs.StreamGate.{verdict_on};
 ghost use Rattle.cqf_laws_cycle.specs.Compiled.{given_class};
-ghost use Rattle.cqf_model.specs.Traffic.{gate_behind};
+ghost use Rattle.cqf_model.specs.Policing.{gate_list_after};
 ghost use Rattle.cqf_bridge.specs.Gates.{gate_or, kept_after};
 
 use cqf_gates::Passed;
@@ -17,9 +17,9 @@ const CLASS_OF_EVEN_CYCLE: u8 = 6;
 /// The class that a gate gives in odd cycles.
 const CLASS_OF_ODD_CYCLE: u8 = 7;
 
-/// The state of a stream's gate. The stream gate that executes the gate list of the stream's row, as compiled for frames on the same way,
-/// counts each cycle separately and passes what is reserved in the cycle. So no list is needed, only the octets of the stream that passed
-/// in the cycle, on any way.
+/// The state of a stream's gate. The stream gate that executes the gate list of the stream's row, as compiled for frames that arrive by the
+/// same link, counts each cycle separately and passes what is reserved in the cycle. So no list is needed, only the octets of the stream
+/// that passed in the cycle, by any link.
 #[derive(Clone, Copy, Debug)]
 pub(crate) struct KeptGate {
     /// The stream's number.
@@ -60,21 +60,21 @@ impl KeptGate {
         }
     }
 
-    /// Returns whether a frame of a row's stream passes at an instant, and with which traffic class. `octets` count from the destination
-    /// address to the FCS. The result is `Class` if and only if the octets, with those that passed before in the same cycle, are within
-    /// what the row reserves in it for frames that arrived by the link `way`, or at the edge. A frame that doesn't pass uses no octets, so
-    /// a smaller frame may pass after it.
+    /// Returns whether a frame of a row's stream passes at an instant, and with which traffic class. `octets` are the octets of the frame that
+    /// gates count. They are added to those that passed before in the same cycle. The result is `Class` if and only if the sum is within what
+    /// the row reserves in the cycle for frames that arrived by the link `ingress`, or at the edge. A frame that doesn't pass uses no octets, so a
+    /// smaller frame may pass after it.
     pub(crate) fn pass(
         &mut self,
         domain: &Domain,
         row: &Row,
-        way: Option<u16>,
+        ingress: Option<u16>,
         at: Nanos,
         octets: Octets,
     ) -> Passed
-        ensures verdict { result ≡ verdict_on (gate_or domain.now.cycle_time (gate_behind domain.now row.now way) (Some self.old)) at.0 octets.0 }
+        ensures verdict { result ≡ verdict_on (gate_or domain.now.cycle_time (gate_list_after domain.now row.now ingress) (Some self.old)) at.0 octets.0 }
         ensures after { self.new ≡ kept_after domain.now.cycle_time self.old.number
-            (gate_or domain.now.cycle_time (gate_behind domain.now row.now way) (Some self.old)) at.0 octets.0 }
+            (gate_or domain.now.cycle_time (gate_list_after domain.now row.now ingress) (Some self.old)) at.0 octets.0 }
     {
         gate_counts_cycles();
         gate_gives_class();
@@ -82,7 +82,7 @@ impl KeptGate {
         let taken = taken_in(cycle, self.cycle, self.taken);
         self.cycle = cycle;
         let sum = u64::from(taken) + u64::from(octets.0);
-        if sum > u64::from(row.reserved_behind(way, cycle)) {
+        if sum > u64::from(row.reserved_after(ingress, cycle)) {
             self.taken = taken;
             return Passed::OverOctets;
         }

@@ -1,7 +1,7 @@
 //! A bridge that follows the network, cycle by cycle.
 ghost use Rattle.cqf_bridge.specs.Cycles.{BackgroundIsOfTheBridge, NewBridgeFollows, OffersAreOfTheBridge, PageFollows, ReceivingFollows, SendingFollows};
 
-/// States that a bridge that has done nothing follows the network of each run of its domain, and that it may be given a run's background
+/// Proves that a bridge that has done nothing follows the network of each run of its domain, and that it may be given a run's background
 /// frames and offers for the bridge in a cycle.
 pub fn new_bridge_follows()
     ensures follows { NewBridgeFollows }
@@ -9,7 +9,7 @@ pub fn new_bridge_follows()
     ensures offers { OffersAreOfTheBridge }
 {}
 
-/// States what sending does. A bridge follows the legal network of a run, and sends the next cycle with the run's background frames. Then
+/// Proves what sending does. A bridge follows the legal network of a run, and sends the next cycle with the run's background frames. Then
 /// it appends what the network sends in the cycle on each link that leaves the bridge, by number, and keeps the background frames that
 /// start on these links in the cycle. After it, the bridge has sent as the network does (IEEE 802.1Q, Annex T).
 pub fn sending_follows()
@@ -19,7 +19,7 @@ pub fn sending_follows()
     cqf_laws_cycle::port_sends_what_came_before();
 }
 
-/// States what receiving does. A bridge has sent a cycle as the network does, and receives it with what the network sends on each link that
+/// Proves what receiving does. A bridge has sent a cycle as the network does, and receives it with what the network sends on each link that
 /// ends in the bridge, by number. Then it drops what the network drops there in the cycle, by frame, and follows the network, one cycle
 /// further. What its stream gates passed in earlier cycles doesn't matter, since they count each cycle anew (IEEE 802.1Q, Annex T).
 pub fn receiving_follows()
@@ -32,7 +32,7 @@ pub fn receiving_follows()
     cqf_laws_shift::gate_is_reservation();
 }
 
-/// States that a bridge's output in a cycle is its page of the run's book: the frames of its batches, its background frames and its drops.
+/// Proves that a bridge's output in a cycle is its page of the run's book: the frames of its batches, its background frames and its drops.
 pub fn page_follows()
     ensures { PageFollows }
 {

@@ -11,7 +11,7 @@ ghost use Rattle.cqf_bridge.specs.Driven.{
 
 use crate::{new_bridge_follows, no_other_fault, page_follows, receiving_follows, sending_follows};
 
-/// States laws about driven bridges. The bridges of a domain begin with nothing done, and in each cycle each bridge sends, then receives
+/// Proves laws about driven bridges. The bridges of a domain begin with nothing done, and in each cycle each bridge sends, then receives
 /// with the batches that the others sent to it. Then each bridge follows the legal network of the run, and their output is the run's book:
 /// the network is nothing but its bridges and the batches that they exchange (IEEE 802.1Q, Annex T).
 ///
@@ -29,8 +29,8 @@ pub fn driven_bridges_give_the_book()
     cqf_laws_cycle::book_is_its_pages();
 }
 
-/// States that bridges driven in this way refuse to send a cycle only if memory is refused. They refuse to receive it only if memory is
-/// refused, too, in a run that loses nothing inside, as under the tables of a history ([`crate::history_loses_nothing`]).
+/// Proves that bridges driven in this way refuse to send a cycle only if an allocation fails. In a run that loses nothing inside, they
+/// refuse to receive it only then, too, as under the tables of a history ([`crate::history_loses_nothing`]).
 pub fn driven_bridges_want_memory_alone()
     ensures sends { DrivenBridgesSendButForMemory }
     ensures receives { DrivenBridgesReceiveButForMemory }
@@ -41,7 +41,7 @@ pub fn driven_bridges_want_memory_alone()
     no_other_fault();
 }
 
-/// States that the output of bridges driven in this way, under the tables of a legal history of admissions, says the shift, and keeps all
+/// Proves that the output of bridges driven in this way, under the tables of a legal history of admissions, says the shift, and keeps all
 /// other promises (`KeepsThePromise` of `cqf_model/specs/Headline.antt`). This holds for every accepted domain, all offers and any
 /// background frames (IEEE 802.1Q, Annex T).
 pub fn driven_bridges_say_the_shift()

@@ -38,7 +38,7 @@ impl fmt::Display for BridgeFault {
     }
 }
 
-/// A failed allocation as a fault.
+/// Converts a failed allocation into a fault.
 impl From<Memory> for BridgeFault {
     ghost use Rattle.cqf_bridge.specs.declared.faults.BridgeFault.TheVariants as variant;
 

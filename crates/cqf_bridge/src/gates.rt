@@ -38,14 +38,14 @@ impl Model for StreamGates {
 }
 
 /// Returns the index of the gate of a number among some gates.
-fn place_among(gates: &[KeptGate], number: u32) -> Option<usize>
+fn index_among(gates: &[KeptGate], number: u32) -> Option<usize>
     ensures { result ≡ position (λ (k : Kept). k.number == number) gates.now }
 {
     gates.iter().position(|kept| kept.number == number)
 }
 
 impl StreamGates {
-    /// Returns no gates, for a bridge that has seen no frame. It takes no memory.
+    /// Returns an empty list of gates, for a bridge that has seen no frame. Requests no memory.
     pub fn new(alloc: Global) -> StreamGates
         ensures { result ≡ [] }
     {
@@ -56,17 +56,17 @@ impl StreamGates {
     }
 
     /// Returns the index of the gate of a number.
-    fn place_of(&self, number: u32) -> Option<usize>
+    fn index_of(&self, number: u32) -> Option<usize>
         ensures { result ≡ position (λ (k : Kept). k.number == number) self.now }
     {
         if self.kept.len() <= FEW {
-            return place_among(self.kept.as_slice(), number);
+            return index_among(self.kept.as_slice(), number);
         }
-        if let Some(place) = place_among(&self.kept[..FEW], number) {
-            return Some(place);
+        if let Some(index) = index_among(&self.kept[..FEW], number) {
+            return Some(index);
         }
         match self.numbers.get_index_of(&number) {
-            Some(place) => Some(FEW + place),
+            Some(index) => Some(FEW + index),
             None => None,
         }
     }
@@ -87,12 +87,12 @@ impl StreamGates {
     }
 
     /// Passes a frame of a row's stream to the stream's gate, and returns the gate's verdict. `octets` count from the destination address
-    /// to the FCS. The frame arrived by the link `way`, or at the edge, and is whole at the instant `at`, in nanoseconds. If no gate is
+    /// to the FCS. The frame arrived by the link `ingress`, or at the edge, and is whole at the instant `at`, in nanoseconds. If no gate is
     /// kept for the stream's number, one that has seen no frame is used, and kept from then on.
     ///
-    /// The result is `Class` if and only if the octets, with those of the stream that passed before in the same cycle, are within what the
-    /// row reserves in it for frames that arrived on the same way. The class is 6 in even cycles and 7 in odd ones. Else the result is
-    /// `OverOctets`, and the frame uses no octets.
+    /// The octets are added to those of the stream that passed before in the same cycle. The result is `Class` if and only if the sum is
+    /// within what the row reserves in the cycle for frames that arrived by the same link, or at the edge. The class is 6 in even cycles
+    /// and 7 in odd ones. Else the result is `OverOctets`, and the frame uses no octets.
     ///
     /// # Errors
     /// Returns `Memory` if there is no room to keep a gate; nothing changes then.
@@ -100,20 +100,20 @@ impl StreamGates {
         &mut self,
         domain: &Domain,
         row: &Row,
-        way: Option<u16>,
+        ingress: Option<u16>,
         at: Nanos,
         octets: Octets,
     ) -> Result<Passed, Memory>
-        ensures verdict { IfOk result (λ passed. passed ≡ verdict_on (gate_in domain.now self.old row.now way) at.0 octets.0) }
+        ensures verdict { IfOk result (λ passed. passed ≡ verdict_on (gate_in domain.now self.old row.now ingress) at.0 octets.0) }
         ensures after { OnOk result (self.new ≡ with_gate self.old
-            (kept_after domain.now.cycle_time row.now.no (gate_in domain.now self.old row.now way) at.0 octets.0)) }
+            (kept_after domain.now.cycle_time row.now.no (gate_in domain.now self.old row.now ingress) at.0 octets.0)) }
         ensures refused { OnErr result (self.new ≡ self.old) }
     {
-        match self.place_of(row.no) {
-            Some(place) => Ok(self.kept[place].pass(domain, row, way, at, octets)),
+        match self.index_of(row.no) {
+            Some(index) => Ok(self.kept[index].pass(domain, row, ingress, at, octets)),
             None => {
                 let mut gate = KeptGate::new(row.no);
-                let passed = gate.pass(domain, row, way, at, octets);
+                let passed = gate.pass(domain, row, ingress, at, octets);
                 self.keep(gate)?;
                 Ok(passed)
             }

@@ -1,9 +1,9 @@
 //! The frames that arrive at a bridge in a cycle, in the order in which it takes them.
 ghost use Rattle.std.specs.Prelude.{◌≡◌, ◌*◌, ◌<◌, ◌++◌, IfOk, IsPermutation, OnErr, OnOk, Contains, length, map};
-ghost use Rattle.cqf_model.specs.Traffic.{Received, came_by, offer_received, sent_received};
+ghost use Rattle.cqf_model.specs.Policing.{Received, came_by, offer_received, sent_received};
 ghost use Rattle.cqf_laws_cycle.specs.Gathered.{IsInOrderOf};
 ghost use Rattle.cqf_bridge.specs.Batch.{LinkBatch};
-ghost use Rattle.cqf_bridge.specs.Taking.{CanGather, gathered_by, received_as, way_taken};
+ghost use Rattle.cqf_bridge.specs.Taking.{CanGather, gathered_by, ingress_taken, received_as};
 ghost use Rattle.cqf_model.specs.Limits.{end_of_starts};
 
 use crate::Batch;
@@ -25,7 +25,7 @@ pub enum Came {
 impl Came {
     /// Returns the link by which the frame arrived, or `None` at the edge.
     pub fn link(&self) -> Option<u16>
-        ensures { result ≡ came_by (way_taken self.now) }
+        ensures { result ≡ came_by (ingress_taken self.now) }
     {
         match self {
             Came::ByLink(link, _) => Some(*link),
@@ -44,8 +44,9 @@ pub struct Incoming {
 }
 
 impl Incoming {
-    /// Returns a frame that a link sent, as it arrives at the bridge in which the link ends. The frame is whole there when its last octet
-    /// has arrived, after the link's delay. Its start is before 10,000,010,000,000 ns, the end of 1,000,001 cycles of the greatest length.
+    /// Returns a frame that a link of the domain sent, as it arrives at the bridge in which the link ends. The frame is whole there when
+    /// its last octet has arrived, after the link's delay. Its start is before 10,000,010,000,000 ns, the end of 1,000,001 cycles of the
+    /// greatest length.
     pub fn by_link(domain: &Domain, link: u16, sent: Sent) -> Incoming
         requires inside { link < length domain.now.links }
         requires early { sent.start.0 < end_of_starts }
@@ -78,8 +79,8 @@ fn gather_batch(domain: &Domain, batch: &Batch, frames: &mut Vec<Incoming>) -> R
     ensures { OnOk result (map received_as frames.new.items
         ≡ map received_as frames.old.items ++ map (sent_received domain.now batch.now.link) batch.now.frames) }
 {
-    for place in 0..batch.len() {
-        frames.push(Incoming::by_link(domain, batch.link(), batch.get(place)))?;
+    for index in 0..batch.len() {
+        frames.push(Incoming::by_link(domain, batch.link(), batch.get(index)))?;
     }
     Ok(())
 }
@@ -115,8 +116,8 @@ fn gathered(
 }
 
 /// Brings frames into the order in which a bridge takes them: by instant, keeping the order of frames of the same instant. Before, they are
-/// by link, each link's frames as it sent them, followed by the offers by instant and index. If memory is refused, the frames keep their
-/// order.
+/// by link, each link's frames as it sent them, followed by the offers by instant and index. Returns `Memory` if an allocation fails; the
+/// frames then keep their order.
 pub fn bring_in_order(frames: &mut Vec<Incoming>) -> Result<(), Memory>
     ensures ok { OnOk result (IsInOrderOf (λ (x : Received). x.at) (map received_as frames.old.items) (map received_as frames.new.items)) }
     ensures moved { IsPermutation frames.old.items frames.new.items }

@@ -13,10 +13,10 @@
 //! - **Verdicts**, for callers with ports of their own: each [`Incoming`] frame of a cycle has a `Came`, by one of the [`incoming_links`] or at
 //!   the edge ([`gather_offers`]). [`bring_in_order`] brings the frames into order, and [`police`] returns the [`FrameVerdict`] of each.
 //!   `leads_by` returns whether a frame goes on by a hop.
-//! - **Stream gates** (8.6.5.1; the rules for octets and classes are this project's). [`StreamGates`] has a gate for each stream whose frames the
-//!   bridge has seen. It counts octets by the cycle. Its verdicts and counts are exactly those of the stream gate that executes the
-//!   row's gate list for frames that arrived on the same way. A stream that isn't offered in each cycle has octets only in its own cycles, and
-//!   after a link as many cycles later as the link's hop number.
+//! - **Stream gates** (Qci, PSFP; 8.6.5.1; the rules for octets and classes are this project's). [`StreamGates`] has a gate for each stream
+//!   whose frames the bridge has seen. It counts octets by the cycle. Its verdicts and counts are exactly those of the stream gate that
+//!   executes the row's gate list for frames that arrived by the same link. A stream that isn't offered in each cycle has octets only in
+//!   its own cycles, and after a link as many cycles later as the link's hop number.
 //! - **The bridge's page of the book.** The caller has a bridge's batches until they are passed on: [`starts_of`] lists the frames in them
 //!   before. When the bridge has received the cycle too, [`page_with`] makes the page from these starts ([`Started`]), the drops ([`Dropped`],
 //!   each with its [`Reason`]), and the background frames that the bridge started. A [`Book`] has all pages of a run.
@@ -51,12 +51,12 @@
 //! - So bridges that exchange nothing but their batches give the book of the run ([`driven_bridges_give_the_book`]). Under the tables of a
 //!   history this book says the shift ([`driven_bridges_say_the_shift`]).
 //! - A run may become longer meanwhile, as further tables are closed ([`longer_run_is_followed`]).
-//! - Under the tables of a history nothing is lost inside ([`history_loses_nothing`]). Then the only fault is that memory is refused
+//! - Under the tables of a history nothing is lost inside ([`history_loses_nothing`]). Then the only fault is that an allocation fails
 //!   ([`no_other_fault`], [`driven_bridges_want_memory_alone`]).
 //! - A bridge that is given the network's batches judges a cycle's frames as in the run, even if other bridges lose frames
 //!   ([`verdicts_are_the_runs`]).
-//! - Each page that bridges under way have posted is that page of the one-thread book of the history ([`pages_are_of_the_book`]). Each bridge is
-//!   in the cycle that its lists say, and refuses its next cycle only if memory is refused ([`bridges_go_on`]).
+//! - Each page that bridges under way have posted is that page of the one-thread book of the history ([`pages_are_of_the_book`]). Each
+//!   bridge is in the cycle that its lists say, and refuses its next cycle only if an allocation fails ([`bridges_go_on`]).
 //!
 //! ```
 //! // from here on, a proof knows that the pages of bridges under way are those of the one-thread book

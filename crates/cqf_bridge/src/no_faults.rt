@@ -8,7 +8,7 @@ ghost use Rattle.cqf_bridge.specs.NoFaults.{
   SendsButForMemory,
 };
 
-/// States that a run with orderly tables, such as those of a legal history of admissions, loses nothing inside, for all offers and any
+/// Proves that a run with orderly tables, such as those of a legal history of admissions, loses nothing inside, for all offers and any
 /// background frames (IEEE 802.1Q, Annex T).
 pub fn history_loses_nothing()
     ensures orderly { OrderlyRunLosesNothing }
@@ -18,9 +18,9 @@ pub fn history_loses_nothing()
     cqf_laws_history::tables_are_orderly();
 }
 
-/// States laws about a run that loses nothing inside. The batches of a cycle may arrive at the bridge in which their links end, and none of
+/// Proves laws about a run that loses nothing inside. The batches of a cycle may arrive at the bridge in which their links end, and none of
 /// their frames is over its octets there. A bridge that isn't spent refuses to send its next cycle, or to receive it with these batches,
-/// only if memory is refused.
+/// only if an allocation fails.
 pub fn no_other_fault()
     ensures batches { BatchesMayCome }
     ensures none_over { NoneIsOver }

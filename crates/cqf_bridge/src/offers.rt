@@ -1,7 +1,7 @@
 //! The offers at a bridge in a cycle.
 ghost use Rattle.std.specs.Prelude.{◌≡◌, ◌+◌, ◌^◌, ◌<◌, ◌==◌, ◌&&◌, IfOk, filter, length};
 ghost use Rattle.cqf_model.specs.Domain.{cycle_of};
-ghost use Rattle.cqf_model.specs.Traffic.{numbered};
+ghost use Rattle.cqf_model.specs.Policing.{numbered};
 ghost use Rattle.cqf_laws_cycle.specs.Gathered.{is_offered_in, offered_for};
 
 use cqf_laws_cycle::frames_are_taken_in_order;
@@ -19,13 +19,13 @@ fn is_offered(domain: &Domain, offer: &Offer, bridge: u16, cycle: Cycle) -> bool
     here && then
 }
 
-/// Returns a copy of the offer at an index (from 0) of a run's offers, with its number (from 1).
-pub fn numbered_offer(place: usize, offer: &Offer) -> Offered
-    requires { place + 1 < 2 ^ 32 }
-    ensures { result ≡ record { frame = place + 1; offer = offer.now } }
+/// Returns a copy of the offer at an index (from 0, below 2^32 - 1) of a run's offers, with its number (from 1).
+pub fn numbered_offer(index: usize, offer: &Offer) -> Offered
+    requires { index + 1 < 2 ^ 32 }
+    ensures { result ≡ record { frame = index + 1; offer = offer.now } }
 {
     Offered {
-        frame: (place + 1) as u32,
+        frame: (index + 1) as u32,
         offer: Offer {
             at: offer.at,
             bridge: offer.bridge,
@@ -47,16 +47,16 @@ fn listed(
     ensures { IfOk result (λ list. list.items ≡ filter (is_offered_in domain.now bridge cycle.0) (numbered offers.now)) }
 {
     let mut list = Vec::new(alloc);
-    for (place, offer) in offers.iter().enumerate() {
+    for (index, offer) in offers.iter().enumerate() {
         if is_offered(domain, offer, bridge, cycle) {
-            list.push(numbered_offer(place, offer))?;
+            list.push(numbered_offer(index, offer))?;
         }
     }
     Ok(list)
 }
 
-/// Returns those of a run's offers that are at a bridge in a cycle, each with its number, by instant, then index. This is the input of
-/// [`Bridge::receive`](crate::Bridge::receive). Returns `Memory` if an allocation fails.
+/// Returns those of a run's offers that are at a bridge in a cycle, each with its number, by instant, then index. The run has fewer than
+/// 2^32 offers. This is the input of [`Bridge::receive`](crate::Bridge::receive). Returns `Memory` if an allocation fails.
 pub fn offers_of(
     alloc: Global,
     domain: &Domain,

@@ -181,10 +181,10 @@ fn hand_all(
         ++ map (started_backed batch.old.cycle batch.old.link) (flat_map (backed_of (frames_of arrivals.now streams.now)) made.now)) }
 {
     for sent in made {
-        let (place, start) = *sent;
+        let (index, start) = *sent;
         hand_one(
-            streams[place],
-            &arrivals[place],
+            streams[index],
+            &arrivals[index],
             Nanos(start),
             batch,
             background,

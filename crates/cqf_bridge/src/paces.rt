@@ -7,7 +7,7 @@
 //! domain and history. A proof elsewhere uses the law by calling the function.
 //!
 //! - Each page that was posted is that page of the one-thread book of the history ([`pages_are_of_the_book`]).
-//! - Each bridge is in the cycle that its lists say, and refuses its next cycle only if memory is refused ([`bridges_go_on`]).
+//! - Each bridge is in the cycle that its lists say, and refuses its next cycle only if an allocation fails ([`bridges_go_on`]).
 //!
 //! ```
 //! // from here on, a proof knows that the pages of bridges under way are those of the one-thread book
@@ -22,7 +22,7 @@ ghost use Rattle.cqf_bridge.specs.CourseLaws.{
   PagesAreOfTheBook,
 };
 
-/// States that bridges under way have posted pages of the one-thread book of the history, no matter how far each of them is. Each bridge
+/// Proves that bridges under way have posted pages of the one-thread book of the history, no matter how far each of them is. Each bridge
 /// sends and receives cycle by cycle, with the tables of one history and the batches that the others put on their links for it. The law
 /// doesn't fix the order of events, so each order, on any number of threads, gives those pages (IEEE 802.1Q, Annex T).
 pub fn pages_are_of_the_book()
@@ -35,9 +35,9 @@ pub fn pages_are_of_the_book()
     cqf_laws_history::tables_are_orderly();
 }
 
-/// States that such a bridge isn't spent, and has sent and received the cycles that its lists say. It refuses to send the next cycle only
-/// if memory is refused. It refuses to receive it only if memory is refused, too, once it has the cycle's table and a batch of each link
-/// that ends in it, since under the tables of a history nothing is lost inside (IEEE 802.1Q, Annex T).
+/// Proves that such a bridge isn't spent, and has sent and received the cycles that its lists say. It refuses to send the next cycle only
+/// if an allocation fails. Once it has the cycle's table and a batch of each link that ends in it, it refuses to receive the cycle only
+/// then, too: under the tables of a history nothing is lost inside (IEEE 802.1Q, Annex T).
 pub fn bridges_go_on()
     ensures before { BridgesStandBefore }
     ensures halfway { BridgesStandHalfway }

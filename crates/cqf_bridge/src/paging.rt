@@ -31,8 +31,8 @@ fn as_started(cycle: Cycle, link: u16, sent: Sent) -> Started
 fn list_batch(batch: &Batch, starts: &mut Vec<Started>) -> Result<(), Memory>
     ensures { OnOk result (starts.new.items ≡ starts.old.items ++ starts_of_batch batch.now) }
 {
-    for place in 0..batch.len() {
-        starts.push(as_started(batch.cycle(), batch.link(), batch.get(place)))?;
+    for index in 0..batch.len() {
+        starts.push(as_started(batch.cycle(), batch.link(), batch.get(index)))?;
     }
     Ok(())
 }

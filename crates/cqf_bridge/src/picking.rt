@@ -2,7 +2,7 @@
 ghost use Rattle.std.specs.Prelude.{◌≡◌, ◌+◌, ◌^◌, ◌<◌, IfOk, filter, length};
 ghost use Rattle.cqf_model.specs.Domain.{leaves};
 ghost use Rattle.cqf_model.specs.Network.{numbered_background};
-ghost use Rattle.cqf_model.specs.Traffic.{numbered};
+ghost use Rattle.cqf_model.specs.Policing.{numbered};
 ghost use Rattle.cqf_laws_cycle.specs.Gathered.{IsInOrderOf};
 ghost use Rattle.cqf_bridge.specs.Agenda.{instant_of_backed, instant_of_offer};
 ghost use Rattle.cqf_bridge.specs.Picking.{is_backed_from, is_offered_to};
@@ -19,9 +19,9 @@ fn listed_offers(alloc: Global, offers: &[Offer], bridge: u16) -> Result<Vec<Off
     ensures { IfOk result (λ list. list.items ≡ filter (is_offered_to bridge) (numbered offers.now)) }
 {
     let mut list = Vec::new(alloc);
-    for (place, offer) in offers.iter().enumerate() {
+    for (index, offer) in offers.iter().enumerate() {
         if offer.bridge == bridge {
-            list.push(numbered_offer(place, offer))?;
+            list.push(numbered_offer(index, offer))?;
         }
     }
     Ok(list)
@@ -52,12 +52,12 @@ fn is_from(domain: &Domain, link: u16, bridge: u16) -> bool
 }
 
 /// Returns the background frame at an index, with its number, from 1.
-fn numbered_frame(place: usize, background: &Background) -> Backed
-    requires { place + 1 < 2 ^ 32 }
-    ensures { result ≡ record { frame = place + 1; background = background.now } }
+fn numbered_frame(index: usize, background: &Background) -> Backed
+    requires { index + 1 < 2 ^ 32 }
+    ensures { result ≡ record { frame = index + 1; background = background.now } }
 {
     Backed {
-        frame: (place + 1) as u32,
+        frame: (index + 1) as u32,
         background: *background,
     }
 }
@@ -73,9 +73,9 @@ fn listed_background(
     ensures { IfOk result (λ list. list.items ≡ filter (is_backed_from domain.now bridge) (numbered_background background.now)) }
 {
     let mut list = Vec::new(alloc);
-    for (place, frame) in background.iter().enumerate() {
+    for (index, frame) in background.iter().enumerate() {
         if is_from(domain, frame.link, bridge) {
-            list.push(numbered_frame(place, frame))?;
+            list.push(numbered_frame(index, frame))?;
         }
     }
     Ok(list)

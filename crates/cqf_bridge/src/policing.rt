@@ -3,9 +3,9 @@ ghost use Rattle.std.specs.Prelude.{◌≡◌, Bool, IfOk, List, OnErr, Some};
 ghost use Rattle.cqf_model.specs.declared.topology.Row.{Row as ARow};
 ghost use Rattle.cqf_model.specs.Domain.{cycle_of};
 ghost use Rattle.cqf_model.specs.Table.{table_of};
-ghost use Rattle.cqf_model.specs.Traffic.{AtEdge as Offering, Policed, Relayed, edge_verdict};
+ghost use Rattle.cqf_model.specs.Policing.{AtEdge as Offering, Policed, Relayed, edge_verdict};
 ghost use Rattle.cqf_bridge.specs.Gates.{HaveCounted};
-ghost use Rattle.cqf_bridge.specs.Taking.{IsPolicedBehind, PassesGate, Polices, received_as, verdict_unless, way_taken};
+ghost use Rattle.cqf_bridge.specs.Taking.{IsPolicedAfter, PassesGate, Polices, ingress_taken, received_as, verdict_unless};
 
 use crate::StreamGates;
 use crate::checking::leads_on;
@@ -16,7 +16,7 @@ use cqf_gates::Passed;
 use cqf_laws_cycle::gate_counts_cycles;
 use cqf_model::{Reason, Row};
 use cqf_topology::Domain;
-use cqf_units::{Cycle, Memory, Name, Octets};
+use cqf_units::{Cycle, Memory, Name, Octets, counted};
 
 /// The verdict on a frame that arrives at a bridge (after IEEE 802.1Q, 8.6.5.1).
 #[derive(Clone, Copy, Debug)]
@@ -46,8 +46,9 @@ fn pass_gate(
 {
     gate_counts_cycles();
     domain.know();
-    let way = frame.came.link();
-    match gates.pass(domain, row, way, frame.at, Octets(frame.octets))? {
+    let ingress = frame.came.link();
+    let octets = counted(Octets(domain.overhead()), Octets(frame.octets));
+    match gates.pass(domain, row, ingress, frame.at, octets)? {
         Passed::Class(class) => Ok(Some(class)),
         Passed::OverOctets => Ok(None),
     }
@@ -73,7 +74,7 @@ fn police_offer<'a>(
     name: &Name,
     gates: &mut StreamGates,
 ) -> Result<FrameVerdict<'a>, Memory>
-    requires way { way_taken frame.now.came ≡ Offering name.now }
+    requires ingress { ingress_taken frame.now.came ≡ Offering name.now }
     requires in_cycle { cycle_of phase.domain.now frame.now.at.0 ≡ phase.cycle.0 }
     ensures polices { IfOk result (λ outcome. Polices phase.entry.domain.now phase.entry.table.now.rows phase.entry.number phase.entry.cycle.0
         (received_as frame.now) gates.old gates.new outcome) }
@@ -99,7 +100,7 @@ fn police_inside<'a>(
     stream: u32,
     gates: &mut StreamGates,
 ) -> Result<FrameVerdict<'a>, Memory>
-    requires way { way_taken frame.now.came ≡ Relayed link stream }
+    requires ingress { ingress_taken frame.now.came ≡ Relayed link stream }
     requires in_cycle { cycle_of phase.domain.now frame.now.at.0 ≡ phase.cycle.0 }
     ensures polices { IfOk result (λ outcome. Polices phase.entry.domain.now phase.entry.table.now.rows phase.entry.number phase.entry.cycle.0
         (received_as frame.now) gates.old gates.new outcome) }
@@ -130,9 +131,9 @@ pub fn police<'a>(
 ) -> Result<FrameVerdict<'a>, Memory>
     requires in_cycle { cycle_of domain.now frame.now.at.0 ≡ cycle.0 }
     ensures police { IfOk result (λ outcome. Polices domain.now table.now.rows number cycle.0 (received_as frame.now) gates.old gates.new outcome) }
-    ensures behind { IfOk result (λ outcome. (tables : List (List ARow)) (policed : List Policed) → table_of tables cycle.0 ≡ table.now.rows →
-        HaveCounted domain.now.cycle_time cycle.0 policed gates.old →
-        IsPolicedBehind domain.now tables number cycle.0 (received_as frame.now) policed gates.new outcome) }
+    ensures following { IfOk result (λ outcome. (tables : List (List ARow)) (policed : List Policed) → table_of tables cycle.0 ≡ table.now.rows →
+        HaveCounted domain.now cycle.0 policed gates.old →
+        IsPolicedAfter domain.now tables number cycle.0 (received_as frame.now) policed gates.new outcome) }
     ensures err { OnErr result (gates.new ≡ gates.old) }
 {
     gate_counts_cycles();

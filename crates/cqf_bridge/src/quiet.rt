@@ -13,8 +13,8 @@ pub(crate) fn rest_ports(ports: &mut Vec<Outgoing>, until: Nanos) -> Result<(), 
     requires quiet { (r : PortRecord) → Contains ports.old.items r → IsQuiet until.0 r }
     ensures { OnOk result (ports.new.items ≡ map (rested until.0) ports.old.items) }
 {
-    for place in 0..ports.len() {
-        ports[place].rest_to(until)?;
+    for index in 0..ports.len() {
+        ports[index].rest_to(until)?;
     }
     Ok(())
 }

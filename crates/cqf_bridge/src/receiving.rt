@@ -2,7 +2,7 @@
 ghost use Rattle.std.specs.Prelude.{◌+◌, ◌*◌, ◌<◌, Contains, IfErr, IfOk, OnOk, map};
 ghost use Rattle.std.specs.List.Sorted.{IsNonDecreasingBy};
 ghost use Rattle.cqf_model.specs.Run.{Run};
-ghost use Rattle.cqf_model.specs.Traffic.{Received};
+ghost use Rattle.cqf_model.specs.Policing.{Received};
 ghost use Rattle.cqf_bridge.specs.Gates.{AreKept};
 ghost use Rattle.cqf_bridge.specs.Receiving.{AreBatchesOf, IsRunOfBridge};
 ghost use Rattle.cqf_bridge.specs.Taking.{AreWaiting, HasPoliced, IsFaultByPoliced, MayBeTaken, TakesCycle, policed_by, received_as, IsFaultInRun};

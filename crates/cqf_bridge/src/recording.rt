@@ -4,7 +4,7 @@ ghost use Rattle.std.specs.List.{list_any};
 ghost use Rattle.cqf_model.specs.Book.{drop_by};
 ghost use Rattle.cqf_model.specs.Domain.{cycle_of};
 ghost use Rattle.cqf_model.specs.Table.{goes_to};
-ghost use Rattle.cqf_model.specs.Traffic.{DroppedFor, Queued};
+ghost use Rattle.cqf_model.specs.Policing.{DroppedFor, Queued};
 ghost use Rattle.cqf_bridge.specs.PortRecord.{PortRecord};
 ghost use Rattle.cqf_bridge.specs.Taking.{AreWaiting, CanRecord, IsFaultByVerdict, MayBeTaken, TakesFrame};
 ghost use Rattle.cqf_bridge.specs.Taking.{class_in, queue_on, received_as, verdict_taken, with_verdict};
@@ -24,15 +24,15 @@ use cqf_units::{Cycle, Memory};
 fn queue_one(
     port: &mut Outgoing,
     row: &Row,
-    way: Option<u16>,
+    ingress: Option<u16>,
     arrival: Arrival,
 ) -> Result<(), Memory>
     requires gate { arrival.class < 8 }
     requires early { arrival.at.0 < 2 ^ 62 }
-    requires taken { list_any (λ next. next == port.old.link) (goes_to row.now way) ≡ true → CanRecord port.old.port arrival }
-    ensures { OnOk result (port.new ≡ queue_on row.now way arrival port.old) }
+    requires taken { list_any (λ next. next == port.old.link) (goes_to row.now ingress) ≡ true → CanRecord port.old.port arrival }
+    ensures { OnOk result (port.new ≡ queue_on row.now ingress arrival port.old) }
 {
-    if row.goes_on_by(way, port.link()) {
+    if row.goes_on_by(ingress, port.link()) {
         port.record(arrival, Some(row.no))?;
     }
     Ok(())
@@ -42,16 +42,16 @@ fn queue_one(
 fn queue_all(
     ports: &mut Vec<Outgoing>,
     row: &Row,
-    way: Option<u16>,
+    ingress: Option<u16>,
     arrival: Arrival,
 ) -> Result<(), Memory>
     requires gate { arrival.class < 8 }
     requires early { arrival.at.0 < 2 ^ 62 }
-    requires taken { (r : PortRecord) → Contains ports.old.items r → list_any (λ next. next == r.link) (goes_to row.now way) ≡ true → CanRecord r.port arrival }
-    ensures { OnOk result (ports.new.items ≡ map (queue_on row.now way arrival) ports.old.items) }
+    requires taken { (r : PortRecord) → Contains ports.old.items r → list_any (λ next. next == r.link) (goes_to row.now ingress) ≡ true → CanRecord r.port arrival }
+    ensures { OnOk result (ports.new.items ≡ map (queue_on row.now ingress arrival) ports.old.items) }
 {
-    for place in 0..ports.len() {
-        queue_one(&mut ports[place], row, way, arrival)?;
+    for index in 0..ports.len() {
+        queue_one(&mut ports[index], row, ingress, arrival)?;
     }
     Ok(())
 }

@@ -92,8 +92,8 @@ pub(crate) fn send_ports(
     ensures sends { OnOk result (FirstSend phase.entry.domain.now phase.entry.cycle.0 phase.entry.background.now (length ports.old.items)
         ports.old.items ports.new.items batches.old.items batches.new.items started.old.items started.new.items) }
 {
-    for place in 0..ports.len() {
-        send_port(alloc, phase, &mut ports[place], batches, started)?;
+    for index in 0..ports.len() {
+        send_port(alloc, phase, &mut ports[index], batches, started)?;
     }
     Ok(())
 }

@@ -23,7 +23,7 @@ kept_once kept bridge = if list_any (λ y. y == bridge) kept then kept else kept
 
 -- the value past the end of a list of hops
 abbrev pub no_hop : Hop
-no_hop = record { link = 0; depth = 0; from = None }
+no_hop = record { link = 0; hop_number = 0; from = None }
 
 -- one more hop gives one more bridge if it is a new one
 bridges_in-more : (d : Domain) (tree : List Hop) (k : ℕ) → k < length tree →

@@ -4,7 +4,7 @@ use Rattle.std.proofs.lemmas.Bool.{cases_lt}
 use Rattle.std.proofs.lemmas.Nat.{mul-le}
 use Rattle.std.proofs.Math.Nat.{mod-eq_of_lt}
 use Rattle.cqf_model.specs.declared.topology.Pace.{Pace}
-use Rattle.cqf_admission.specs.Turns.{IsGoodPace}
+use Rattle.cqf_admission.specs.ActiveCycles.{IsGoodPace}
 
 -- a period is at most 80 cycles
 pub short_pace : (pace : Pace) → IsGoodPace pace → pace.pause < 80

@@ -3,7 +3,7 @@ ghost use Rattle.std.specs.Prelude.{◌≡◌, ◌<◌, ◌++◌, ◌∷◌, [],
 ghost use Rattle.std.specs.Arc.{arc_value};
 ghost use Rattle.std.specs.List.{flat_map};
 ghost use Rattle.cqf_admission.specs.Tables.{AreAlongLinks};
-ghost use Rattle.cqf_admission.specs.Turns.{AreOfGoodPaces, IsGoodPace};
+ghost use Rattle.cqf_admission.specs.ActiveCycles.{AreOfGoodPaces, IsGoodPace};
 ghost use Rattle.cqf_compile.specs.ConfigLines.{IsReadyConfig};
 ghost use Rattle.cqf_compile.specs.ConfigText.{config_text, text_of_row, texts_of_links};
 ghost use Rattle.cqf_gates.specs.GateListText.{line_of_gates, text_of_entries};
@@ -18,7 +18,7 @@ use crate::plan::Plan;
 use cqf_admission::Table;
 use cqf_gates::{TxList, hex_digit_of, put_stream};
 use cqf_model::{Link, Row};
-use cqf_output::{Buffer, Sink, Told, Writer, told_text};
+use cqf_output::{Buffer, CheckedSink, Sink, Writer, written_text};
 use cqf_topology::{Domain, put_bridge, put_ends};
 use cqf_units::Memory;
 use std::alloc::Global;
@@ -121,19 +121,19 @@ fn put_shared<W: Sink>(writer: &mut Writer<'_, W>, plan: &Plan, rows: &[Arc<Row>
 }
 
 /// Returns the configuration of the plan and the streams of a table. For each link in order of number it has a line
-/// `link FROM>TO`, followed by the gate list of the link's port. Then, for each row of the table in order of number and
-/// each bridge of its tree, once and in the order in which the tree leaves them, it has a line `stream NO NAME bridge
-/// BRIDGE`, followed by the stream's gate there. The trees of the table have only links of the plan's domain, and the
-/// paces of its streams are good. Returns `Memory` if an allocation fails.
+/// `link FROM>TO`, followed by the gate list of the link's port. Then come the rows of the table, in order of number.
+/// For each bridge of a row's tree, once and in the order in which the tree leaves them, it has a line
+/// `stream NO NAME bridge BRIDGE`, followed by the stream's gate there. The trees of the table have only links of the
+/// plan's domain, and the paces of its streams are good. Returns `Memory` if an allocation fails.
 pub fn write_config(alloc: Global, plan: &Plan, table: &Table) -> Result<Vec<u8>, Memory>
     requires along { AreAlongLinks plan.now table.now.rows }
     requires paced { AreOfGoodPaces table.now.rows }
     ensures { IfOk result (λ text. text.items ≡ config_text plan.now table.now.rows) }
 {
-    let mut told = Told::new(Vec::new(alloc));
-    let mut writer = Writer::new(&mut told, Buffer::new(alloc)?);
+    let mut reported = CheckedSink::new(Vec::new(alloc));
+    let mut writer = Writer::new(&mut reported, Buffer::new(alloc)?);
     put_ports(&mut writer, plan.domain());
     put_shared(&mut writer, plan, table.rows());
-    let _told = writer.close();
-    told_text(told)
+    let _written = writer.close();
+    written_text(reported)
 }

@@ -3,7 +3,7 @@ ghost use Rattle.std.specs.Prelude.{◌≡◌, ◌<◌, ◌==◌, All, length, o
 ghost use Rattle.std.specs.List.{list_any};
 ghost use Rattle.cqf_model.specs.Domain.{leaves};
 ghost use Rattle.cqf_model.specs.Table.{bridges_of, links_of};
-ghost use Rattle.cqf_compile.specs.BridgeGates.{first_hop, way_to};
+ghost use Rattle.cqf_compile.specs.BridgeGates.{first_hop, ingress_at};
 
 use crate::plan::Plan;
 use arrayvec::ArrayVec;
@@ -39,8 +39,8 @@ pub fn first_hop(domain: &Domain, row: &Row, bridge: u16) -> Option<Hop>
 
 /// Returns the link by which the frames that go on from the bridge come. Returns `None` at the stream's first bridge,
 /// and at a bridge that it doesn't leave.
-pub(crate) fn way_to(domain: &Domain, row: &Row, bridge: u16) -> Option<u16>
-    ensures { result ≡ way_to domain.now bridge row.now }
+pub(crate) fn ingress_at(domain: &Domain, row: &Row, bridge: u16) -> Option<u16>
+    ensures { result ≡ ingress_at domain.now bridge row.now }
 {
     first_hop(domain, row, bridge)?.from
 }

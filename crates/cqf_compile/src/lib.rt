@@ -1,9 +1,9 @@
 //! The compiler: the configuration of a domain and its streams.
 //!
-//! - [`compile`] makes a [`Plan`] of a domain: the gate list of the port of each link.
-//! - [`gate_of`] returns the gate of a stream at a bridge of its tree. A stream that is offered in each cycle has the
-//!   same gate at each bridge; the gate of a stream that pauses is later by as many cycles as the hop number there
-//!   says. [`port_list_of`] returns the gate list of the port of a link.
+//! - [`compile`] makes a [`Plan`] of a domain: the gate list of the port of each link (Qbv).
+//! - [`gate_of`] returns the gate of a stream at a bridge of its tree (Qci, PSFP). A stream that is offered in each
+//!   cycle has the same gate at each bridge; the gate of a stream that pauses is later by as many cycles as the hop
+//!   number there says. [`port_list_of`] returns the gate list of the port of a link.
 //! - [`write_config`] returns both as one text, and [`put_config`] puts it on a writer; [`put_gates`] puts an entry of a
 //!   gate list. `bridges_of` returns the bridges at which a stream has a gate, in the order of its tree. [`leaves`]
 //!   returns whether a link leaves a bridge, and [`first_hop`] the hop by which a stream first does so.

@@ -47,9 +47,9 @@ impl Plan {
         &self.domain
     }
 
-    /// Returns the gate list of the link's port: class 7 is open in even cycles, class 6 in odd ones, classes 0 to 5 in
-    /// both, and no class in the link's guard band, which ends each cycle (IEEE 802.1Q, Annex T). The guard band and
-    /// the classes are this project's own.
+    /// Returns the gate list of the port of a link of the domain: class 7 is open in even cycles, class 6 in odd ones,
+    /// classes 0 to 5 in both, and no class in the link's guard band, which ends each cycle (IEEE 802.1Q, Annex T). The
+    /// guard band and the classes are this project's own.
     pub fn list(&self, link: u16) -> &TxList
         requires { link < length self.now.links }
         ensures { result.now ≡ compiled_lists self.now link }

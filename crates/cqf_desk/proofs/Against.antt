@@ -42,11 +42,11 @@ is_front start held begun history first is its is_first has =
     ap (map recorded_of) is_first ∙ front_of start.entries held.entries begun history is its ∙ has.begins ∙ sym is
 
 -- what comes after such a first part
-pub goes_behind : (start held : Administration) (begun history first rest : List Entry) (n : ℕ) → map recorded_of begun ≡ start.entries →
+pub goes_after : (start held : Administration) (begun history first rest : List Entry) (n : ℕ) → map recorded_of begun ≡ start.entries →
     map recorded_of history ≡ held.entries →
     first ≡ take n history → rest ≡ drop n history → map recorded_of first ≡ map recorded_of begun → held.domain ≡ start.domain →
     FollowerHasGone start held (map recorded_of rest)
-goes_behind start held begun history first rest n is its is_first is_rest same domain = record {
+goes_after start held begun history first rest n is its is_first is_rest same domain = record {
   domain = domain;
   entries = sym its ∙ ap (map recorded_of) (sym (take-append-drop n history)) ∙ map-append recorded_of (take n history) (drop n history)
       ∙ (λ i. map recorded_of (sym is_first i) ++ map recorded_of (sym is_rest i)) ∙ ap (λ es. es ++ map recorded_of rest) (same ∙ is);

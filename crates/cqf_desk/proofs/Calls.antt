@@ -4,7 +4,7 @@ use Rattle.std.proofs.lemmas.Bool.{eq-eqb, ne_eqb}
 use Rattle.std.specs.Prelude.{option_map, slice_get}
 use Rattle.std.proofs.lemmas.List.{append-nil, length-map, length-take-le, map-append, take_all}
 use Rattle.std.proofs.lemmas.Option.{same_Some, slice_get-map, slice_get_within}
-use Rattle.cqf_lists.proofs.Places.{slice_get_behind}
+use Rattle.cqf_lists.proofs.Indices.{slice_get_after}
 use Rattle.std.proofs.lemmas.List.Elements.{filter-append}
 use Rattle.cqf_model.specs.History.{Recorded}
 use Rattle.cqf_model.specs.Calls.{calls_by}
@@ -60,15 +60,15 @@ pub next_call : (number : ℕ) (calls rest : List Entry) (next k : ℕ) (e : Ent
 next_call number calls rest next k e read inside is its all =
     let parts = parts_at rest k e (is_at rest k e inside is) in
     let front = calls_by number (map recorded_of (take k rest)) in
-    let behind = calls_by number (map recorded_of parts.0) in
-    let whole : calls_by number (map recorded_of rest) ≡ front ++ recorded_of e ∷ behind =
+    let following = calls_by number (map recorded_of parts.0) in
+    let whole : calls_by number (map recorded_of rest) ≡ front ++ recorded_of e ∷ following =
     ap (λ (es : List Entry). calls_by number (map recorded_of es)) parts.1
     ∙ ap (calls_by number) (map-append recorded_of (take k rest) (e ∷ parts.0))
     ∙ filter-append (λ (r : Recorded). r.seat == number) (map recorded_of (take k rest)) (recorded_of e ∷ map recorded_of parts.0)
-    ∙ ap (λ b. front ++ (if b then recorded_of e ∷ behind else behind)) (eq-eqb e.seat number its) in
+    ∙ ap (λ b. front ++ (if b then recorded_of e ∷ following else following)) (eq-eqb e.seat number its) in
     let many : next ≡ length front =
     sym (length-take-le next calls read.few) ∙ sym (length-map (take next calls) recorded_of) ∙ ap length read.same in
-    ap (λ (es : List Recorded). slice_get es next) (all ∙ whole) ∙ slice_get_behind front (recorded_of e) behind next many
+    ap (λ (es : List Recorded). slice_get es next) (all ∙ whole) ∙ slice_get_after front (recorded_of e) following next many
 
 -- so it has a next call
 pub none_lacks : (number : ℕ) (calls rest : List Entry) (next k : ℕ) (e : Entry) → HasRead number calls rest next k → k < length rest → e ≡ get_or rest k e →

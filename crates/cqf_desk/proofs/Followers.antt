@@ -51,6 +51,6 @@ passes_none f others number = record {
 -- the calls after those that were made
 pub rest_of : (f : Follower) (history done rest : List Entry) → map recorded_of done ≡ f.admission.entries → rest ≡ drop (length done) history →
     map recorded_of rest ≡ drop (length f.admission.entries) (map recorded_of history)
-rest_of f history done rest is behind =
+rest_of f history done rest is following =
     let many : length done ≡ length f.admission.entries = sym (length-map done recorded_of) ∙ ap length is in
-    ap (map recorded_of) behind ∙ sym (drop-map recorded_of (length done) history) ∙ ap (λ (n : ℕ). drop n (map recorded_of history)) many
+    ap (map recorded_of) following ∙ sym (drop-map recorded_of (length done) history) ∙ ap (λ (n : ℕ). drop n (map recorded_of history)) many

@@ -16,25 +16,25 @@ still_such : (IsSuch : Sitting → Type 0) (seats : List Sitting) (s : Sitting) 
 still_such IsSuch seats s number such = (such.0, Contains-append_left seats (s ∷ []) such.0 such.1, such.2, such.3)
 
 -- one more seat that is borne out
-borne_behind : (d : Domain) (entries : List Recorded) (first : ℕ) (seats : List Sitting) (s : Sitting) (least : Option ℕ) → IsBorneOut d entries first s →
+borne_after : (d : Domain) (entries : List Recorded) (first : ℕ) (seats : List Sitting) (s : Sitting) (least : Option ℕ) → IsBorneOut d entries first s →
     ComesToLeast d entries first seats least → ComesToLeast d entries first (seats ++ s ∷ []) least
-borne_behind d entries first seats s None borne all = All-push (IsBorneOut d entries first) seats s all borne
-borne_behind d entries first seats s (Some number) borne least = (
+borne_after d entries first seats s None borne all = All-push (IsBorneOut d entries first) seats s all borne
+borne_after d entries first seats s (Some number) borne least = (
   still_such (λ (t : Sitting). ¬ IsBorneOut d entries first t) seats s number least.0,
   All-push (λ (t : Sitting). t.number < number → IsBorneOut d entries first t) seats s least.1 (λ _. borne),
 )
 
 -- one more seat that isn't
-against_behind : (d : Domain) (entries : List Recorded) (first : ℕ) (seats : List Sitting) (s : Sitting) (least : Option ℕ) (n : ℕ) →
+against_after : (d : Domain) (entries : List Recorded) (first : ℕ) (seats : List Sitting) (s : Sitting) (least : Option ℕ) (n : ℕ) →
     n ≡ option_map_or (λ m. min m s.number) least s.number → (¬ IsBorneOut d entries first s) →
     ComesToLeast d entries first seats least → ComesToLeast d entries first (seats ++ s ∷ []) (Some n)
-against_behind d entries first seats s None n is against all = (
+against_after d entries first seats s None n is against all = (
   (s, Contains-push seats s, sym is, against),
   All-push (λ (t : Sitting). t.number < n → IsBorneOut d entries first t) seats s
       (All-weaker (IsBorneOut d entries first) (λ (t : Sitting). t.number < n → IsBorneOut d entries first t) (λ t borne _. borne) seats all)
       (λ less. absurd (omega (arith, less, is))),
 )
-against_behind d entries first seats s (Some m) n is against least = elim (cases_lt s.number m) [
+against_after d entries first seats s (Some m) n is against least = elim (cases_lt s.number m) [
   | inl less ↦ (
     (s, Contains-push seats s, by_less less, against),
     All-push (λ (t : Sitting). t.number < n → IsBorneOut d entries first t) seats s
@@ -66,7 +66,7 @@ pub borne_more : (d : Domain) (entries : List Recorded) (first : ℕ) (seats : L
 borne_more d entries first seats k s least inside is borne comes =
     subst (λ (ss : List Sitting). ComesToLeast d entries first ss least)
     (sym (take_more seats k s inside ∙ ap (λ (t : Sitting). take k seats ++ t ∷ []) (sym is)))
-    (borne_behind d entries first (take k seats) s least borne comes)
+    (borne_after d entries first (take k seats) s least borne comes)
 
 pub against_more : (d : Domain) (entries : List Recorded) (first : ℕ) (seats : List Sitting) (k : ℕ) (s : Sitting) (least : Option ℕ) (n : ℕ)
     → k < length seats → s ≡ get_or seats k s →
@@ -75,7 +75,7 @@ pub against_more : (d : Domain) (entries : List Recorded) (first : ℕ) (seats :
 against_more d entries first seats k s least n inside is lesser against comes =
     subst (λ (ss : List Sitting). ComesToLeast d entries first ss (Some n))
     (sym (take_more seats k s inside ∙ ap (λ (t : Sitting). take k seats ++ t ∷ []) (sym is)))
-    (against_behind d entries first (take k seats) s least n lesser against comes)
+    (against_after d entries first (take k seats) s least n lesser against comes)
 
 -- one more seat, borne out or not
 pub least_more : (d : Domain) (entries : List Recorded) (first : ℕ) (seats : List Sitting) (k : ℕ) (s : Sitting) (number : ℕ)

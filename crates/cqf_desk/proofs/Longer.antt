@@ -8,7 +8,7 @@ use Rattle.std.proofs.lemmas.List.{append-nil, append_assoc, length-map, map-app
 use Rattle.cqf_lists.specs.Lists.{each_below}
 use Rattle.cqf_lists.proofs.Any.{list_any-map}
 use Rattle.cqf_lists.proofs.EachBelow.{same_below}
-use Rattle.cqf_lists.proofs.Places.{slice_get_behind, slice_get_front}
+use Rattle.cqf_lists.proofs.Indices.{slice_get_after, slice_get_front}
 use Rattle.cqf_model.specs.declared.history.Reply.TheVariants.{Sealed}
 use Rattle.cqf_model.specs.Domain.{Domain}
 use Rattle.cqf_model.specs.History.{Recorded, Seals, is_seal, seals, table_at}
@@ -23,7 +23,7 @@ use Rattle.cqf_desk.specs.declared.following.Follower.{Follower}
 use Rattle.cqf_desk.specs.Following.{AddsTable, HasFollowed, HasTables, IsUpToSeal, KeepsTables}
 use Rattle.cqf_desk.proofs.ClosedTables.{is_the_seal, stays, table_there}
 use Rattle.cqf_desk.proofs.Rests.{front_is, parts_at}
-use Rattle.cqf_desk.proofs.Steps.{closes, one_place, some_at}
+use Rattle.cqf_desk.proofs.Steps.{closes, one_index, some_at}
 
 -- more entries don't have fewer Seals
 pub not_fewer : SealsAreCounted → (es more : List Recorded) → seals es ≤ seals (es ++ more)
@@ -37,45 +37,45 @@ not_fewer counted es (e ∷ more) =
     omega (arith, longer, further, same)
 
 -- the cycle of a Seal among the entries is closed by their end
-is_closed : SealsAreCounted → (es : List Recorded) (place : ℕ) (e : Recorded) → slice_get es place ≡ Some e → is_seal e.act ≡ true →
-    seals (take place es) < seals es
-is_closed counted es place e at its =
-    let parts = parts_at es place e at in
+is_closed : SealsAreCounted → (es : List Recorded) (index : ℕ) (e : Recorded) → slice_get es index ≡ Some e → is_seal e.act ≡ true →
+    seals (take index es) < seals es
+is_closed counted es index e at its =
+    let parts = parts_at es index e at in
     let entry_is : e ≡ record { seat = e.seat; act = Seals; reply = e.reply } =
     (λ i. record { seat = e.seat; act = is_the_seal e.act its i; reply = e.reply }) in
-    let one_more : seals (take place es ++ e ∷ []) ≡ seals (take place es) + 1 =
-    ap (λ (r : Recorded). seals (take place es ++ r ∷ [])) entry_is ∙ counted (take place es) e.seat Seals e.reply in
-    let further = not_fewer counted (take place es ++ e ∷ []) parts.0 in
-    let whole : seals ((take place es ++ e ∷ []) ++ parts.0) ≡ seals es =
-    ap seals (append_assoc (take place es) (e ∷ []) parts.0 ∙ sym parts.1) in
+    let one_more : seals (take index es ++ e ∷ []) ≡ seals (take index es) + 1 =
+    ap (λ (r : Recorded). seals (take index es ++ r ∷ [])) entry_is ∙ counted (take index es) e.seat Seals e.reply in
+    let further = not_fewer counted (take index es ++ e ∷ []) parts.0 in
+    let whole : seals ((take index es ++ e ∷ []) ++ parts.0) ≡ seals es =
+    ap seals (append_assoc (take index es) (e ∷ []) parts.0 ∙ sym parts.1) in
     omega (arith, one_more, further, whole)
 
 -- a Seal among the entries closes the same table when the history continues
-same_table : ClosedTablesStay → SealsAreCounted → (d : Domain) (es more : List Recorded) (place : ℕ) (e : Recorded) → place < length es →
-    slice_get es place ≡ Some e → is_seal e.act ≡ true → table_closed d (es ++ more) place ≡ table_closed d es place
-same_table stay counted d es more place e inside at its =
-    let front : take place (es ++ more) ≡ take place es = take-append-le place es more (omega (arith, inside)) in
+same_table : ClosedTablesStay → SealsAreCounted → (d : Domain) (es more : List Recorded) (index : ℕ) (e : Recorded) → index < length es →
+    slice_get es index ≡ Some e → is_seal e.act ≡ true → table_closed d (es ++ more) index ≡ table_closed d es index
+same_table stay counted d es more index e inside at its =
+    let front : take index (es ++ more) ≡ take index es = take-append-le index es more (omega (arith, inside)) in
     (λ i. record { cycle = seals (front i); rows = table_at d (es ++ more) (seals (front i)) })
-    ∙ (λ i. record { cycle = seals (take place es); rows = stays stay counted d es more (seals (take place es)) (is_closed counted es place e at its) i })
+    ∙ (λ i. record { cycle = seals (take index es); rows = stays stay counted d es more (seals (take index es)) (is_closed counted es index e at its) i })
 
 -- so the seat closes the same there
-same_closed : ClosedTablesStay → SealsAreCounted → (d : Domain) (es more : List Recorded) (number place : ℕ) → place < length es →
-    closed_by d (es ++ more) number place ≡ closed_by d es number place
-same_closed stay counted d es more number place inside = by_seal (is_seal_by number there.0) refl
+same_closed : ClosedTablesStay → SealsAreCounted → (d : Domain) (es more : List Recorded) (number index : ℕ) → index < length es →
+    closed_by d (es ++ more) number index ≡ closed_by d es number index
+same_closed stay counted d es more number index inside = by_seal (is_seal_by number there.0) refl
   where
     -- the entry there
-    there : (e : Recorded) × (slice_get es place ≡ Some e)
-    there = some_at es place inside
+    there : (e : Recorded) × (slice_get es index ≡ Some e)
+    there = some_at es index inside
 
     -- whether or not it is a Seal of the seat
-    by_seal : (b : Bool) → is_seal_by number there.0 ≡ b → closed_by d (es ++ more) number place ≡ closed_by d es number place
+    by_seal : (b : Bool) → is_seal_by number there.0 ≡ b → closed_by d (es ++ more) number index ≡ closed_by d es number index
     by_seal true its =
-        closes d (es ++ more) number place there.0 true (slice_get_front es more place inside ∙ there.1) its
-        ∙ ap (λ t. t ∷ []) (same_table stay counted d es more place there.0 inside there.1 (and_parts (there.0.seat == number) (is_seal there.0.act) its).1)
-        ∙ sym (closes d es number place there.0 true there.1 its)
+        closes d (es ++ more) number index there.0 true (slice_get_front es more index inside ∙ there.1) its
+        ∙ ap (λ t. t ∷ []) (same_table stay counted d es more index there.0 inside there.1 (and_parts (there.0.seat == number) (is_seal there.0.act) its).1)
+        ∙ sym (closes d es number index there.0 true there.1 its)
     by_seal false none =
-        closes d (es ++ more) number place there.0 false (slice_get_front es more place inside ∙ there.1) none
-        ∙ sym (closes d es number place there.0 false there.1 none)
+        closes d (es ++ more) number index there.0 false (slice_get_front es more index inside ∙ there.1) none
+        ∙ sym (closes d es number index there.0 false there.1 none)
 
 -- one more entry adds the table that the seat closes by it
 one_entry : ClosedTablesStay → SealsAreCounted → (d : Domain) (es : List Recorded) (e : Recorded) (first number : ℕ) → first ≤ length es →
@@ -84,18 +84,18 @@ one_entry stay counted d es e first number begun =
     let many : length (es ++ e ∷ []) - first ≡ (length es - first) + 1 = let both = length-append es (e ∷ []) in omega (arith, both, begun) in
     let last : first + (length es - first) ≡ length es = omega (arith, begun) in
     ap (each_below (λ i. closed_by d (es ++ e ∷ []) number (first + i))) many
-    ∙ one_place (λ i. closed_by d (es ++ e ∷ []) number (first + i)) (length es - first)
+    ∙ one_index (λ i. closed_by d (es ++ e ∷ []) number (first + i)) (length es - first)
     ∙ ap (λ ts. ts ++ closed_by d (es ++ e ∷ []) number (first + (length es - first)))
     (same_below (λ i. closed_by d (es ++ e ∷ []) number (first + i)) (λ i. closed_by d es number (first + i)) (length es - first)
     (λ i inside. same_closed stay counted d es (e ∷ []) number (first + i) (omega (arith, inside, begun))))
-    ∙ ap (λ place. tables_by d es first number ++ closed_by d (es ++ e ∷ []) number place) last
+    ∙ ap (λ index. tables_by d es first number ++ closed_by d (es ++ e ∷ []) number index) last
 
 -- a call that isn't a Seal of the seat leaves its tables
 by_other : ClosedTablesStay → SealsAreCounted → (d : Domain) (es : List Recorded) (e : Recorded) (first number : ℕ) → first ≤ length es →
     is_seal_by number e ≡ false → tables_by d (es ++ e ∷ []) first number ≡ tables_by d es first number
 by_other stay counted d es e first number begun none =
     one_entry stay counted d es e first number begun
-    ∙ ap (λ ts. tables_by d es first number ++ ts) (closes d (es ++ e ∷ []) number (length es) e false (slice_get_behind es e [] (length es) refl) none)
+    ∙ ap (λ ts. tables_by d es first number ++ ts) (closes d (es ++ e ∷ []) number (length es) e false (slice_get_after es e [] (length es) refl) none)
     ∙ append-nil (tables_by d es first number)
 
 -- a Seal of the seat adds the next table
@@ -109,7 +109,7 @@ by_own stay counted closing d es e first number begun its sealed =
     ap (λ (front : List Recorded). record { cycle = seals front; rows = table_at d (es ++ e ∷ []) (seals front) }) (front_is es (e ∷ []))
     ∙ (λ i. record { cycle = seals es; rows = rows i }) in
     one_entry stay counted d es e first number begun
-    ∙ ap (λ ts. tables_by d es first number ++ ts) (closes d (es ++ e ∷ []) number (length es) e true (slice_get_behind es e [] (length es) refl) its)
+    ∙ ap (λ ts. tables_by d es first number ++ ts) (closes d (es ++ e ∷ []) number (length es) e true (slice_get_after es e [] (length es) refl) its)
     ∙ ap (λ t. tables_by d es first number ++ t ∷ []) the_table
 
 -- calls without a Seal of the seat leave its tables
@@ -180,14 +180,14 @@ adds_table stay counted closing old new e number table same goes its sealed is =
 }
 
 -- calls that come first, without a Seal of the seat after them
-pub up_to_seal : (followed rest front behind : List Entry) (number n : ℕ) → front ≡ take n rest → behind ≡ drop n rest → map recorded_of followed
+pub up_to_seal : (followed rest front following : List Entry) (number n : ℕ) → front ≡ take n rest → following ≡ drop n rest → map recorded_of followed
     ≡ map recorded_of front →
-    list_any (λ (e : Entry). is_seal_by number (recorded_of e)) behind ≡ false → IsUpToSeal (map recorded_of followed) (map recorded_of rest) number
-up_to_seal followed rest front behind number n is_front is_behind same none = (
-  map recorded_of behind,
+    list_any (λ (e : Entry). is_seal_by number (recorded_of e)) following ≡ false → IsUpToSeal (map recorded_of followed) (map recorded_of rest) number
+up_to_seal followed rest front following number n is_front is_after same none = (
+  map recorded_of following,
   ap (map recorded_of) (sym (take-append-drop n rest)) ∙ map-append recorded_of (take n rest) (drop n rest)
-      ∙ (λ i. map recorded_of (sym is_front i) ++ map recorded_of (sym is_behind i)) ∙ ap (λ es. es ++ map recorded_of behind) (sym same),
-  list_any-map (λ (e : Recorded). is_seal_by number e) recorded_of behind ∙ none,
+      ∙ (λ i. map recorded_of (sym is_front i) ++ map recorded_of (sym is_after i)) ∙ ap (λ es. es ++ map recorded_of following) (sym same),
+  list_any-map (λ (e : Recorded). is_seal_by number e) recorded_of following ∙ none,
 )
 
 -- a follower of the history up to the seat's last Seal has its tables

@@ -6,7 +6,7 @@ use Rattle.std.proofs.lemmas.List.{append-nil, append_assoc, length-take-le}
 use Rattle.cqf_lists.specs.Lists.{each_below}
 use Rattle.cqf_lists.proofs.EachBelow.{parted_below}
 use Rattle.std.proofs.lemmas.List.Sums.{count_by-le-length}
-use Rattle.cqf_lists.proofs.Places.{slice_get_behind}
+use Rattle.cqf_lists.proofs.Indices.{slice_get_after}
 use Rattle.cqf_model.specs.declared.history.Receipt.{Receipt}
 use Rattle.cqf_model.specs.declared.history.Refused.{Refused}
 use Rattle.cqf_model.specs.declared.history.Reply.TheVariants.{Sealed}
@@ -31,7 +31,7 @@ use Rattle.cqf_desk.proofs.Steps.{HasClosed, HasGoneOn, closes_there, rest_lengt
 is_due : (a : Administration) (e : Recorded) (more : List Recorded) → IsLegalHistory a.domain (a.entries ++ e ∷ more) → e.reply
     ≡ reply_to a.domain a.entries e.act
 is_due a e more legal =
-    legal.replies (length a.entries) e (slice_get_behind a.entries e more (length a.entries) refl)
+    legal.replies (length a.entries) e (slice_get_after a.entries e more (length a.entries) refl)
     ∙ ap (λ (es : List Recorded). reply_to a.domain es e.act) (front_is a.entries (e ∷ more))
 
 -- more entries don't have fewer calls that aren't Seals
@@ -133,7 +133,7 @@ not_its_tables stay counted closing start again rest number tables next k e has 
     same ∙ ap (each_below f) (rest_length start.entries rest) ∙ parted.1
     ∙ ap (λ ts. each_below f k ++ (ts ++ parted.0)) (closes_there stay counted closing start again rest number k e has.gone inside is its sealed) in
     let many : next ≡ length (each_below f k) = sym (length-take-le next tables has.few) ∙ ap length has.closed in
-    other (ap (λ ts. slice_get ts next) whole ∙ slice_get_behind (each_below f k) (next_table again) parted.0 next many)
+    other (ap (λ ts. slice_get ts next) whole ∙ slice_get_after (each_below f k) (next_table again) parted.0 next many)
 
 -- if a step stops, the seat closes other tables in a legal history
 pub stops_so : ClosedTablesStay → SealsAreCounted → SealClosesTable → (start again : Administration) (rest : List Entry) (number : ℕ)

@@ -15,13 +15,13 @@ one_more f xs k x inside is =
     ap (map f) (take_more xs k x inside ∙ ap (λ y. take k xs ++ y ∷ []) (sym is)) ∙ map-append f (take k xs) (x ∷ [])
 
 -- an index after a first part
-pub behind : {X : Type 0} (front rest : List X) (k : ℕ) → slice_get (front ++ rest) (length front + k) ≡ slice_get rest k
-behind [] rest k =
+pub following : {X : Type 0} (front rest : List X) (k : ℕ) → slice_get (front ++ rest) (length front + k) ≡ slice_get rest k
+following [] rest k =
     let at : 0 + k ≡ k = omega arith in
     ap (slice_get rest) at
-behind (x ∷ front) rest k =
+following (x ∷ front) rest k =
     let at : suc (length front) + k ≡ suc (length front + k) = omega arith in
-    ap (slice_get (x ∷ (front ++ rest))) at ∙ behind front rest k
+    ap (slice_get (x ∷ (front ++ rest))) at ∙ following front rest k
 
 -- the elements before such an index
 pub before : {X : Type 0} (front rest : List X) (k : ℕ) → take (length front + k) (front ++ rest) ≡ front ++ take k rest

@@ -23,7 +23,7 @@ use Rattle.cqf_model.specs.declared.history.Reply.TheVariants.{Sealed}
 use Rattle.cqf_laws_history.specs.TableLaws.{ClosedTablesStay}
 use Rattle.cqf_laws_history.specs.StateLaws.{SealClosesTable, SealsAreCounted}
 use Rattle.cqf_desk.proofs.ClosedTables.{table_there}
-use Rattle.cqf_desk.proofs.Rests.{parts_at, before, behind, is_at, one_more, take-map}
+use Rattle.cqf_desk.proofs.Rests.{parts_at, before, following, is_at, one_more, take-map}
 
 -- an administration has continued with the first of these calls
 pub record HasGoneOn (start again : Administration) (rest : List Entry) (k : ℕ) : Type 0 where
@@ -60,18 +60,18 @@ none_closed start rest number tables = record { gone = none_made start rest; few
 pub stands : (start : List Recorded) (rest : List Entry) (k : ℕ) (e : Entry) → k < length rest → e ≡ get_or rest k e →
     slice_get (start ++ map recorded_of rest) (length start + k) ≡ Some (recorded_of e)
 stands start rest k e inside is =
-    behind start (map recorded_of rest) k ∙ slice_get-map recorded_of rest k ∙ ap (option_map recorded_of) (is_at rest k e inside is)
+    following start (map recorded_of rest) k ∙ slice_get-map recorded_of rest k ∙ ap (option_map recorded_of) (is_at rest k e inside is)
 
 -- what the seat closes there
-pub closes : (d : Domain) (entries : List Recorded) (number place : ℕ) (e : Recorded) (b : Bool) → slice_get entries place ≡ Some e → is_seal_by number e ≡ b →
-    closed_by d entries number place ≡ (if b then table_closed d entries place ∷ [] else [])
-closes d entries number place e b at is =
-    ap (λ (o : Option Recorded). option_map_or (λ (r : Recorded). if is_seal_by number r then table_closed d entries place ∷ [] else []) o []) at
-    ∙ ap (λ (t : Bool). if t then table_closed d entries place ∷ [] else []) is
+pub closes : (d : Domain) (entries : List Recorded) (number index : ℕ) (e : Recorded) (b : Bool) → slice_get entries index ≡ Some e → is_seal_by number e ≡ b →
+    closed_by d entries number index ≡ (if b then table_closed d entries index ∷ [] else [])
+closes d entries number index e b at is =
+    ap (λ (o : Option Recorded). option_map_or (λ (r : Recorded). if is_seal_by number r then table_closed d entries index ∷ [] else []) o []) at
+    ∙ ap (λ (t : Bool). if t then table_closed d entries index ∷ [] else []) is
 
 -- one more index
-pub one_place : (f : ℕ → List CycleTable) (k : ℕ) → each_below f (k + 1) ≡ each_below f k ++ f k
-one_place f k = ap (each_below f) (add-one k)
+pub one_index : (f : ℕ → List CycleTable) (k : ℕ) → each_below f (k + 1) ≡ each_below f k ++ f k
+one_index f k = ap (each_below f) (add-one k)
 
 -- there is an element at each index of a list
 pub some_at : {X : Type 0} (xs : List X) (i : ℕ) → i < length xs → (x : X) × (slice_get xs i ≡ Some x)
@@ -91,7 +91,7 @@ closes_nothing start again new rest number tables next k e has inside is goes no
       gone = one_made start again new rest k e has.gone inside is goes;
       few = has.few;
       closed = has.closed
-          ∙ sym (one_place (λ i. closed_by start.domain all number (length start.entries + i)) k
+          ∙ sym (one_index (λ i. closed_by start.domain all number (length start.entries + i)) k
           ∙ ap (λ ts. each_below (λ i. closed_by start.domain all number (length start.entries + i)) k ++ ts) no_table
           ∙ append-nil (each_below (λ i. closed_by start.domain all number (length start.entries + i)) k));
     }
@@ -135,7 +135,7 @@ closes_its_table stay counted closing start again new rest number tables next k 
       few = omega (arith, there);
       closed = take_more tables next table there ∙ ap (λ t. take next tables ++ t ∷ []) (sym own)
           ∙ ap (λ ts. ts ++ table ∷ []) has.closed
-          ∙ sym (one_place (λ i. closed_by start.domain all number (length start.entries + i)) k
+          ∙ sym (one_index (λ i. closed_by start.domain all number (length start.entries + i)) k
           ∙ ap (λ ts. each_below (λ i. closed_by start.domain all number (length start.entries + i)) k ++ ts) one_table);
     }
 
@@ -199,7 +199,7 @@ closes_none start rest number none =
     nothing_at i inside =
         let there = some_at rest i inside in
         closes start.domain (start.entries ++ map recorded_of rest) number (length start.entries + i) (recorded_of there.0) false
-        (behind start.entries (map recorded_of rest) i ∙ slice_get-map recorded_of rest i ∙ ap (option_map recorded_of) there.1)
+        (following start.entries (map recorded_of rest) i ∙ slice_get-map recorded_of rest i ∙ ap (option_map recorded_of) there.1)
         (none_member (λ (e : Entry). is_seal_by number (recorded_of e)) rest there.0 none (contains_at rest i there.0 there.1))
 
 -- a property of an option's value

@@ -21,13 +21,13 @@ is_seal_by number e = (e.seat == number) && is_seal e.act
 
 -- the table of the cycle that a Seal at an index closes
 abbrev pub table_closed : Domain → List Recorded → ℕ → CycleTable
-table_closed d entries place =
-    record { cycle = seals (take place entries); rows = table_at d entries (seals (take place entries)) }
+table_closed d entries index =
+    record { cycle = seals (take index entries); rows = table_at d entries (seals (take index entries)) }
 
 -- the table that one seat closes at an index, if it closes one
 abbrev pub closed_by : Domain → List Recorded → ℕ → ℕ → List CycleTable
-closed_by d entries number place =
-    option_map_or (λ (e : Recorded). if is_seal_by number e then table_closed d entries place ∷ [] else []) (slice_get entries place) []
+closed_by d entries number index =
+    option_map_or (λ (e : Recorded). if is_seal_by number e then table_closed d entries index ∷ [] else []) (slice_get entries index) []
 
 -- the tables that one seat's Seals close after the first `first` entries, in order
 abbrev pub tables_by : Domain → List Recorded → ℕ → ℕ → List CycleTable

@@ -63,8 +63,8 @@ IsSealed before after old new (Ok done) =
     (table own : CycleTable) × Closes before after old.number (Ok table) × (own.cycle ≡ table.cycle) × (new ≡ with_seal old own)
 IsSealed before after old new (Err fault) = Closes before after old.number (Err fault) × (new ≡ old)
 
--- some administration with a legal history answers the call so and is changed accordingly. No clause can say which one, since the desk's is
--- protected by a lock. Closing the desk shows which history it was
+-- some administration with a legal history gives this answer to the call and is changed accordingly. No clause can say which one, since the
+-- desk's is protected by a lock. Closing the desk shows which history it was
 abbrev pub IsAnsweredSomewhere : ℕ → Act → Result Receipt Refused → Type 0
 IsAnsweredSomewhere seat act result =
     (old new : Administration) × IsLegalHistory old.domain old.entries × IsAnswered old new seat act result

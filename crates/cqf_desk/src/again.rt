@@ -75,10 +75,10 @@ pub(crate) fn make(admission: &mut Admission, entry: &Entry) -> Made
 }
 
 /// Returns whether the table at an index is this one.
-fn is_at(tables: &[Table], place: usize, table: &Table) -> bool
-    ensures { (result ≡ true) ↔ (slice_get tables.now place ≡ Some table.now) }
+fn is_at(tables: &[Table], index: usize, table: &Table) -> bool
+    ensures { (result ≡ true) ↔ (slice_get tables.now index ≡ Some table.now) }
 {
-    match tables.get(place) {
+    match tables.get(index) {
         Some(kept) => is_same_table(kept, table),
         None => false,
     }

@@ -9,7 +9,7 @@ ghost use Rattle.cqf_desk.specs.Closing.{AreItsSeats, ComesToLeast, IsBorneOut, 
 
 use crate::again::has_tables;
 use crate::faults::CloseFault;
-use crate::following::{entries_behind, has_seal};
+use crate::following::{entries_after, has_seal};
 use crate::history::History;
 use crate::same::is_same_entry;
 use crate::seats::Seat;
@@ -172,7 +172,7 @@ fn check(
     ensures { Settles opening.now count held.now seats.now result }
 {
     held.know();
-    let Some(rest) = entries_behind(opening, held) else {
+    let Some(rest) = entries_after(opening, held) else {
         return Err(CloseFault::SeatsDisagree(count));
     };
     if let Some(seat) = first_against(alloc, opening, rest, seats)? {

@@ -53,15 +53,15 @@ fn are_up_to_seal(followed: &[Entry], rest: &[Entry], number: u16) -> bool
     if rest.len() < followed.len() {
         return false;
     }
-    let (front, behind) = rest.split_at(followed.len());
-    if has_seal(behind, number) {
+    let (front, following) = rest.split_at(followed.len());
+    if has_seal(following, number) {
         return false;
     }
     are_same_entries(followed, front)
 }
 
 /// Returns the entries of an admission after an opening part, or `None` if the admission doesn't have this part in the same domain.
-pub(crate) fn entries_behind<'a>(opening: &Admission, held: &'a Admission) -> Option<&'a [Entry]>
+pub(crate) fn entries_after<'a>(opening: &Admission, held: &'a Admission) -> Option<&'a [Entry]>
     ensures { MatchOption result (HasOpening opening.now held.now → ⊥) (λ rest. FollowerHasGone opening.now held.now (map recorded_of rest.now)) }
 {
     if !held.domain().is_same(opening.domain()) {
@@ -97,7 +97,7 @@ impl Follower {
         }
     }
 
-    /// Makes all of these calls again, likewise.
+    /// Makes all of these calls again. None of them may be a Seal of the seat.
     fn passes_all(&mut self, others: &[Entry], number: u16) -> Followed
         ensures { FollowsSeat self.old self.new number (map recorded_of others.now) result }
     {
@@ -153,7 +153,7 @@ impl Follower {
         if self.first != opening.history().len() {
             return false;
         }
-        match entries_behind(opening, &self.admission) {
+        match entries_after(opening, &self.admission) {
             Some(followed) => are_up_to_seal(followed, rest, number),
             None => false,
         }

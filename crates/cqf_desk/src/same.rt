@@ -113,8 +113,8 @@ pub(crate) fn are_same_entries(these: &[Entry], those: &[Entry]) -> bool
     if these.len() != those.len() {
         return false;
     }
-    for place in 0..these.len() {
-        if !is_same_entry(&these[place], &those[place]) {
+    for index in 0..these.len() {
+        if !is_same_entry(&these[index], &those[index]) {
             return false;
         }
     }
@@ -132,7 +132,7 @@ fn are_same_bytes(these: &[u8], those: &[u8]) -> bool
 fn is_same_hop(one: &Hop, other: &Hop) -> bool
     ensures { (result ≡ true) ↔ (one.now ≡ other.now) }
 {
-    one.link == other.link && one.depth == other.depth && one.from == other.from
+    one.link == other.link && one.hop_number == other.hop_number && one.from == other.from
 }
 
 /// Returns whether two lists have the same hops.
@@ -142,8 +142,8 @@ fn are_same_hops(these: &[Hop], those: &[Hop]) -> bool
     if these.len() != those.len() {
         return false;
     }
-    for place in 0..these.len() {
-        if !is_same_hop(&these[place], &those[place]) {
+    for index in 0..these.len() {
+        if !is_same_hop(&these[index], &those[index]) {
             return false;
         }
     }
@@ -157,7 +157,7 @@ fn is_same_row(one: &Row, other: &Row) -> bool
     if one.no != other.no || one.octets != other.octets {
         return false;
     }
-    if one.pace != other.pace {
+    if one.overhead != other.overhead || one.pace != other.pace {
         return false;
     }
     if !are_same_bytes(one.name.as_bytes(), other.name.as_bytes()) {
@@ -176,8 +176,8 @@ fn are_same_rows(these: &[Arc<Row>], those: &[Arc<Row>]) -> bool
     if these.len() != those.len() {
         return false;
     }
-    for place in 0..these.len() {
-        if !is_same_row(&these[place], &those[place]) {
+    for index in 0..these.len() {
+        if !is_same_row(&these[index], &those[index]) {
             return false;
         }
     }

@@ -69,7 +69,7 @@ impl Seat {
         self.number
     }
 
-    /// Returns the table of the seat's newest Seal, or `None` if the seat hasn't sealed a cycle. This takes no memory.
+    /// Returns the table of the seat's newest Seal, or `None` if the seat hasn't sealed a cycle. Requests no memory.
     pub fn last_table(&self) -> Option<&Table>
         ensures { option_copied result ≡ slice_get self.now.tables (length self.now.tables - 1) }
     {
@@ -122,7 +122,7 @@ impl Seat {
         answer
     }
 
-    /// Makes a request with a pace likewise, and shares it.
+    /// Makes a request with a pace to an admission, and keeps it with its answer. `asked` shares the request.
     pub(crate) fn admit_shared(
         &mut self,
         admission: &mut Admission,
@@ -148,7 +148,7 @@ impl Seat {
         answer
     }
 
-    /// Makes a withdrawal likewise. `asked` is a copy of the name.
+    /// Makes a withdrawal to an admission, and keeps it with its answer. `asked` is a copy of the name.
     pub(crate) fn withdraw(
         &mut self,
         admission: &mut Admission,
@@ -278,7 +278,7 @@ fn enter(calls: &mut Vec<Entry>, seat: u16, call: Call, reply: Reply)
     calls.push(Entry { seat, call, reply }).unwrap();
 }
 
-/// Appends a call with its answer likewise, if it has entered the history.
+/// Appends a call with its answer to a seat's calls, which have room for it, if the call has entered the history.
 fn keep(calls: &mut Vec<Entry>, seat: u16, call: Call, answer: Result<Receipt, Refused>)
     requires { vec_len calls.old < vec_capacity calls.old }
     ensures entered { is_entered answer ≡ true → calls.new.items ≡ calls.old.items ++ record { seat = seat; call = call; reply = reply_of answer } ∷ [] }

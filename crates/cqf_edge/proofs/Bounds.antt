@@ -6,7 +6,7 @@ use Rattle.cqf_lists.specs.Lists.{each_below, least}
 use Rattle.std.proofs.lemmas.Option.{same_Some}
 use Rattle.cqf_lists.proofs.EachBelow.{contains_from_below, none_below}
 use Rattle.cqf_lists.proofs.Members.{contains_at, contains_none, contains_one}
-use Rattle.cqf_lists.proofs.Places.{first_stays}
+use Rattle.cqf_lists.proofs.Indices.{first_stays}
 use Rattle.cqf_units.specs.declared.timing.Nanos.{Nanos}
 use Rattle.cqf_units.specs.declared.timing.Octets.{Octets}
 use Rattle.cqf_laws_timing.specs.Traffic.{Traffic}

@@ -1,9 +1,9 @@
 -- Streams at their edge bridges, one after the other.
 use Rattle.std.proofs.Common.{◌≡◌, ◌∷◌, [], List, Option, refl}
 use Rattle.cqf_edge.specs.declared.edge.Passage.{Passage}
-use Rattle.cqf_edge.specs.EdgeFlows.{flows_behind}
+use Rattle.cqf_edge.specs.EdgeFlows.{flows_at_edge}
 
 -- none come of none
-pub none_behind : (passages : List (Option Passage)) → flows_behind passages [] ≡ []
-none_behind [] = refl
-none_behind (p ∷ passages) = refl
+pub none_after : (passages : List (Option Passage)) → flows_at_edge passages [] ≡ []
+none_after [] = refl
+none_after (p ∷ passages) = refl

@@ -14,12 +14,12 @@ use Rattle.cqf_edge.specs.EdgeStreams.{IsEntranceOne, IsWrittenStream}
 use Rattle.cqf_edge.specs.Uses.{handed_over}
 
 -- the link is one of the network's, and the sizes, the jitter and the offset are in their ranges
-pub is_handed : (network : NetworkDomain) (stream : StreamText) (entrance : Option Entrance) (place octets : ℕ) (h : Handed) → IsEntranceOne network entrance →
-    IsWrittenStream stream → entrance ≡ Some (ByAccess place) → h ≡ handed_over place octets stream.shortest stream.traffic → h.shortest ≤ h.octets →
+pub is_handed : (network : NetworkDomain) (stream : StreamText) (entrance : Option Entrance) (index octets : ℕ) (h : Handed) → IsEntranceOne network entrance →
+    IsWrittenStream stream → entrance ≡ Some (ByAccess index) → h ≡ handed_over network.overhead index octets stream.shortest stream.traffic → h.shortest ≤ h.octets →
     h.octets ≤ 1522 → IsHandedOne network (Some h)
-is_handed network stream entrance place octets h inside written at is sizes longest x e =
+is_handed network stream entrance index octets h inside written at is sizes longest x e =
     subst (IsHandedIn network) (same_Some h x e) (record {
-      there = subst (λ (n : ℕ). n < length network.talkers) (sym (ap (λ (y : Handed). y.place) is)) (inside (ByAccess place) at);
+      there = subst (λ (n : ℕ). n < length network.talkers) (sym (ap (λ (y : Handed). y.index) is)) (inside (ByAccess index) at);
       sizes = sizes;
       longest = longest;
       written = subst (λ (o : Option TrafficText). ForSome o IsWritten) (sym (ap (λ (y : Handed). y.traffic) is)) written;

@@ -27,7 +27,7 @@ map_next f xs k x done after y inside is more same before =
     more ∙ (λ i. before i ++ same i ∷ []) ∙ sym (map-append f (take k xs) (x ∷ []))
     ∙ ap (map f) (ap (λ z. take k xs ++ z ∷ []) is ∙ sym (take_more xs k x inside))
 
--- by one of two lists, side by side, from a place on
+-- by one of two lists, side by side, from an index on
 module _ {X Y Z : Type 0} (one : X → Y → Z) (each : List X → List Y → List Z)
     (by_one : (x : X) (xs : List X) (y : Y) (ys : List Y) → each (x ∷ xs) (y ∷ ys) ≡ one x y ∷ each xs ys) where
   pub both_next : (xs : List X) (ys : List Y) (k : ℕ) (x dx : X) (y dy : Y) (done after : List Z) (z : Z) → k < length xs → k < length ys →

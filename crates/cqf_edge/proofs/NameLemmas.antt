@@ -48,14 +48,14 @@ module _ {X : Type 0} (f : X → List (List ℕ)) (network : NetworkDomain) (ent
 
 module _ {X : Type 0} (f : X → List (List ℕ)) (names : List (List ℕ)) (paths : List X) (k : ℕ) (name : List ℕ) (path : X)
     (inside : k < length names) (within : k < length paths) (is_name : name ≡ get_or names k name) (is_path : path ≡ get_or paths k path) where
-  -- from a place on the branch there decides, and then the others
-  from_place : end_at (drop k names) (map f (drop k paths)) ≡ (ends_with name (f path) && end_at (drop (k + 1) names) (map f (drop (k + 1) paths)))
-  from_place =
+  -- from an index on the branch there decides, and then the others
+  from_index : end_at (drop k names) (map f (drop k paths)) ≡ (ends_with name (f path) && end_at (drop (k + 1) names) (map f (drop (k + 1) paths)))
+  from_index =
       (λ i. end_at (drop-cons names k name inside i) (map f (drop-cons paths k path within i)))
       ∙ (λ i. ends_with (sym is_name i) (f (sym is_path i)) && end_at (drop (sym (add-one k) i) names) (map f (drop (sym (add-one k) i) paths)))
 
   pub end_next : ends_with name (f path) ≡ true → end_at (drop (k + 1) names) (map f (drop (k + 1) paths)) ≡ end_at (drop k names) (map f (drop k paths))
-  end_next e = sym (from_place ∙ ap (λ (b : Bool). b && end_at (drop (k + 1) names) (map f (drop (k + 1) paths))) e)
+  end_next e = sym (from_index ∙ ap (λ (b : Bool). b && end_at (drop (k + 1) names) (map f (drop (k + 1) paths))) e)
 
   pub end_fails : ends_with name (f path) ≡ false → false ≡ end_at (drop k names) (map f (drop k paths))
-  end_fails e = sym (from_place ∙ ap (λ (b : Bool). b && end_at (drop (k + 1) names) (map f (drop (k + 1) paths))) e)
+  end_fails e = sym (from_index ∙ ap (λ (b : Bool). b && end_at (drop (k + 1) names) (map f (drop (k + 1) paths))) e)

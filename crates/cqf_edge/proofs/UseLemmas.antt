@@ -23,11 +23,11 @@ handed_last k all one = sym (flat_map_more (λ (o : Option Handed). if is_handed
 handed_none : (k : ℕ) (all : List (Option Handed)) → handed_to k (all ++ None ∷ []) ≡ handed_to k all
 handed_none k all = handed_last k all None ∙ append-nil (handed_to k all)
 
-handed_here : (k : ℕ) (all : List (Option Handed)) (h : Handed) → (h.place == k) ≡ true → handed_to k (all ++ Some h ∷ []) ≡ handed_to k all ++ h ∷ []
+handed_here : (k : ℕ) (all : List (Option Handed)) (h : Handed) → (h.index == k) ≡ true → handed_to k (all ++ Some h ∷ []) ≡ handed_to k all ++ h ∷ []
 handed_here k all h e =
     handed_last k all (Some h) ∙ ap (λ (b : Bool). handed_to k all ++ (if b then h ∷ [] else [])) e
 
-handed_elsewhere : (k : ℕ) (all : List (Option Handed)) (h : Handed) → (h.place == k) ≡ false → handed_to k (all ++ Some h ∷ []) ≡ handed_to k all
+handed_elsewhere : (k : ℕ) (all : List (Option Handed)) (h : Handed) → (h.index == k) ≡ false → handed_to k (all ++ Some h ∷ []) ≡ handed_to k all
 handed_elsewhere k all h e =
     handed_last k all (Some h) ∙ ap (λ (b : Bool). handed_to k all ++ (if b then h ∷ [] else [])) e ∙ append-nil (handed_to k all)
 
@@ -46,11 +46,11 @@ used_none links all uses r = record {
 }
 
 pub used_more : (links : List TalkerLink) (all : List (Option Handed)) (uses : List AccessUse) (h : Handed) (old new : AccessUse) → AreUses links all uses →
-    slice_get uses h.place ≡ Some old → h.place < length uses → new.other ≡ larger old.other (unpromised h) →
-    map promise_of new.promises.items ≡ map promise_of old.promises.items ++ promise_in h → AreUses links (all ++ Some h ∷ []) (set uses h.place new)
+    slice_get uses h.index ≡ Some old → h.index < length uses → new.other ≡ larger old.other (unpromised h) →
+    map promise_of new.promises.items ≡ map promise_of old.promises.items ++ promise_in h → AreUses links (all ++ Some h ∷ []) (set uses h.index new)
 used_more links all uses h old new r at_old inside other promises = record {
-  each = length-set uses h.place new ∙ r.each;
-  others = λ k l v at there. elim (eqb_tells h.place k) [
+  each = length-set uses h.index new ∙ r.each;
+  others = λ k l v at there. elim (eqb_tells h.index k) [
     | inl e ↦
         sym (ap (λ (w : AccessUse). w.other) (is_new k v e.1 there)) ∙ other
         ∙ ap (λ (o : Option ℕ). larger o (unpromised h)) (r.others k l old at (sym (ap (slice_get uses) e.1) ∙ at_old))
@@ -58,7 +58,7 @@ used_more links all uses h old new r at_old inside other promises = record {
         ∙ ap (other_beside l.other) (sym (handed_here k all h e.0))
     | inr e ↦ r.others k l v at (is_old k v e.1 there) ∙ ap (other_beside l.other) (sym (handed_elsewhere k all h e.0))
   ];
-  promises = λ k v there. elim (eqb_tells h.place k) [
+  promises = λ k v there. elim (eqb_tells h.index k) [
     | inl e ↦
         sym (ap (λ (w : AccessUse). map promise_of w.promises.items) (is_new k v e.1 there)) ∙ promises
         ∙ ap (λ (ps : List _). ps ++ promise_in h) (r.promises k old (sym (ap (slice_get uses) e.1) ∙ at_old))
@@ -68,12 +68,12 @@ used_more links all uses h old new r at_old inside other promises = record {
   ];
 }
   where
-    is_new : (k : ℕ) (v : AccessUse) → h.place ≡ k → slice_get (set uses h.place new) k ≡ Some v → new ≡ v
+    is_new : (k : ℕ) (v : AccessUse) → h.index ≡ k → slice_get (set uses h.index new) k ≡ Some v → new ≡ v
     is_new k v same there =
-        same_Some new v (sym (slice_get-set_same uses h.place new inside) ∙ ap (slice_get (set uses h.place new)) same ∙ there)
+        same_Some new v (sym (slice_get-set_same uses h.index new inside) ∙ ap (slice_get (set uses h.index new)) same ∙ there)
 
-    is_old : (k : ℕ) (v : AccessUse) → h.place ≢ k → slice_get (set uses h.place new) k ≡ Some v → slice_get uses k ≡ Some v
-    is_old k v apart there = sym (slice_get-set_other uses h.place k new (λ same. apart (sym same))) ∙ there
+    is_old : (k : ℕ) (v : AccessUse) → h.index ≢ k → slice_get (set uses h.index new) k ≡ Some v → slice_get uses k ≡ Some v
+    is_old k v apart there = sym (slice_get-set_other uses h.index k new (λ same. apart (sym same))) ∙ there
 
 -- ---- bounds
 

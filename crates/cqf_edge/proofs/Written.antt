@@ -21,7 +21,7 @@ use Rattle.cqf_traffic.specs.Keys.{least_of, most_of}
 use Rattle.cqf_traffic.specs.TrafficText.{TrafficText, has_traffic, number_at, number_by, numbers_from, traffic_from, value_at}
 use Rattle.cqf_network.specs.NetworkFlows.{NetworkFlowText, network_flow_from, network_flows_from, network_flows_in, network_flows_of_array, network_flows_of_text}
 use Rattle.cqf_network.specs.StreamsText.{StreamText, branches_if, listeners_read, octets_from, pacing_from, shortest_read, network_streams_of_text}
-use Rattle.cqf_network.specs.StreamsText.{stream_from, streams_from, streams_in, streams_of_array, talker_read, way_by}
+use Rattle.cqf_network.specs.StreamsText.{path_by, stream_from, streams_from, streams_in, streams_of_array, talker_read}
 use Rattle.cqf_network.specs.StreamsText.{first_lack_of as wanted_lack}
 use Rattle.cqf_network.proofs.StreamParts.{each_stream, has_read, map_both-Ok}
 use Rattle.cqf_edge.specs.Edge.{IsWritten}

@@ -5,7 +5,7 @@ use Rattle.std.specs.List.{list_all}
 use Rattle.std.specs.Option.{option_map_or}
 use Rattle.cqf_lists.specs.Results.{and_then, refuse}
 use Rattle.cqf_model.specs.Domain.{is_text}
-use Rattle.cqf_topology.specs.DomainText.{if_so, place_of}
+use Rattle.cqf_topology.specs.DomainText.{if_so, index_of}
 use Rattle.cqf_network.specs.declared.domain.TalkerLink.{TalkerLink}
 use Rattle.cqf_network.specs.declared.talkers.Talker.{Talker}
 use Rattle.cqf_network.specs.NetworkDomain.{NetworkDomain}
@@ -25,15 +25,15 @@ joins station bridge link = (link.station == station) && (link.bridge == bridge)
 abbrev pub by_the_only : NetworkDomain → ℕ → Result Entrance TalkerFault
 by_the_only network station =
     refuse (if_so (nat_lt 1 (count_by (leaves_station station) network.talkers))) (λ _. TwoAccessLinks) (
-    and_then (ok_or (position (leaves_station station) network.talkers) NoTalker) (λ place. Ok (ByAccess place)))
+    and_then (ok_or (position (leaves_station station) network.talkers) NoTalker) (λ index. Ok (ByAccess index)))
 
 abbrev pub by_that_to : NetworkDomain → ℕ → Option ℕ → Result Entrance TalkerFault
 by_that_to network station None = Err NoTalker
-by_that_to network station (Some bridge) = and_then (ok_or (position (joins station bridge) network.talkers) NoTalker) (λ place. Ok (ByAccess place))
+by_that_to network station (Some bridge) = and_then (ok_or (position (joins station bridge) network.talkers) NoTalker) (λ index. Ok (ByAccess index))
 
 abbrev pub by_station : NetworkDomain → ℕ → Option (List ℕ) → Result Entrance TalkerFault
 by_station network station None = by_the_only network station
-by_station network station (Some bridge) = by_that_to network station (place_of bridge network.bridges)
+by_station network station (Some bridge) = by_that_to network station (index_of bridge network.bridges)
 
 -- at a bridge: the text may not name another bridge with it
 abbrev pub at_bridge : ℕ → Option (List ℕ) → Result Entrance TalkerFault
@@ -47,20 +47,20 @@ at_node network None None other = Err NoTalker
 
 -- where a talker's streams enter
 abbrev pub entrance_of : NetworkDomain → Talker → Result Entrance TalkerFault
-entrance_of network talker = at_node network (place_of talker.node network.bridges) (place_of talker.node network.stations) talker.bridge
+entrance_of network talker = at_node network (index_of talker.node network.bridges) (index_of talker.node network.stations) talker.bridge
 
--- the access link at a place, and the name of the bridge at which streams enter
+-- the access link at an index, and the name of the bridge at which streams enter
 abbrev pub link_at : NetworkDomain → ℕ → Option TalkerLink
-link_at network place = slice_get network.talkers place
+link_at network index = slice_get network.talkers index
 
 abbrev pub edge_bridge : NetworkDomain → Entrance → ℕ
 edge_bridge network (AtBridge bridge) = bridge
-edge_bridge network (ByAccess place) = option_map_or (λ (link : TalkerLink). link.bridge) (link_at network place) 0
+edge_bridge network (ByAccess index) = option_map_or (λ (link : TalkerLink). link.bridge) (link_at network index) 0
 
 -- streams enter at a bridge of the network, or by one of its access links
 abbrev pub IsEntrance : NetworkDomain → Entrance → Type 0
 IsEntrance network (AtBridge bridge) = bridge < length network.bridges
-IsEntrance network (ByAccess place) = place < length network.talkers
+IsEntrance network (ByAccess index) = index < length network.talkers
 
 abbrev pub edge_name : NetworkDomain → Entrance → List ℕ
 edge_name network entrance = slice_index_or network.bridges (edge_bridge network entrance) []

@@ -1,4 +1,5 @@
--- Streams of a text have a jitter and an offset that may be written, as their way to their edge bridges requires.
+-- The streams of a text have a jitter and an offset in the ranges that a text may have, as is required where they are put at their edge
+-- bridges.
 use Rattle.std.specs.Prelude.{ℕ, ◌≡◌, All, List, Ok}
 use Rattle.cqf_network.specs.NetworkFlows.{NetworkFlowText, network_flows_of_text}
 use Rattle.cqf_network.specs.StreamsText.{StreamText, network_streams_of_text}

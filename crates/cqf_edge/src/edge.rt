@@ -1,10 +1,10 @@
 //! A stream's passage to its edge bridge.
 ghost use Rattle.std.specs.Prelude.{◌≡◌, ◌+◌, ◌*◌, ◌≤◌, ◌^◌, None};
 ghost use Rattle.cqf_traffic.specs.Keys.{bound_of};
-ghost use Rattle.cqf_access.specs.Arriving.{way_of};
+ghost use Rattle.cqf_access.specs.Arriving.{travel_time};
 ghost use Rattle.cqf_access.specs.Bounding.{link_of};
-ghost use Rattle.cqf_edge.specs.Edge.{IsPassage, IsWritten, closer_word, delays_of, grid_word, left_behind, longest_wait_on, steps_on, times_on, word_from};
-ghost use Rattle.cqf_edge.specs.Edge.{word_on};
+ghost use Rattle.cqf_edge.specs.Edge.{IsPassage, IsWritten, closer_word, delays_of, grid_word, left_after, left_by, longest_wait_on, steps_on};
+ghost use Rattle.cqf_edge.specs.Edge.{times_by, times_on, word_from, word_on};
 ghost use Rattle.cqf_edge.specs.Uses.{time_in};
 
 use crate::uses::{AccessBound, Handed};
@@ -29,16 +29,16 @@ pub struct Passage {
     pub bound: AccessBound,
 }
 
-/// Returns the time from the hand-over of a frame that doesn't wait until it is whole, given the link's delay.
-fn way_on(rate: Rate, delay: u32, octets: u32) -> u64
-    ensures value { result ≡ way_of (link_of rate None) delay octets }
+/// Returns the time, in nanoseconds, from the hand-over of a frame that doesn't wait until it is whole, given the link's delay.
+fn travel_time_on(rate: Rate, delay: u32, octets: u32) -> u64
+    ensures value { result ≡ travel_time (link_of rate None) delay octets }
     ensures short { result ≤ 800 * (octets + 8) + delay }
 {
     time_of(u64::from(octets) + 8, rate) + u64::from(delay)
 }
 
 impl Passage {
-    /// Returns the time of the bound, or 0 if there is none.
+    /// Returns the time of the bound, in nanoseconds, or 0 if there is none.
     fn time(&self) -> Nanos
         ensures { result.0 ≡ time_in self.now.bound }
     {
@@ -58,32 +58,52 @@ impl Passage {
         }
     }
 
-    /// Returns the longest wait of the stream's frames.
-    fn longest_wait(&self) -> u64
+    /// Returns the longest wait of the stream's frames, in nanoseconds.
+    fn longest_wait(&self, traffic: Traffic) -> u64
         requires { time_in self.now.bound ≤ 2 ^ 32 }
-        ensures value { result ≡ longest_wait_on self.now }
+        ensures value { result ≡ longest_wait_on self.now traffic }
         ensures short { result ≤ time_in self.now.bound }
     {
-        match self.handed.traffic {
-            Some(traffic) => {
-                let taken = slot(traffic.size(), self.link.rate);
-                self.time().0.saturating_sub(taken)
-            }
-            None => 0,
-        }
+        let taken = slot(traffic.size(), self.link.rate);
+        self.time().0.saturating_sub(taken)
     }
 
     /// Returns the least and the greatest time of the stream's frames.
-    pub(crate) fn times(&self) -> AccessTimes
+    fn times_of(&self, traffic: Traffic) -> AccessTimes
         requires { IsPassage self.now }
-        ensures value { result ≡ times_on self.now }
+        ensures value { result ≡ times_on self.now traffic }
         ensures ordered { result.least ≤ result.most }
     {
         let rate = self.link.rate;
-        let longest = way_on(rate, self.link.delay, self.handed.octets);
+        let longest = travel_time_on(rate, self.link.delay, self.handed.octets);
         AccessTimes {
-            least: way_on(rate, self.link.least, self.handed.shortest) as u32,
-            most: (longest + self.longest_wait()) as u32,
+            least: travel_time_on(rate, self.link.least, self.handed.shortest) as u32,
+            most: (longest + self.longest_wait(traffic)) as u32,
+        }
+    }
+
+    /// Returns the least and the greatest time of the stream's frames, or `None` if its talker promises nothing.
+    pub(crate) fn times(&self) -> Option<AccessTimes>
+        requires { IsPassage self.now }
+        ensures { result ≡ times_by self.now }
+    {
+        match self.handed.traffic {
+            Some(traffic) => Some(self.times_of(traffic)),
+            None => None,
+        }
+    }
+
+    /// Returns what is left of a deadline at the edge bridge. If the times of the stream's frames aren't known, its deadline begins there.
+    pub(crate) fn left_of(&self, deadline: Option<u32>) -> Option<u32>
+        requires { IsPassage self.now }
+        ensures { result ≡ left_by (times_by self.now) deadline }
+    {
+        let Some(times) = self.times() else {
+            return deadline;
+        };
+        match deadline {
+            Some(deadline) => Some(times.left_after(deadline)),
+            None => None,
         }
     }
 
@@ -104,7 +124,7 @@ impl Passage {
         )
     }
 
-    /// Returns the jitter on the grid there. It includes the whole longest wait.
+    /// Returns the jitter on the stream's grid at the edge bridge. It includes the whole longest wait.
     fn grid_jitter(&self, traffic: Traffic) -> Nanos
         requires passage { IsPassage self.now }
         requires written { IsWritten traffic }
@@ -147,7 +167,7 @@ impl Passage {
         }
     }
 
-    /// Returns the promise for a stream with frames that have to come in their cycles: with the jitter on the grid.
+    /// Returns the promise at the edge bridge of a stream whose frames have to come in their cycles. Its jitter is the one on the grid.
     pub(crate) fn word_in_step(&self) -> Option<Traffic>
         requires { IsPassage self.now }
         ensures { result ≡ steps_on self.now }
@@ -163,9 +183,9 @@ impl Passage {
 }
 
 impl AccessTimes {
-    /// Returns what is left of a deadline at the edge bridge.
-    pub(crate) fn left_behind(self, deadline: u32) -> u32
-        ensures { result ≡ left_behind self deadline }
+    /// Returns what is left of a deadline at the edge bridge, in nanoseconds, or 0 if the link can take as long.
+    fn left_after(self, deadline: u32) -> u32
+        ensures { result ≡ left_after self deadline }
     {
         deadline.saturating_sub(self.most)
     }

@@ -9,7 +9,7 @@ use crate::faults::TalkerFault;
 use cqf_network::{NetworkDomain, Talker, TalkerLink};
 use cqf_units::Name;
 
-/// Where a stream enters: at the bridge of a number, or by the access link at a place among the network's.
+/// Where a stream enters: at the bridge with a number, or by the access link at an index among the network's.
 #[derive(Clone, Copy, Debug)]
 pub enum Entrance {
     AtBridge(usize),
@@ -23,7 +23,7 @@ fn leaves_station(link: &TalkerLink, station: usize) -> bool
     usize::from(link.station) == station
 }
 
-/// Returns whether it leads from there to the bridge with this number.
+/// Returns whether an access link leads from the station with this number to the bridge with this number.
 fn joins(link: &TalkerLink, station: usize, bridge: usize) -> bool
     ensures { result ≡ joins station bridge link.now }
 {
@@ -40,18 +40,18 @@ fn count_leaving(links: &[TalkerLink], station: usize) -> usize
         .count()
 }
 
-/// Returns the place of the first access link of a station.
+/// Returns the index of the first access link of a station.
 fn first_leaving(links: &[TalkerLink], station: usize) -> Option<usize>
-    ensures place { result ≡ position (leaves_station station) links.now }
-    ensures within { IfSome result (λ place. place < length links.now) }
+    ensures index { result ≡ position (leaves_station station) links.now }
+    ensures within { IfSome result (λ index. index < length links.now) }
 {
     links.iter().position(|link| leaves_station(link, station))
 }
 
-/// Returns the place of a station's access link to the bridge with this number.
+/// Returns the index of a station's access link to the bridge with this number.
 fn first_joining(links: &[TalkerLink], station: usize, bridge: usize) -> Option<usize>
-    ensures place { result ≡ position (joins station bridge) links.now }
-    ensures within { IfSome result (λ place. place < length links.now) }
+    ensures index { result ≡ position (joins station bridge) links.now }
+    ensures within { IfSome result (λ index. index < length links.now) }
 {
     links.iter().position(|link| joins(link, station, bridge))
 }
@@ -65,7 +65,7 @@ fn by_the_only(network: &NetworkDomain, station: usize) -> Result<Entrance, Talk
         return Err(TalkerFault::TwoAccessLinks);
     }
     match first_leaving(network.talkers(), station) {
-        Some(place) => Ok(Entrance::ByAccess(place)),
+        Some(index) => Ok(Entrance::ByAccess(index)),
         None => Err(TalkerFault::NoTalker),
     }
 }
@@ -80,7 +80,7 @@ fn by_that_to(
     ensures inside { IfOk result (IsEntrance network.now) }
 {
     match first_joining(network.talkers(), station, bridge) {
-        Some(place) => Ok(Entrance::ByAccess(place)),
+        Some(index) => Ok(Entrance::ByAccess(index)),
         None => Err(TalkerFault::NoTalker),
     }
 }
@@ -116,8 +116,9 @@ fn at_bridge(bridge: usize, other: &Option<Name>) -> Result<Entrance, TalkerFaul
 /// Returns where a talker's streams enter.
 ///
 /// # Errors
-/// `NoTalker` if it is no bridge and no station with such an access link; `TwoAccessLinks` if it is a station with several and the text names
-/// none of them.
+/// `NoTalker` if the talker is neither a bridge, without another bridge in the text, nor a station with the access link that the text
+/// names, or with any access link if it names none. `TwoAccessLinks` if the talker is a station with several access links and the text
+/// names none of them.
 pub(crate) fn entrance_of(network: &NetworkDomain, talker: &Talker) -> Result<Entrance, TalkerFault>
     ensures value { result ≡ entrance_of network.now talker.now }
     ensures inside { IfOk result (IsEntrance network.now) }
@@ -139,7 +140,7 @@ fn edge_bridge(network: &NetworkDomain, entrance: Entrance) -> usize
 {
     match entrance {
         Entrance::AtBridge(bridge) => bridge,
-        Entrance::ByAccess(place) => usize::from(network.talkers()[place].bridge),
+        Entrance::ByAccess(index) => usize::from(network.talkers()[index].bridge),
     }
 }
 
@@ -210,8 +211,8 @@ fn end_at(paths: &[Vec<String>], names: &[Name]) -> bool
     if paths.len() != names.len() {
         return false;
     }
-    for place in 0..paths.len() {
-        if !ends_with(paths[place].as_slice(), &names[place]) {
+    for index in 0..paths.len() {
+        if !ends_with(paths[index].as_slice(), &names[index]) {
             return false;
         }
     }

@@ -10,7 +10,7 @@ use thiserror::Error;
 /// Why a stream doesn't enter the network as its text says.
 #[derive(Clone, Copy, Debug, PartialEq, Eq, Error)]
 pub enum TalkerFault {
-    /// Its talker is no bridge, and no station with such an access link.
+    /// Its talker is neither a bridge, without another bridge in the text, nor a station with such an access link.
     NoTalker,
     /// Its talker is a station with several access links, and its text names none of them.
     TwoAccessLinks,
@@ -27,7 +27,7 @@ pub enum EdgeFault {
     Talker(Name, TalkerFault),
     /// The station of the first access link without a bound up to 10^9 ns.
     AccessFull(Name),
-    /// Memory was refused.
+    /// An allocation failed.
     Memory,
 }
 
@@ -56,7 +56,7 @@ impl fmt::Display for EdgeFault {
     }
 }
 
-/// Refused memory as a fault.
+/// Converts a failed allocation into a fault.
 impl From<Memory> for EdgeFault {
     ghost use Rattle.cqf_edge.specs.declared.faults.EdgeFault.TheVariants as variant;
 
@@ -67,7 +67,7 @@ impl From<Memory> for EdgeFault {
     }
 }
 
-/// Refused memory for a value as a fault.
+/// Converts a failed allocation of a value into a fault.
 impl<T: Drop> From<AllocFailed<T>> for EdgeFault {
     ghost use Rattle.cqf_edge.specs.declared.faults.EdgeFault.TheVariants as variant;
 

@@ -1,11 +1,11 @@
 //! Streams of a network that has nothing open, at their edge bridges.
-ghost use Rattle.std.specs.Prelude.{◌≡◌, All, IfOk, length, map, option_map};
+ghost use Rattle.std.specs.Prelude.{◌≡◌, All, IfOk, length, map, option_and_then};
 ghost use Rattle.std.specs.Option.{ForSome};
 ghost use Rattle.cqf_topology.specs.Fields.{Gives};
 ghost use Rattle.cqf_traffic.specs.FlowsText.{flow_text};
 ghost use Rattle.cqf_network.specs.NetworkFlows.{NetworkFlowText, network_flow_text};
-ghost use Rattle.cqf_edge.specs.Edge.{IsPassage, times_on};
-ghost use Rattle.cqf_edge.specs.EdgeFlows.{IsHandedOne, IsPassageOne, IsWrittenFlow, at_edges, edge_flows, edges_with, flow_behind, flows_behind};
+ghost use Rattle.cqf_edge.specs.Edge.{IsPassage, times_by};
+ghost use Rattle.cqf_edge.specs.EdgeFlows.{IsHandedOne, IsPassageOne, IsWrittenFlow, at_edges, edge_flows, edges_with, flow_at_edge, flows_at_edge};
 ghost use Rattle.cqf_edge.specs.EdgeFlows.{handed_of, handed_of_all, handed_with, passage_of};
 ghost use Rattle.cqf_edge.specs.EdgeValues.{edges_text};
 ghost use Rattle.cqf_edge.specs.Uses.{IsShort};
@@ -20,18 +20,18 @@ use cqf_traffic::Flow;
 use cqf_units::{Memory, Name};
 use std::alloc::Global;
 
-/// The streams of a network at their edge bridges: what each promises there, what is left there of its deadline, and the times of its frames
-/// from the hand-over to there if its talker is a station.
+/// The streams of a network at their edge bridges: what each promises there, what is left there of its deadline, and, if its talker is a
+/// station that promises something, the times of its frames from the hand-over to the edge bridge.
 #[derive(Drop)]
 pub struct EdgeFlows {
     pub flows: Vec<Flow>,
-    /// The deadlines in their text, from the hand-over, by the same places.
+    /// The deadlines in the streams' text, from the hand-over if there are times, in nanoseconds, by the same indexes.
     pub deadlines: Vec<Option<u32>>,
-    /// The times of their frames from the hand-over, by the same places.
+    /// The times of their frames from the hand-over, by the same indexes.
     pub times: Vec<Option<AccessTimes>>,
-    /// What each hands to its access link, by the same places.
+    /// What each stream hands to its access link, by the same indexes.
     pub handed: Vec<Option<Handed>>,
-    /// The name of the station of the first access link that is full.
+    /// The name of the station of the first access link without a bound up to 10^9 ns.
     pub full: Option<Name>,
 }
 
@@ -51,8 +51,9 @@ fn handed_with(
     listeners_agree(request.paths.as_slice(), &found.listeners)?;
     match entrance {
         Entrance::AtBridge(_) => Ok(None),
-        Entrance::ByAccess(place) => Ok(Some(Handed::over(
-            place,
+        Entrance::ByAccess(index) => Ok(Some(Handed::over(
+            network.overhead(),
+            index,
             request.octets,
             found.shortest,
             found.flow.traffic,
@@ -111,9 +112,9 @@ fn passage_of(
 {
     match handed {
         Some(handed) => Some(Passage {
-            link: network.talkers()[handed.place],
+            link: network.talkers()[handed.index],
             handed: *handed,
-            bound: bounds[handed.place],
+            bound: bounds[handed.index],
         }),
         None => None,
     }
@@ -145,12 +146,12 @@ pub(crate) fn times_of(
     passages: &[Option<Passage>],
 ) -> Result<Vec<Option<AccessTimes>>, Memory>
     requires { All IsPassageOne passages.now }
-    ensures { IfOk result (λ times. times.items ≡ map (option_map times_on) passages.now) }
+    ensures { IfOk result (λ times. times.items ≡ map (option_and_then times_by) passages.now) }
 {
     let mut times = Vec::with_capacity(alloc, passages.len())?;
     for passage in passages {
         let one = match passage {
-            Some(passage) => Some(passage.times()),
+            Some(passage) => passage.times(),
             None => None,
         };
         times.push(one)?;
@@ -159,18 +160,15 @@ pub(crate) fn times_of(
 }
 
 /// Returns a stream at its edge bridge.
-fn flow_behind(passage: &Option<Passage>, flow: Flow) -> Flow
+fn flow_at_edge(passage: &Option<Passage>, flow: Flow) -> Flow
     requires { IsPassageOne passage.now }
-    ensures { flow_text result ≡ flow_behind passage.now (flow_text flow) }
+    ensures { flow_text result ≡ flow_at_edge passage.now (flow_text flow) }
 {
     let Some(passage) = passage else {
         return flow;
     };
     let Planned { request, deadline } = flow.planned;
-    let deadline = match deadline {
-        Some(deadline) => Some(passage.times().left_behind(deadline)),
-        None => None,
-    };
+    let deadline = passage.left_of(deadline);
     Flow {
         planned: Planned { request, deadline },
         traffic: passage.word(),
@@ -178,19 +176,19 @@ fn flow_behind(passage: &Option<Passage>, flow: Flow) -> Flow
 }
 
 /// Returns streams at their edge bridges.
-fn flows_behind(
+fn flows_at_edge(
     alloc: Global,
     passages: &[Option<Passage>],
     all: Vec<NetworkFlow>,
 ) -> Result<Vec<Flow>, Memory>
     requires ready { All IsPassageOne passages.now }
     requires each { length passages.now ≡ length all.items }
-    ensures { IfOk result (λ flows. map flow_text flows.items ≡ flows_behind passages.now (map network_flow_text all.items)) }
+    ensures { IfOk result (λ flows. map flow_text flows.items ≡ flows_at_edge passages.now (map network_flow_text all.items)) }
 {
     let mut flows = Vec::with_capacity(alloc, all.len())?;
     for found in all {
-        let place = flows.len();
-        flows.push(flow_behind(&passages[place], found.flow))?;
+        let index = flows.len();
+        flows.push(flow_at_edge(&passages[index], found.flow))?;
     }
     Ok(flows)
 }
@@ -224,7 +222,7 @@ fn edges_with(
     let all_passages = passages.as_slice();
     let deadlines = deadlines_of(alloc, all.as_slice())?;
     let times = times_of(alloc, all_passages)?;
-    let flows = flows_behind(alloc, all_passages, all)?;
+    let flows = flows_at_edge(alloc, all_passages, all)?;
     let full = full_station(network, all_bounds);
     Ok(EdgeFlows {
         flows,
@@ -235,11 +233,12 @@ fn edges_with(
     })
 }
 
-/// Returns the streams of a network that has nothing open, at their edge bridges. If an access link is full, the promises and deadlines of its
-/// streams are as if no frame waited there. A caller that relies on them has to refuse such a network.
+/// Returns the streams of a network that has nothing open, at their edge bridges. If an access link is full, the promises and deadlines of
+/// its streams are as if no frame waited there. A caller that relies on them has to refuse such a network. The jitter and the offset of
+/// each stream's traffic are at most 10^9 ns, as in a text.
 ///
 /// # Errors
-/// `Talker` of the first stream that can't enter the network as its keys say; `Memory` if memory for the result is refused.
+/// `Talker` with the first stream that can't enter the network as its keys say. `Memory` if an allocation fails.
 pub fn edge_flows(
     alloc: Global,
     network: &NetworkDomain,
@@ -257,7 +256,7 @@ pub fn edge_flows(
 /// Returns the streams of a network without access links: each begins at its edge bridge.
 ///
 /// # Errors
-/// If memory for the result is refused.
+/// `Memory` if an allocation fails.
 pub fn flows_at_edges(alloc: Global, all: Vec<Flow>) -> Result<EdgeFlows, Memory>
     ensures { IfOk result (λ edge. edges_text edge ≡ at_edges (map flow_text all.items)) }
 {

@@ -1,8 +1,8 @@
 //! Laws about streams at their edge bridges.
-ghost use Rattle.cqf_edge.specs.EdgeLaws.{EdgesAreByPlaces, OthersBeginAtEdges, StreamsComeByLinks};
+ghost use Rattle.cqf_edge.specs.EdgeLaws.{EdgesAreByIndices, OthersBeginAtEdges, StreamsComeByLinks};
 ghost use Rattle.cqf_edge.specs.WrittenLaws.{ReadFlowsAreWritten, ReadStreamsAreWritten};
 
-/// Law: streams that are read of a text have a jitter and an offset that [`edge_flows`] and [`edge_streams`] require.
+/// Proves that the streams that are read from a text have a jitter and an offset as [`edge_flows`] and [`edge_streams`] require.
 ///
 /// [`edge_flows`]: crate::edge_flows
 /// [`edge_streams`]: crate::edge_streams
@@ -11,11 +11,11 @@ pub fn read_streams_are_written()
     ensures streams { ReadStreamsAreWritten }
 {}
 
-/// Law: a stream that a station hands to an access link has the same name, reservation and paths at its edge bridge. If no access link is full,
-/// there is a bound of its link, and with this bound its promise there is the one of
+/// Proves that a stream that a station hands to an access link has the same name, reservation and paths at its edge bridge. If no access
+/// link is full, its link has a bound, and with this bound its promise there is the one of
 /// [`edge_conforms_closer`](cqf_access::edge_conforms_closer). Any other stream of the network is at its edge bridge as its text has it.
 pub fn streams_come_by_links()
     ensures come { StreamsComeByLinks }
     ensures others { OthersBeginAtEdges }
-    ensures places { EdgesAreByPlaces }
+    ensures indices { EdgesAreByIndices }
 {}

@@ -6,8 +6,8 @@
 //! - **At the edge.** [`AccessTimes`] has the times from the hand-over of a frame until it is whole at its edge bridge. [`edge_flows`] returns the
 //!   streams of a network that has nothing open, [`edge_streams`] those of a network that is to be planned: with their promises at their edge
 //!   bridges, and with what is left there of their deadlines. An [`EdgeFault`] is the first fault.
-//! - **Laws**, functions that do nothing: streams that are read of a text have what these functions require ([`read_streams_are_written`]), and
-//!   the promises at edge bridges are those that `cqf_access` proves ([`streams_come_by_links`]).
+//! - **Laws**, functions that do nothing: the streams that are read from a text have what these functions require
+//!   ([`read_streams_are_written`]), and the promises at edge bridges are those that `cqf_access` proves ([`streams_come_by_links`]).
 //!
 //! ```text
 //! plc has an access link to s1 of 100 Mb/s with a delay of 900 ns, and hands three streams to it, each a frame of 180 octets in 125,000 ns

@@ -4,7 +4,7 @@ ghost use Rattle.cqf_topology.specs.Fields.{Gives};
 ghost use Rattle.cqf_network.specs.StreamsText.{stream_text, wanted_text};
 ghost use Rattle.cqf_edge.specs.EdgeFlows.{IsHandedOne, IsPassageOne};
 ghost use Rattle.cqf_edge.specs.EdgeStreams.{IsEntranceOne, IsWrittenStream, edge_streams, entrance_of_stream, entrance_with, entrances_of, handed_at};
-ghost use Rattle.cqf_edge.specs.EdgeStreams.{handed_at_each, is_between, stream_behind, streams_behind, streams_from, told_now, way_behind, word_at};
+ghost use Rattle.cqf_edge.specs.EdgeStreams.{handed_at_each, is_between, path_at_edge, reported_now, stream_at_edge, streams_at_edge, streams_from, word_at};
 ghost use Rattle.cqf_edge.specs.Edge.{IsPassage};
 ghost use Rattle.cqf_edge.specs.Entrances.{IsEntrance};
 ghost use Rattle.cqf_edge.specs.EdgeValues.{edge_streams_text};
@@ -14,7 +14,7 @@ use crate::entrances::{Entrance, agrees_with, edge_name, entrance_of, listeners_
 use crate::faults::{EdgeFault, TalkerFault};
 use crate::flows::{passages_of, times_of};
 use crate::uses::{Handed, bounds_of, full_station};
-use cqf_network::{NetworkDomain, Pacing, Stream, Talker, WantedWay};
+use cqf_network::{NetworkDomain, Pacing, Stream, Talker, WantedPath};
 use cqf_traffic::Traffic;
 use cqf_units::{Memory, Name};
 use std::alloc::Global;
@@ -23,9 +23,10 @@ use std::alloc::Global;
 #[derive(Drop)]
 pub struct EdgeStreams {
     pub streams: Vec<Stream>,
-    /// The times of their frames from the hand-over to there, by the same places, if their talkers are stations.
+    /// The times of their frames from the hand-over to the edge bridge, by the same indexes; `None` for a stream whose talker isn't a
+    /// station or promises nothing.
     pub times: Vec<Option<AccessTimes>>,
-    /// The name of the station of the first access link that is full.
+    /// The name of the station of the first access link without a bound up to 10^9 ns.
     pub full: Option<Name>,
 }
 
@@ -39,38 +40,38 @@ fn entrance_with(
     ensures inside { IfOk result (IsEntrance network.now) }
 {
     let entrance = entrance_of(network, talker)?;
-    if let WantedWay::Along(paths) = &stream.way {
+    if let WantedPath::Along(paths) = &stream.path {
         agrees_with(network, paths.as_slice(), entrance)?;
         listeners_agree(paths.as_slice(), &stream.listeners)?;
     }
     Ok(entrance)
 }
 
-/// Returns whether a stream's way between its talker and its listeners is open.
-fn is_between(way: &WantedWay) -> bool
-    ensures { result ≡ is_between (wanted_text way.now) }
+/// Returns whether a stream's path between its talker and its listeners is open.
+fn is_between(path: &WantedPath) -> bool
+    ensures { result ≡ is_between (wanted_text path.now) }
 {
-    match way {
-        WantedWay::Along(_) => false,
-        WantedWay::Between(..) => true,
+    match path {
+        WantedPath::Along(_) => false,
+        WantedPath::Between(..) => true,
     }
 }
 
-/// Returns where a stream enters, or why it doesn't enter as its text says. `NoTalker` is no fault here if the stream's way is open and its text
-/// names no bridge with the talker: it is found in its turn when the stream is settled, and until then the stream enters nowhere.
-fn told_now(
+/// Returns where a stream enters, or why it doesn't enter as its text says. `NoTalker` is no fault here if the stream's path is open and
+/// its text names no bridge with the talker: that fault is found when the stream is settled, and until then the stream enters nowhere.
+fn reported_now(
     stream: &Stream,
     talker: &Talker,
     name: Name,
     found: Result<Entrance, TalkerFault>,
 ) -> Result<Option<Entrance>, EdgeFault>
     requires { name ≡ (stream_text stream.now).name }
-    ensures { result ≡ told_now (stream_text stream.now) talker.now found }
+    ensures { result ≡ reported_now (stream_text stream.now) talker.now found }
 {
     match found {
         Ok(entrance) => Ok(Some(entrance)),
         Err(TalkerFault::NoTalker) => {
-            let is_between = is_between(&stream.way);
+            let is_between = is_between(&stream.path);
             if is_between && talker.bridge.is_none() {
                 return Ok(None);
             }
@@ -95,7 +96,7 @@ fn entrance_of_stream(
         return Ok(None);
     };
     let found = entrance_with(network, stream, talker);
-    told_now(stream, talker, name, found)
+    reported_now(stream, talker, name, found)
 }
 
 /// Returns where streams enter.
@@ -120,12 +121,13 @@ fn entrances_of(
 fn handed_at(network: &NetworkDomain, stream: &Stream, entrance: Option<Entrance>) -> Option<Handed>
     requires inside { IsEntranceOne network.now entrance }
     requires written { IsWrittenStream (stream_text stream.now) }
-    ensures value { result ≡ handed_at (stream_text stream.now) entrance }
+    ensures value { result ≡ handed_at network.now.overhead (stream_text stream.now) entrance }
     ensures inside { IsHandedOne network.now result }
 {
     match entrance {
-        Some(Entrance::ByAccess(place)) => Some(Handed::over(
-            place,
+        Some(Entrance::ByAccess(index)) => Some(Handed::over(
+            network.overhead(),
+            index,
             stream.octets.unwrap_or(0),
             stream.shortest,
             stream.traffic,
@@ -144,26 +146,26 @@ fn handed_at_each(
     requires each { length entrances.now ≡ length streams.now }
     requires inside { All (IsEntranceOne network.now) entrances.now }
     requires written { All IsWrittenStream (map stream_text streams.now) }
-    ensures value { IfOk result (λ handed. handed.items ≡ handed_at_each (map stream_text streams.now) entrances.now) }
+    ensures value { IfOk result (λ handed. handed.items ≡ handed_at_each network.now.overhead (map stream_text streams.now) entrances.now) }
     ensures inside { IfOk result (λ handed. All (IsHandedOne network.now) handed.items) }
     ensures each { IfOk result (λ handed. length handed.items ≡ length streams.now) }
 {
     let mut handed = Vec::with_capacity(alloc, streams.len())?;
-    for (place, stream) in streams.iter().enumerate() {
-        handed.push(handed_at(network, stream, entrances[place]))?;
+    for (index, stream) in streams.iter().enumerate() {
+        handed.push(handed_at(network, stream, entrances[index]))?;
     }
     Ok(handed)
 }
 
-/// Returns a stream's way from its edge bridge on.
-fn way_behind(network: &NetworkDomain, entrance: Entrance, way: WantedWay) -> WantedWay
+/// Returns a stream's path from its edge bridge on.
+fn path_at_edge(network: &NetworkDomain, entrance: Entrance, path: WantedPath) -> WantedPath
     requires { IsEntrance network.now entrance }
-    ensures { wanted_text result ≡ way_behind network.now entrance (wanted_text way) }
+    ensures { wanted_text result ≡ path_at_edge network.now entrance (wanted_text path) }
 {
-    match way {
-        WantedWay::Along(paths) => WantedWay::Along(paths),
-        WantedWay::Between(_, to) => {
-            WantedWay::Between(edge_name(network, entrance).copied(), to)
+    match path {
+        WantedPath::Along(paths) => WantedPath::Along(paths),
+        WantedPath::Between(_, to) => {
+            WantedPath::Between(edge_name(network, entrance).copied(), to)
         }
     }
 }
@@ -181,7 +183,7 @@ fn word_at(pacing: Pacing, passage: &Passage) -> Option<Traffic>
 }
 
 /// Returns a stream at its edge bridge.
-fn stream_behind(
+fn stream_at_edge(
     network: &NetworkDomain,
     entrance: Option<Entrance>,
     passage: &Option<Passage>,
@@ -189,25 +191,23 @@ fn stream_behind(
 ) -> Stream
     requires entrance { IsEntranceOne network.now entrance }
     requires passage { IsPassageOne passage.now }
-    ensures { stream_text result ≡ stream_behind network.now entrance passage.now (stream_text stream) }
+    ensures { stream_text result ≡ stream_at_edge network.now entrance passage.now (stream_text stream) }
 {
     let Some(entrance) = entrance else {
         return stream;
     };
     let mut stream = stream;
-    stream.way = way_behind(network, entrance, stream.way);
+    stream.path = path_at_edge(network, entrance, stream.path);
     let Some(passage) = passage else {
         return stream;
     };
-    if let Some(deadline) = stream.deadline {
-        stream.deadline = Some(passage.times().left_behind(deadline));
-    }
+    stream.deadline = passage.left_of(stream.deadline);
     stream.traffic = word_at(stream.pacing, passage);
     stream
 }
 
 /// Returns streams at their edge bridges.
-fn streams_behind(
+fn streams_at_edge(
     alloc: Global,
     network: &NetworkDomain,
     entrances: &[Option<Entrance>],
@@ -219,12 +219,12 @@ fn streams_behind(
     requires each_entrance { length entrances.now ≡ length all.items }
     requires each_passage { length passages.now ≡ length all.items }
     ensures { IfOk result (λ streams. map stream_text streams.items
-        ≡ streams_behind network.now entrances.now passages.now (map stream_text all.items)) }
+        ≡ streams_at_edge network.now entrances.now passages.now (map stream_text all.items)) }
 {
     let mut streams = Vec::with_capacity(alloc, all.len())?;
     for stream in all {
-        let place = streams.len();
-        streams.push(stream_behind(network, entrances[place], &passages[place], stream))?;
+        let index = streams.len();
+        streams.push(stream_at_edge(network, entrances[index], &passages[index], stream))?;
     }
     Ok(streams)
 }
@@ -249,7 +249,7 @@ fn streams_from(
     let passages = passages_of(alloc, network, all_bounds, handed)?;
     let all_passages = passages.as_slice();
     let times = times_of(alloc, all_passages)?;
-    let streams = streams_behind(alloc, network, entrances, all_passages, all)?;
+    let streams = streams_at_edge(alloc, network, entrances, all_passages, all)?;
     let full = full_station(network, all_bounds);
     Ok(EdgeStreams {
         streams,
@@ -258,12 +258,13 @@ fn streams_from(
     })
 }
 
-/// Returns the streams of a network that is to be planned, at their edge bridges: each from the bridge where it enters, with its promise there,
-/// and with what is left there of its deadline. A stream that enters nowhere is returned as it was.
+/// Returns the streams of a network that is to be planned, at their edge bridges: each from the bridge where it enters, with its promise
+/// there, and with what is left there of its deadline. A stream that enters nowhere is returned as it was. The jitter and the offset of
+/// each stream's traffic are at most 10^9 ns, as in a text.
 ///
 /// # Errors
-/// `Talker` of the first stream that can't enter the network as its keys say, but `NoTalker` only if its way is given or its text names a bridge with the
-/// talker; `Memory` if memory for the result is refused.
+/// `Talker` with the first stream that can't enter the network as its keys say. This is `NoTalker` only if the stream's path is given or
+/// its text names a bridge with the talker. `Memory` if an allocation fails.
 pub fn edge_streams(
     alloc: Global,
     network: &NetworkDomain,

@@ -23,17 +23,18 @@ const SHORTEST_FRAME: u32 = 64;
 /// What a stream hands to an access link.
 #[derive(Clone, Copy, Debug)]
 pub struct Handed {
-    /// The link's place among the network's access links.
-    pub place: usize,
-    /// The largest size of the stream's frames.
+    /// The link's index among the network's access links.
+    pub index: usize,
+    /// The largest size of the stream's frames, in octets.
     pub octets: u32,
-    /// The smallest size.
+    /// The smallest size of the stream's frames, in octets.
     pub shortest: u32,
     /// What its talker promises at the hand-over.
     pub traffic: Option<Traffic>,
 }
 
-/// The bound of an access link: the longest time from the hand-over of a frame until another of its size, in its place, would be over.
+/// The bound of an access link: the longest time from the hand-over of a frame until a largest frame of its stream, sent in its place,
+/// would be over, with its gap.
 #[derive(Clone, Copy, Debug)]
 pub enum AccessBound {
     /// Nothing is promised on the link, so no bound is needed.
@@ -51,7 +52,7 @@ pub(crate) struct AccessUse {
     other: Option<u32>,
 }
 
-/// Returns the larger of two numbers, of those that are given.
+/// Returns the larger of the numbers that are given, or `None` if neither is given.
 fn larger(one: Option<u32>, other: Option<u32>) -> Option<u32>
     ensures { result ≡ larger one other }
 {
@@ -61,18 +62,18 @@ fn larger(one: Option<u32>, other: Option<u32>) -> Option<u32>
     }
 }
 
-/// Returns the largest size of a stream's frames, by its reservation and its traffic.
-fn longest_frame(octets: u32, traffic: &Option<Traffic>) -> u32
-    ensures value { result ≡ longest_frame octets traffic.now }
+/// Returns the largest size of a stream's frames, in octets, by the gate overhead, the stream's reservation and its traffic.
+fn longest_frame(overhead: u32, octets: u32, traffic: &Option<Traffic>) -> u32
+    ensures value { result ≡ longest_frame overhead octets traffic.now }
     ensures short { result ≤ 1522 }
 {
     match traffic {
         Some(traffic) => traffic.size().0,
-        None => octets.min(LONGEST_FRAME),
+        None => octets.saturating_add(overhead).min(LONGEST_FRAME),
     }
 }
 
-/// Returns the smallest size, by its text and its traffic.
+/// Returns the smallest size of a stream's frames, in octets, by its text and its traffic.
 fn shortest_frame(shortest: Option<u32>, traffic: &Option<Traffic>) -> u32
     ensures { result ≡ shortest_frame shortest traffic.now }
 {
@@ -96,29 +97,30 @@ impl AccessBound {
 }
 
 impl Handed {
-    /// Returns what a stream hands to the access link at a place, given its reservation, the smallest size of its frames in its text, and its
-    /// traffic.
+    /// Returns what a stream hands to the access link at an index, given the gate overhead, the stream's reservation, the smallest size of its
+    /// frames in its text, and its traffic.
     pub(crate) fn over(
-        place: usize,
+        overhead: u32,
+        index: usize,
         octets: u32,
         shortest: Option<u32>,
         traffic: Option<Traffic>,
     ) -> Handed
-        ensures value { result ≡ handed_over place octets shortest traffic }
+        ensures value { result ≡ handed_over overhead index octets shortest traffic }
         ensures sizes { result.shortest ≤ result.octets }
         ensures longest { result.octets ≤ 1522 }
     {
-        let longest = longest_frame(octets, &traffic);
+        let longest = longest_frame(overhead, octets, &traffic);
         let shortest = shortest_frame(shortest, &traffic);
         Handed {
-            place,
+            index,
             octets: longest,
             shortest: shortest.min(longest),
             traffic,
         }
     }
 
-    /// Returns the largest size of its frames if it promises nothing.
+    /// Returns the largest size of the stream's frames if its talker promises nothing, otherwise `None`.
     fn unpromised(&self) -> Option<u32>
         ensures { result ≡ unpromised self.now }
     {
@@ -183,7 +185,7 @@ fn unused(alloc: Global, links: &[TalkerLink]) -> Result<Vec<AccessUse>, Memory>
     Ok(uses)
 }
 
-/// Returns the uses of access links, by their places, given what streams hand to them.
+/// Returns the uses of access links, by their indexes, given what streams hand to them.
 fn uses_of(
     alloc: Global,
     links: &[TalkerLink],
@@ -195,7 +197,7 @@ fn uses_of(
     let mut uses = unused(alloc, links)?;
     for one in all {
         if let Some(handed) = one {
-            uses[handed.place].put(handed)?;
+            uses[handed.index].put(handed)?;
         }
     }
     Ok(uses)
@@ -204,7 +206,7 @@ fn uses_of(
 /// Returns the bound of each access link of a network, given what streams hand to them.
 ///
 /// # Errors
-/// If memory for the result is refused.
+/// `Memory` if an allocation fails.
 pub(crate) fn bounds_of(
     alloc: Global,
     network: &NetworkDomain,
@@ -218,16 +220,16 @@ pub(crate) fn bounds_of(
     let links = network.talkers();
     let uses = uses_of(alloc, links, all)?;
     let mut bounds = Vec::with_capacity(alloc, links.len())?;
-    for (place, link) in links.iter().enumerate() {
-        bounds.push(uses[place].bound(link))?;
+    for (index, link) in links.iter().enumerate() {
+        bounds.push(uses[index].bound(link))?;
     }
     Ok(bounds)
 }
 
-/// Returns the place of the first link that is full.
+/// Returns the index of the first link that is full.
 fn first_full(bounds: &[AccessBound]) -> Option<usize>
-    ensures place { result ≡ position is_full bounds.now }
-    ensures within { IfSome result (λ place. place < length bounds.now) }
+    ensures index { result ≡ position is_full bounds.now }
+    ensures within { IfSome result (λ index. index < length bounds.now) }
 {
     bounds.iter().position(|bound| bound.is_full())
 }
@@ -237,7 +239,7 @@ pub(crate) fn full_station(network: &NetworkDomain, bounds: &[AccessBound]) -> O
     requires { length bounds.now ≡ length network.now.talkers }
     ensures { result ≡ full_station network.now bounds.now }
 {
-    let place = first_full(bounds)?;
-    let station = network.talkers()[place].station;
+    let index = first_full(bounds)?;
+    let station = network.talkers()[index].station;
     Some(network.stations().as_slice()[usize::from(station)].copied())
 }

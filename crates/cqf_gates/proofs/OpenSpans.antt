@@ -12,7 +12,7 @@ use Rattle.std.proofs.lemmas.Bool.{true≢false, eq-eqb, eqb-true, not-false}
 use Rattle.cqf_model.specs.GateList.{Entry, round_of, states_in, states_at, IsOpen, IsOpenThrough, InForce}
 use Rattle.cqf_lanes.specs.Kernels.{has_bit, open_run_of}
 use Rattle.cqf_gates.specs.TxList.{IsTxList}
-use Rattle.cqf_gates.proofs.Rounds.{states_in-past, states_in-behind, states_in-at, states_at-in_round, states_at-in_force, in_round}
+use Rattle.cqf_gates.proofs.Rounds.{states_in-past, states_in-following, states_in-at, states_at-in_round, states_at-in_force, in_round}
 
 -- within a run of entries that open the class, the class is open
 pub run_opens : (entries : List Entry) (class run offset : ℕ) → ((k : ℕ) → k < run → IsBitSet (get_or entries k (0, 0)).0 class) →
@@ -40,9 +40,9 @@ first_le_run (entry ∷ entries) zero some = absurd (omega arith)
 first_le_run (entry ∷ entries) (suc run) some = omega (arith, sum_by-cons (λ (e : Entry). e.1) entry (take run entries))
 
 -- with further entries after it, a round is the same up to its end
-states_in-front : (front behind : List Entry) (offset : ℕ) → offset < round_of front → states_in (front ++ behind) offset ≡ states_in front offset
-states_in-front [] behind offset within = absurd (omega arith)
-states_in-front (entry ∷ front) behind offset within =
+states_in-front : (front following : List Entry) (offset : ℕ) → offset < round_of front → states_in (front ++ following) offset ≡ states_in front offset
+states_in-front [] following offset within = absurd (omega arith)
+states_in-front (entry ∷ front) following offset within =
     elim (leb_tells (suc offset) entry.1) [
       | inl first ↦
           let inside : ltb offset entry.1 ≡ true = first.0 in
@@ -51,16 +51,16 @@ states_in-front (entry ∷ front) behind offset within =
           let inside : ltb offset entry.1 ≡ false = later.0 in
           let passed : entry.1 ≤ offset = omega (arith, later.1) in
           let whole = sum_by-cons (λ (e : Entry). e.1) entry front in
-          rw inside (states_in-front front behind (offset - entry.1) (omega arith))
+          rw inside (states_in-front front following (offset - entry.1) (omega arith))
     ]
 
 -- and after its end the further entries are in force
-states_in-append : (front behind : List Entry) (offset : ℕ) → states_in (front ++ behind) (round_of front + offset) ≡ states_in behind offset
-states_in-append [] behind offset = ap (states_in behind) (omega arith)
-states_in-append (entry ∷ front) behind offset =
+states_in-append : (front following : List Entry) (offset : ℕ) → states_in (front ++ following) (round_of front + offset) ≡ states_in following offset
+states_in-append [] following offset = ap (states_in following) (omega arith)
+states_in-append (entry ∷ front) following offset =
     let first = sum_by-cons (λ (e : Entry). e.1) entry front in
     let e : round_of (entry ∷ front) + offset ≡ entry.1 + (round_of front + offset) = omega (arith, first) in
-    ap (states_in (entry ∷ (front ++ behind))) e ∙ states_in-past entry (front ++ behind) _ ∙ states_in-append front behind offset
+    ap (states_in (entry ∷ (front ++ following))) e ∙ states_in-past entry (front ++ following) _ ∙ states_in-append front following offset
 
 -- a round has a positive duration
 pub round_positive : (entries : List Entry) → IsTxList entries → 0 < round_of entries
@@ -68,48 +68,48 @@ round_positive entries f = omega (arith, f.some, in_round entries 0 0 f.some (f.
 
 -- the entries rotated to begin at an index
 abbrev pub turned_to : ℕ → List Entry → List Entry
-turned_to place entries = drop place entries ++ take place entries
+turned_to index entries = drop index entries ++ take index entries
 
 -- from the first instant of an entry on, the states of a whole round are those of the list rotated to begin there
-states_at-turned : (entries : List Entry) (round place offset : ℕ) → offset < round_of entries →
-    states_at entries (round * round_of entries + round_of (take place entries) + offset) ≡ states_in (turned_to place entries) offset
-states_at-turned entries round place offset within =
-    let parts = sum_by-take-drop (λ (e : Entry). e.1) entries place in
-    elim (leb_tells (suc offset) (round_of (drop place entries))) [
+states_at-turned : (entries : List Entry) (round index offset : ℕ) → offset < round_of entries →
+    states_at entries (round * round_of entries + round_of (take index entries) + offset) ≡ states_in (turned_to index entries) offset
+states_at-turned entries round index offset within =
+    let parts = sum_by-take-drop (λ (e : Entry). e.1) entries index in
+    elim (leb_tells (suc offset) (round_of (drop index entries))) [
       | inl first ↦
-          let here : offset < round_of (drop place entries) = first.1 in
-          let e : round * round_of entries + round_of (take place entries) + offset ≡ round * round_of entries + (round_of (take place entries) + offset) =
+          let here : offset < round_of (drop index entries) = first.1 in
+          let e : round * round_of entries + round_of (take index entries) + offset ≡ round * round_of entries + (round_of (take index entries) + offset) =
           omega arith in
-          ap (states_at entries) e ∙ states_at-in_round entries round _ (omega arith) ∙ states_in-behind place entries offset
-          ∙ sym (states_in-front (drop place entries) (take place entries) offset here)
+          ap (states_at entries) e ∙ states_at-in_round entries round _ (omega arith) ∙ states_in-following index entries offset
+          ∙ sym (states_in-front (drop index entries) (take index entries) offset here)
       | inr later ↦
-          let rest : ℕ = offset - round_of (drop place entries) in
-          let behind : round_of (drop place entries) + rest ≡ offset = omega (arith, later.1) in
-          let short : rest < round_of (take place entries) = omega (arith, later.1) in
-          let e : round * round_of entries + round_of (take place entries) + offset ≡ (round + 1) * round_of entries + rest = omega arith in
-          let front : states_in entries rest ≡ states_in (take place entries) rest =
-          ap (λ xs. states_in xs rest) (sym (take-append-drop place entries)) ∙ states_in-front (take place entries) (drop place entries) rest short in
+          let rest : ℕ = offset - round_of (drop index entries) in
+          let following : round_of (drop index entries) + rest ≡ offset = omega (arith, later.1) in
+          let short : rest < round_of (take index entries) = omega (arith, later.1) in
+          let e : round * round_of entries + round_of (take index entries) + offset ≡ (round + 1) * round_of entries + rest = omega arith in
+          let front : states_in entries rest ≡ states_in (take index entries) rest =
+          ap (λ xs. states_in xs rest) (sym (take-append-drop index entries)) ∙ states_in-front (take index entries) (drop index entries) rest short in
           ap (states_at entries) e ∙ states_at-in_round entries (round + 1) rest (omega arith) ∙ front
-          ∙ sym (states_in-append (drop place entries) (take place entries) rest) ∙ ap (states_in (turned_to place entries)) behind
+          ∙ sym (states_in-append (drop index entries) (take index entries) rest) ∙ ap (states_in (turned_to index entries)) following
     ]
 
 -- the rotated list lasts as long
-round_of-turned : (entries : List Entry) (place : ℕ) → round_of (turned_to place entries) ≡ round_of entries
-round_of-turned entries place = omega (
+round_of-turned : (entries : List Entry) (index : ℕ) → round_of (turned_to index entries) ≡ round_of entries
+round_of-turned entries index = omega (
   arith,
-  sum_by-append (λ (e : Entry). e.1) (drop place entries) (take place entries),
+  sum_by-append (λ (e : Entry). e.1) (drop index entries) (take index entries),
   sum_by-take-drop
-      (λ (e : Entry). e.1) entries place,
+      (λ (e : Entry). e.1) entries index,
 )
 
 -- has as many entries
-pub length-turned : (entries : List Entry) (place : ℕ) → length (turned_to place entries) ≡ length entries
-length-turned entries place = omega (arith, length-append (drop place entries) (take place entries), length-drop place entries, length-take place entries)
+pub length-turned : (entries : List Entry) (index : ℕ) → length (turned_to index entries) ≡ length entries
+length-turned entries index = omega (arith, length-append (drop index entries) (take index entries), length-drop index entries, length-take index entries)
 
 -- and begins with the one at the index
-first_of-turned : (entries : List Entry) (place : ℕ) → place < length entries → get_or (turned_to place entries) 0 (0, 0) ≡ get_or entries place (0, 0)
-first_of-turned entries place inside = get_or_append_left (drop place entries) (take place entries) (0, 0) 0 (omega (arith, length-drop place entries))
-    ∙ get_or-drop place entries 0 (0, 0) ∙ ap (λ k. get_or entries k (0, 0)) (omega arith)
+first_of-turned : (entries : List Entry) (index : ℕ) → index < length entries → get_or (turned_to index entries) 0 (0, 0) ≡ get_or entries index (0, 0)
+first_of-turned entries index inside = get_or_append_left (drop index entries) (take index entries) (0, 0) 0 (omega (arith, length-drop index entries))
+    ∙ get_or-drop index entries 0 (0, 0) ∙ ap (λ k. get_or entries k (0, 0)) (omega arith)
 
 -- states that pass the bit's test open the class
 open_from_test : (states class : ℕ) → has_bit states class ≡ true → IsBitSet states class
@@ -124,8 +124,8 @@ All-front : {A : Type 0} (P : A → Type 0) (xs ys : List A) → All P (xs ++ ys
 All-front P xs ys all k d inside = subst P (get_or_append_left xs ys d k inside) (all k d (omega (arith, length-append xs ys)))
 
 -- and of each of those after them
-All-behind : {A : Type 0} (P : A → Type 0) (xs ys : List A) → All P (xs ++ ys) → All P ys
-All-behind P xs ys all k d inside = subst P (get_or-append-add xs ys k d) (all (length xs + k) d (omega (arith, length-append xs ys)))
+All-following : {A : Type 0} (P : A → Type 0) (xs ys : List A) → All P (xs ++ ys) → All P ys
+All-following P xs ys all k d inside = subst P (get_or-append-add xs ys k d) (all (length xs + k) d (omega (arith, length-append xs ys)))
 
 -- the states of an entry, among all states
 state_of : (entries : List Entry) (k : ℕ) → k < length entries → get_or (map (λ (entry : Entry). entry.0) entries) k 0 ≡ (get_or entries k (0, 0)).0
@@ -153,9 +153,9 @@ run_inside entries class run is =
     )
 
 -- the entry after the run closes the class
-closed_behind_run : (entries : List Entry) (class run : ℕ) → run ≡ open_run_of class (map (λ (entry : Entry). entry.0) entries) →
+closed_after_run : (entries : List Entry) (class run : ℕ) → run ≡ open_run_of class (map (λ (entry : Entry). entry.0) entries) →
     run < length entries → ¬ IsBitSet (get_or entries run (0, 0)).0 class
-closed_behind_run entries class run is inside =
+closed_after_run entries class run is inside =
     let states : List ℕ = map (λ (entry : Entry). entry.0) entries in
     let long = length-map entries (λ (entry : Entry). entry.0) in
     let run_is : run ≡ prefix_len (λ gates. has_bit gates class) states = is in
@@ -163,21 +163,21 @@ closed_behind_run entries class run is inside =
     let here : has_bit (get_or states run 0) class ≡ false = ap (λ k. has_bit (get_or states k 0) class) run_is ∙ stops in
     subst (λ x. ¬ IsBitSet x class) (state_of entries run inside) (closed_from_test (get_or states run 0) class here)
 
-module _ (entries : List Entry) (class t place offset run : ℕ) (f : IsTxList entries) (force : InForce entries t place offset)
-    (is : run ≡ open_run_of class (map (λ (entry : Entry). entry.0) (turned_to place entries))) where
+module _ (entries : List Entry) (class t index offset run : ℕ) (f : IsTxList entries) (force : InForce entries t index offset)
+    (is : run ≡ open_run_of class (map (λ (entry : Entry). entry.0) (turned_to index entries))) where
   -- if the run has all entries, each opens the class
-  pub all-open : run ≡ length (turned_to place entries) → All (λ (entry : Entry). IsBitSet entry.0 class) entries
+  pub all-open : run ≡ length (turned_to index entries) → All (λ (entry : Entry). IsBitSet entry.0 class) entries
   all-open whole =
-      let opened : All (λ (entry : Entry). IsBitSet entry.0 class) (turned_to place entries) =
-      All-from_get_or (λ (entry : Entry). IsBitSet entry.0 class) (turned_to place entries) (0, 0)
-      (λ k inside. opened_by_run (turned_to place entries) class run is k (omega arith)) in
-      let behind = All-front (λ (entry : Entry). IsBitSet entry.0 class) (drop place entries) (take place entries) opened in
-      let front = All-behind (λ (entry : Entry). IsBitSet entry.0 class) (drop place entries) (take place entries) opened in
-      subst (All (λ (entry : Entry). IsBitSet entry.0 class)) (take-append-drop place entries)
-      (All-append (λ (entry : Entry). IsBitSet entry.0 class) (take place entries) (drop place entries) front behind)
+      let opened : All (λ (entry : Entry). IsBitSet entry.0 class) (turned_to index entries) =
+      All-from_get_or (λ (entry : Entry). IsBitSet entry.0 class) (turned_to index entries) (0, 0)
+      (λ k inside. opened_by_run (turned_to index entries) class run is k (omega arith)) in
+      let following = All-front (λ (entry : Entry). IsBitSet entry.0 class) (drop index entries) (take index entries) opened in
+      let front = All-following (λ (entry : Entry). IsBitSet entry.0 class) (drop index entries) (take index entries) opened in
+      subst (All (λ (entry : Entry). IsBitSet entry.0 class)) (take-append-drop index entries)
+      (All-append (λ (entry : Entry). IsBitSet entry.0 class) (take index entries) (drop index entries) front following)
 
   -- and then the class is open at every instant
-  pub open-always : run ≡ length (turned_to place entries) → (s : ℕ) → IsOpen entries class s
+  pub open-always : run ≡ length (turned_to index entries) → (s : ℕ) → IsOpen entries class s
   open-always whole s =
       let opened = all-open whole in
       let within : s % round_of entries < round_of entries = omega (arith, round_positive entries f) in
@@ -187,27 +187,27 @@ module _ (entries : List Entry) (class t place offset run : ℕ) (f : IsTxList e
   -- without a run, the entry in force closes the class
   pub closed-now : run ≡ 0 → ¬ IsOpen entries class t
   closed-now none =
-      let first : ¬ IsBitSet (get_or (turned_to place entries) run (0, 0)).0 class =
-      closed_behind_run (turned_to place entries) class run is (omega (arith, f.some, length-turned entries place)) in
-      let here : get_or (turned_to place entries) run (0, 0) ≡ get_or entries place (0, 0) =
-      ap (λ k. get_or (turned_to place entries) k (0, 0)) none ∙ first_of-turned entries place force.inside in
-      subst (λ x. ¬ IsBitSet x class) (ap (λ (entry : Entry). entry.0) here ∙ sym (states_at-in_force entries t place offset force)) first
+      let first : ¬ IsBitSet (get_or (turned_to index entries) run (0, 0)).0 class =
+      closed_after_run (turned_to index entries) class run is (omega (arith, f.some, length-turned entries index)) in
+      let here : get_or (turned_to index entries) run (0, 0) ≡ get_or entries index (0, 0) =
+      ap (λ k. get_or (turned_to index entries) k (0, 0)) none ∙ first_of-turned entries index force.inside in
+      subst (λ x. ¬ IsBitSet x class) (ap (λ (entry : Entry). entry.0) here ∙ sym (states_at-in_force entries t index offset force)) first
 
   -- if the run ends, the class is open up to its end, and closed there
-  pub open-to_end : (end : ℕ) → 0 < run → run < length (turned_to place entries) → end ≡ t - offset + round_of (take run (turned_to place entries))
+  pub open-to_end : (end : ℕ) → 0 < run → run < length (turned_to index entries) → end ≡ t - offset + round_of (take run (turned_to index entries))
       → (t < end) × IsOpenThrough entries class t end × (¬ IsOpen entries class end)
   open-to_end end some followed end_is =
-      let list : List Entry = turned_to place entries in
-      let begun : t - offset ≡ force.round * round_of entries + round_of (take place entries) = omega (arith, force.spans) in
-      let first : (get_or entries place (0, 0)).1 ≤ round_of (take run list) =
-      subst (λ (e : Entry). e.1 ≤ round_of (take run list)) (first_of-turned entries place force.inside) (first_le_run list run some) in
-      let lasts : 0 < (get_or list run (0, 0)).1 = All-append (λ (entry : Entry). 0 < entry.1) (drop place entries) (take place entries)
-      (All-drop (λ (entry : Entry). 0 < entry.1) place entries f.lasting) (All-take (λ (entry : Entry). 0 < entry.1) place entries f.lasting)
+      let list : List Entry = turned_to index entries in
+      let begun : t - offset ≡ force.round * round_of entries + round_of (take index entries) = omega (arith, force.spans) in
+      let first : (get_or entries index (0, 0)).1 ≤ round_of (take run list) =
+      subst (λ (e : Entry). e.1 ≤ round_of (take run list)) (first_of-turned entries index force.inside) (first_le_run list run some) in
+      let lasts : 0 < (get_or list run (0, 0)).1 = All-append (λ (entry : Entry). 0 < entry.1) (drop index entries) (take index entries)
+      (All-drop (λ (entry : Entry). 0 < entry.1) index entries f.lasting) (All-take (λ (entry : Entry). 0 < entry.1) index entries f.lasting)
       run (0, 0) followed in
       let short = in_round list run 0 followed lasts in
-      let whole = round_of-turned entries place in
+      let whole = round_of-turned entries index in
       let at : (x : ℕ) → x < round_of entries → states_at entries (t - offset + x) ≡ states_in list x =
-      λ x within. ap (λ b. states_at entries (b + x)) begun ∙ states_at-turned entries force.round place x within in (
+      λ x within. ap (λ b. states_at entries (b + x)) begun ∙ states_at-turned entries force.round index x within in (
         omega (arith, force.spans, force.within),
         λ s from to.
             let since : t - offset + (s - (t - offset)) ≡ s = omega (arith, force.spans) in
@@ -217,12 +217,12 @@ module _ (entries : List Entry) (class t place offset run : ℕ) (f : IsTxList e
             (omega (arith, force.spans))),
         (let states : states_at entries end ≡ (get_or list run (0, 0)).0 = ap (states_at entries) end_is ∙ at (round_of (take run list)) (omega arith)
             ∙ ap (states_in list) (let e : round_of (take run list) ≡ round_of (take run list) + 0 = omega arith in e) ∙ states_in-at list run 0 lasts in
-            subst (λ x. ¬ IsBitSet x class) (sym states) (closed_behind_run list class run is followed)),
+            subst (λ x. ¬ IsBitSet x class) (sym states) (closed_after_run list class run is followed)),
       )
 
 -- the run was counted among the states of the rotated list
-pub run_of_turned : (list given turned seen : List Entry) (states shown : List ℕ) (place class run : ℕ) → given ≡ list → turned
-    ≡ turned_to place given → seen ≡ turned → states ≡ map (λ (entry : Entry). entry.0) seen → shown ≡ states → run ≡ open_run_of class shown
-    → run ≡ open_run_of class (map (λ (entry : Entry). entry.0) (turned_to place list))
-run_of_turned list given turned seen states shown place class run given_is turned_is seen_is states_are shown_are is =
-    is ∙ ap (open_run_of class) (shown_are ∙ states_are ∙ ap (map (λ (entry : Entry). entry.0)) (seen_is ∙ turned_is ∙ ap (turned_to place) given_is))
+pub run_of_turned : (list given turned seen : List Entry) (states shown : List ℕ) (index class run : ℕ) → given ≡ list → turned
+    ≡ turned_to index given → seen ≡ turned → states ≡ map (λ (entry : Entry). entry.0) seen → shown ≡ states → run ≡ open_run_of class shown
+    → run ≡ open_run_of class (map (λ (entry : Entry). entry.0) (turned_to index list))
+run_of_turned list given turned seen states shown index class run given_is turned_is seen_is states_are shown_are is =
+    is ∙ ap (open_run_of class) (shown_are ∙ states_are ∙ ap (map (λ (entry : Entry). entry.0)) (seen_is ∙ turned_is ∙ ap (turned_to index) given_is))

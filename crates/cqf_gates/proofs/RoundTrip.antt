@@ -79,10 +79,10 @@ lines_of-line line rest none =
     let text : List ℕ = line ++ 10 ∷ rest in
     let longer : length line < length text = omega (arith, length-append line (10 ∷ rest)) in
     let seam : get_or text (length line) 0 ≡ 10 = get_or-append_seam line 10 rest 0 in
-    let place : position_or_len is_line_feed text ≡ length line =
+    let index : position_or_len is_line_feed text ≡ length line =
     position_or_len_is is_line_feed text (length line) 0 (omega arith) (λ k h. rw (get_or_append_left line (10 ∷ rest) 0 k h) (none k h)) (λ _. rw seam) in
-    let front : before_first is_line_feed text ≡ line = ap (λ n. take n text) place ∙ take-append_seam line (10 ∷ rest) in
-    let back : after_first is_line_feed text ≡ rest = ap (λ n. drop (n + 1) text) place ∙ drop-append-add line (10 ∷ rest) 1 in
+    let front : before_first is_line_feed text ≡ line = ap (λ n. take n text) index ∙ take-append_seam line (10 ∷ rest) in
+    let back : after_first is_line_feed text ≡ rest = ap (λ n. drop (n + 1) text) index ∙ drop-append-add line (10 ∷ rest) 1 in
     let first : lines_of text ≡ before_first is_line_feed text ∷ lines_of (after_first is_line_feed text) = lines_of-first text (omega arith) in
     rw (first, front, back)
 

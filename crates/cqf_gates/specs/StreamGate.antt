@@ -4,7 +4,7 @@ use Rattle.std.specs.Prelude.{nat_lt, All, length, Option, Some, None, slice_get
 use Rattle.std.specs.List.{list_any}
 use Rattle.std.specs.Option.{option_map_or, option_and_then}
 use Rattle.cqf_model.specs.declared.gates.StreamEntry.{StreamEntry}
-use Rattle.cqf_model.specs.StreamGate.{Call, same_interval, octets_in, within, place_at, gate_class, gate_passes}
+use Rattle.cqf_model.specs.StreamGate.{PassedFrame, same_interval, octets_in, within, index_at, gate_class, gate_passes}
 use Rattle.cqf_gates.specs.declared.faults.ListFault.{ListFault}
 use Rattle.cqf_gates.specs.declared.faults.ListFault.TheVariants.{Empty, TooMany, ZeroInterval, BadIpv}
 use Rattle.cqf_gates.specs.declared.streams.Passed.{Passed}
@@ -42,7 +42,7 @@ fresh entries = record { entries = entries; last = 0; taken = 0 }
 
 -- the entry in force at an instant
 abbrev pub entry_at : List StreamEntry → ℕ → Option StreamEntry
-entry_at entries t = slice_get entries (place_at entries t)
+entry_at entries t = slice_get entries (index_at entries t)
 
 -- the octet maximum in force at an instant
 abbrev pub octet_max_at : List StreamEntry → ℕ → Option ℕ
@@ -61,26 +61,26 @@ abbrev pub verdict_on : Gate → ℕ → ℕ → Passed
 verdict_on gate t octets = if lets_pass gate t octets then Class (gate_class gate.entries t) else OverOctets
 
 -- what has been taken of an octet maximum after a frame
-abbrev pub taken_behind : Option ℕ → ℕ → ℕ → ℕ
-taken_behind None taken octets = 0
-taken_behind (Some most) taken octets = if within (Some most) (taken + octets) then taken + octets else taken
+abbrev pub taken_with : Option ℕ → ℕ → ℕ → ℕ
+taken_with None taken octets = 0
+taken_with (Some most) taken octets = if within (Some most) (taken + octets) then taken + octets else taken
 
 -- the gate after the frame
 abbrev pub gate_after : Gate → ℕ → ℕ → Gate
-gate_after gate t octets = record { entries = gate.entries; last = t; taken = taken_behind (octet_max_at gate.entries t) (taken_at gate t) octets }
+gate_after gate t octets = record { entries = gate.entries; last = t; taken = taken_with (octet_max_at gate.entries t) (taken_at gate t) octets }
 
 -- the gate has counted these passed calls: none of them is later than its last call, and what it has as taken of an octet maximum is the
 -- total of those in that interval
-pub record Counts (gate : Gate) (passed : List Call) : Type 0 where
-  pub before : All (λ (call : Call). call.0 ≤ gate.last) passed
+pub record Counts (gate : Gate) (passed : List PassedFrame) : Type 0 where
+  pub before : All (λ (call : PassedFrame). call.0 ≤ gate.last) passed
   pub counted : (most : ℕ) → octet_max_at gate.entries gate.last ≡ Some most → gate.taken ≡ octets_in gate.entries passed gate.last
 
 -- the calls that passed, after one more call
-abbrev pub passed_after : Gate → List Call → ℕ → ℕ → List Call
+abbrev pub passed_after : Gate → List PassedFrame → ℕ → ℕ → List PassedFrame
 passed_after gate passed t octets = if lets_pass gate t octets then passed ++ (t, octets) ∷ [] else passed
 
 -- a gate that has counted its passed calls decides as their whole list does, and continues to count them
 abbrev pub DecidesByCalls : Type 0
 DecidesByCalls =
-    (gate : Gate) (passed : List Call) (t octets : ℕ) → Counts gate passed → gate.last ≤ t →
+    (gate : Gate) (passed : List PassedFrame) (t octets : ℕ) → Counts gate passed → gate.last ≤ t →
     (lets_pass gate t octets ≡ gate_passes gate.entries passed t octets) × Counts (gate_after gate t octets) (passed_after gate passed t octets)

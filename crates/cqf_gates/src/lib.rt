@@ -1,5 +1,5 @@
-//! Gate lists: which traffic classes a port may send, and which frames of a stream pass (IEEE 802.1Q, 8.6.8.4 and
-//! 8.6.5.1).
+//! Gate lists: which traffic classes a port may send (Qbv, the time-aware shaper; IEEE 802.1Q, 8.6.8.4), and which
+//! frames of a stream pass, with which internal priority value (Qci, PSFP and its IPV; 8.6.5.1).
 //!
 //! - [`TxList`] is the list of a port. [`TxList::mask_at`] returns the states of its gates at an instant, and
 //!   [`TxList::open_for`] how long a class stays open from then on.

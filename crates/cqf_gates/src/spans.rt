@@ -1,7 +1,7 @@
 //! The entries of a reservation's gate, put together one after the other.
 ghost use Rattle.std.specs.Prelude.{[], ◌≡◌, ◌+◌, ◌*◌, ◌%◌, ◌^◌, ◌<◌, ◌∷◌, ◌++◌, length};
 ghost use Rattle.cqf_model.specs.declared.gates.StreamEntry.{StreamEntry as Entry};
-ghost use Rattle.cqf_gates.specs.ReservedSpans.{closed_for, open_in, second_turn};
+ghost use Rattle.cqf_gates.specs.ReservedSpans.{closed_for, open_in, second_active_cycle};
 
 use crate::streams::BLANK;
 use crate::{Pace, StreamEntry};
@@ -19,7 +19,7 @@ const CLASS_OF_ODD_CYCLE: u8 = 7;
 #[derive(Drop)]
 pub(crate) struct Spans {
     /// The entries, followed by blanks.
-    places: [StreamEntry; 5],
+    indices: [StreamEntry; 5],
     used: usize,
 }
 
@@ -29,7 +29,7 @@ impl Model for Spans {
 
     ghost Value = { List Entry };
 
-    ghost view = { λ spans. take spans.used spans.places };
+    ghost view = { λ spans. take spans.used spans.indices };
 
     ghost invariant = { λ spans. spans.used ≤ 5 };
 }
@@ -51,7 +51,7 @@ impl Spans {
         ensures { result ≡ [] }
     {
         Spans {
-            places: [BLANK; 5],
+            indices: [BLANK; 5],
             used: 0,
         }
     }
@@ -60,7 +60,7 @@ impl Spans {
     pub(crate) fn entries(&self) -> &[StreamEntry]
         ensures { result.now ≡ self.now }
     {
-        &self.places[..self.used]
+        &self.indices[..self.used]
     }
 
     /// Appends an entry.
@@ -68,7 +68,7 @@ impl Spans {
         requires { length self.old < 5 }
         ensures { self.new ≡ self.old ++ entry ∷ [] }
     {
-        self.places[self.used] = entry;
+        self.indices[self.used] = entry;
         self.used += 1;
     }
 
@@ -103,16 +103,22 @@ impl Spans {
 
     /// If a period has an odd number of cycles, appends the entries from the stream's first own cycle to the second:
     /// the closed cycles, and the own one.
-    pub(crate) fn open_again(&mut self, cycle_time: Nanos, reserved: Octets, pace: Pace, turn: u16)
+    pub(crate) fn open_again(
+        &mut self,
+        cycle_time: Nanos,
+        reserved: Octets,
+        pace: Pace,
+        active_cycle: u16,
+    )
         requires room { length self.old < 4 }
         requires short { (pace.pause + 1) * cycle_time.0 < 2 ^ 32 }
-        requires within { turn < 256 }
-        ensures { self.new ≡ self.old ++ second_turn cycle_time.0 reserved.0 pace turn }
+        requires within { active_cycle < 256 }
+        ensures { self.new ≡ self.old ++ second_active_cycle cycle_time.0 reserved.0 pace active_cycle }
     {
         let pause = u16::from(pace.pause);
         if (pause + 1) % 2 != 0 {
             self.close(cycle_time, pause);
-            self.open(cycle_time, reserved, turn + (pause + 1));
+            self.open(cycle_time, reserved, active_cycle + (pause + 1));
         }
     }
 }

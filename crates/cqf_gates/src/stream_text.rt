@@ -4,7 +4,7 @@ ghost use Rattle.cqf_gates.specs.StreamText.{is_shut, line_of_open, line_of_stre
 ghost use Rattle.cqf_output.specs.Writer.{Puts};
 
 use crate::{StreamEntry, StreamList};
-use cqf_output::{Buffer, Sink, Told, Writer, told_text};
+use cqf_output::{Buffer, CheckedSink, Sink, Writer, written_text};
 use cqf_units::Memory;
 use std::alloc::Global;
 
@@ -56,7 +56,7 @@ fn put_entry<W: Sink>(writer: &mut Writer<'_, W>, entry: StreamEntry)
     }
 }
 
-/// Puts the text of a stream gate's list, as [`write_stream`] returns it. Asks for no memory.
+/// Puts the text of a stream gate's list, as [`write_stream`] returns it. Requests no memory.
 pub fn put_stream<W: Sink>(writer: &mut Writer<'_, W>, list: &StreamList)
     ensures { Puts W.contents writer.old writer.new (text_of_stream_entries list.now) }
 {
@@ -72,9 +72,9 @@ pub fn put_stream<W: Sink>(writer: &mut Writer<'_, W>, list: &StreamList)
 pub fn write_stream(alloc: Global, list: &StreamList) -> Result<Vec<u8>, Memory>
     ensures { IfOk result (λ text. text.items ≡ text_of_stream_entries list.now) }
 {
-    let mut told = Told::new(Vec::new(alloc));
-    let mut writer = Writer::new(&mut told, Buffer::new(alloc)?);
+    let mut reported = CheckedSink::new(Vec::new(alloc));
+    let mut writer = Writer::new(&mut reported, Buffer::new(alloc)?);
     put_stream(&mut writer, list);
-    let _told = writer.close();
-    told_text(told)
+    let _written = writer.close();
+    written_text(reported)
 }

@@ -3,7 +3,7 @@ ghost use Rattle.std.specs.Prelude.{List, [], ◌≡◌, ◌==◌, ◌+◌, ◌/
 ghost use Rattle.std.specs.List.{list_any};
 ghost use Rattle.std.specs.Option.{SomeIff};
 ghost use Rattle.cqf_model.specs.declared.gates.StreamEntry.{StreamEntry as Entry};
-ghost use Rattle.cqf_model.specs.StreamGate.{gate_round, place_at, round_at};
+ghost use Rattle.cqf_model.specs.StreamGate.{gate_round, index_at, round_at};
 ghost use Rattle.cqf_gates.specs.StreamGate.{Counts, DecidesByCalls, IsStreamList, entry_at, fresh, gate_after};
 ghost use Rattle.cqf_gates.specs.StreamGate.{is_bad_ipv, stream_list_of, taken_at, verdict_on};
 
@@ -23,7 +23,7 @@ pub(crate) const BLANK: StreamEntry = StreamEntry {
 #[derive(Debug, Drop)]
 pub struct StreamList {
     /// The entries, followed by blanks.
-    places: [StreamEntry; 16],
+    indices: [StreamEntry; 16],
     used: usize,
 }
 
@@ -34,9 +34,9 @@ impl Model for StreamList {
 
     ghost Value = { List Entry };
 
-    ghost view = { λ list. take list.used list.places };
+    ghost view = { λ list. take list.used list.indices };
 
-    ghost invariant = { λ list. (list.used ≤ 16) × IsStreamList (take list.used list.places) };
+    ghost invariant = { λ list. (list.used ≤ 16) × IsStreamList (take list.used list.indices) };
 }
 
 /// What a stream gate decides about a frame.
@@ -81,11 +81,11 @@ fn placed(entries: &[StreamEntry]) -> [StreamEntry; 16]
     requires { length entries.now ≤ 16 }
     ensures { take (length entries.now) result ≡ entries.now }
 {
-    let mut places = [BLANK; 16];
-    for (place, entry) in entries.iter().enumerate() {
-        places[place] = *entry;
+    let mut indices = [BLANK; 16];
+    for (index, entry) in entries.iter().enumerate() {
+        indices[index] = *entry;
     }
-    places
+    indices
 }
 
 /// Returns the total of the intervals, in nanoseconds.
@@ -120,7 +120,7 @@ impl StreamList {
             return Err(ListFault::BadIpv);
         }
         Ok(StreamList {
-            places: placed(entries),
+            indices: placed(entries),
             used: entries.len(),
         })
     }
@@ -130,22 +130,22 @@ impl StreamList {
         ensures value { result.now ≡ self.now }
         ensures facts { IsStreamList self.now }
     {
-        &self.places[..self.used]
+        &self.indices[..self.used]
     }
 
     /// Returns the number of the round at the instant, and the index of the entry in force.
     fn interval_at(&self, t: Nanos) -> (u64, usize)
         ensures round { result.0 ≡ round_at self.now t.0 }
-        ensures place { result.1 ≡ place_at self.now t.0 }
+        ensures index { result.1 ≡ index_at self.now t.0 }
         ensures inside { result.1 < length self.now }
     {
         let entries = self.entries();
         let length = length_of(entries);
         let mut offset = t.0 % length;
-        for (place, entry) in entries.iter().enumerate() {
+        for (index, entry) in entries.iter().enumerate() {
             let interval = u64::from(entry.interval);
             if offset < interval {
-                return (t.0 / length, place);
+                return (t.0 / length, index);
             }
             offset -= interval;
         }
@@ -156,8 +156,8 @@ impl StreamList {
     fn in_force(&self, t: Nanos) -> StreamEntry
         ensures { entry_at self.now t.0 ≡ Some result }
     {
-        let (_, place) = self.interval_at(t);
-        self.entries()[place]
+        let (_, index) = self.interval_at(t);
+        self.entries()[index]
     }
 }
 
@@ -238,8 +238,8 @@ impl StreamGate {
     }
 }
 
-/// Says that a gate that has counted what a list of calls passed decides as that list does and continues to count, and
-/// that a gate that has met no frame has counted none.
+/// Proves that a gate that has counted what a list of calls passed decides as that list does and continues to count,
+/// and that a gate that has met no frame has counted none.
 pub fn gate_counts_calls()
     ensures decides { DecidesByCalls }
     ensures begins { (entries : List Entry) → Counts (fresh entries) [] }

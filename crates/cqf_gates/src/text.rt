@@ -22,7 +22,7 @@ pub fn read_tx(text: &[u8]) -> Result<TxList, TextFault>
     let mut kept: ArrayVec<(u8, u32), 17> = ArrayVec::new();
     let mut number: u64 = 1;
     let mut left = text;
-    while let Some((line, behind)) = split_line(left) {
+    while let Some((line, following)) = split_line(left) {
         let Some(entry) = read_entry(line) else {
             return Err(TextFault::BadLine(number));
         };
@@ -30,7 +30,7 @@ pub fn read_tx(text: &[u8]) -> Result<TxList, TextFault>
             kept.push(entry);
         }
         number += 1;
-        left = behind;
+        left = following;
     }
     match TxList::new(kept.as_slice()) {
         Ok(list) => Ok(list),

@@ -72,15 +72,15 @@ fn states_of(entries: &[(u8, u32)]) -> ArrayVec<u8, 16>
 }
 
 /// Returns the entries rotated to begin at an index.
-fn turned(entries: &[(u8, u32)], place: usize) -> ArrayVec<(u8, u32), 16>
+fn turned(entries: &[(u8, u32)], index: usize) -> ArrayVec<(u8, u32), 16>
     requires few { length entries.now ≤ 16 }
-    requires inside { place ≤ length entries.now }
-    ensures { result.items ≡ drop place entries.now ++ take place entries.now }
+    requires inside { index ≤ length entries.now }
+    ensures { result.items ≡ drop index entries.now ++ take index entries.now }
 {
-    let Ok(mut turned) = ArrayVec::try_from(&entries[place..]) else {
+    let Ok(mut turned) = ArrayVec::try_from(&entries[index..]) else {
         unreachable!()
     };
-    match turned.try_extend_from_slice(&entries[..place]) {
+    match turned.try_extend_from_slice(&entries[..index]) {
         Ok(()) => turned,
         Err(_) => unreachable!(),
     }
@@ -123,8 +123,8 @@ impl TxList {
         self.entries.as_slice()
     }
 
-    /// Returns the time after which the list repeats, in nanoseconds: the standard's cycle time of a gate control list
-    /// (8.6.8.4).
+    /// Returns the time after which the list repeats, in nanoseconds, at most 2^36: the standard's cycle time of a gate
+    /// control list (8.6.8.4).
     pub fn round(&self) -> Nanos
         ensures value { result.0 ≡ round_of self.now }
         ensures some { 0 < result.0 }
@@ -141,10 +141,10 @@ impl TxList {
     {
         let entries = self.entries();
         let mut offset = t.0 % length_of(entries);
-        for (place, entry) in entries.iter().enumerate() {
+        for (index, entry) in entries.iter().enumerate() {
             let interval = u64::from(entry.1);
             if offset < interval {
-                return (place, offset as u32);
+                return (index, offset as u32);
             }
             offset -= interval;
         }
@@ -155,21 +155,21 @@ impl TxList {
     pub fn mask_at(&self, t: Nanos) -> u8
         ensures { result ≡ states_at self.now t.0 }
     {
-        let (place, _) = self.entry_at(t);
-        self.entries()[place].0
+        let (index, _) = self.entry_at(t);
+        self.entries()[index].0
     }
 
-    /// Returns how long the class stays open from the instant on: `Closed` if it is closed at the instant, `Always` if
-    /// every entry opens it, and otherwise the first later instant at which it is closed. A boundary between two
-    /// entries that both open the class doesn't close its gate.
+    /// Returns how long the class, 0 to 7, stays open from the instant on, which is below 2^62 ns: `Closed` if it is
+    /// closed at the instant, `Always` if every entry opens it, and otherwise the first later instant at which it is
+    /// closed. A boundary between two entries that both open the class doesn't close its gate.
     pub fn open_for(&self, t: Nanos, class: u8) -> OpenFor
         requires gate { class < 8 }
         requires early { t.0 < 2 ^ 62 }
         ensures span { IsOpenFor self.now class t.0 result }
         ensures always { result ≡ Always → (s : ℕ) → IsOpen self.now class s }
     {
-        let (place, offset) = self.entry_at(t);
-        let turned = turned(self.entries(), place);
+        let (index, offset) = self.entry_at(t);
+        let turned = turned(self.entries(), index);
         let run = open_run(states_of(turned.as_slice()).as_slice(), class);
         if run == turned.len() {
             return OpenFor::Always;

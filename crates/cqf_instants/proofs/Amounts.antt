@@ -6,10 +6,10 @@ use Rattle.std.proofs.lemmas.List.{length-append}
 use Rattle.std.proofs.lemmas.List.Sorted.{length_permutation}
 use Rattle.cqf_units.specs.Timing.{slot_of}
 use Rattle.cqf_model.specs.declared.frames.Started.{Started}
-use Rattle.cqf_instants.specs.declared.lanes.LaidHop.{LaidHop}
-use Rattle.cqf_instants.specs.declared.lanes.Waiting.{Waiting}
+use Rattle.cqf_instants.specs.declared.queues.LaidHop.{LaidHop}
+use Rattle.cqf_instants.specs.declared.queues.Waiting.{Waiting}
 use Rattle.cqf_instants.specs.declared.link.SendingLink.{SendingLink}
-use Rattle.cqf_instants.specs.Lanes.{TellsLane, cap_at, caps_below, in_pace, start_of_lane, sum_below}
+use Rattle.cqf_instants.specs.Queues.{ReportsQueue, cap_at, caps_below, in_pace, start_of_queue, sum_below}
 use Rattle.cqf_instants.proofs.Adding.{cap_there}
 
 -- sums of equal summands are equal
@@ -33,31 +33,31 @@ sums_rise f m n upto =
     omega (arith, sums_more f m k, ap (sum_below f) e)
 
 -- each frame gives one start
-one_each : (cycle link begins r t : ℕ) (xs : List Waiting) → length (in_pace (start_of_lane cycle link begins) r t xs) ≡ length xs
+one_each : (cycle link begins r t : ℕ) (xs : List Waiting) → length (in_pace (start_of_queue cycle link begins) r t xs) ≡ length xs
 one_each cycle link begins r t [] = refl
 one_each cycle link begins r t (x ∷ xs) =
     let n = t + slot_of x.octets r in
     omega (
       arith,
-      length-append (start_of_lane cycle link begins t x) (in_pace (start_of_lane cycle link begins) r n xs),
+      length-append (start_of_queue cycle link begins t x) (in_pace (start_of_queue cycle link begins) r n xs),
       one_each cycle link begins r n xs,
     )
 
--- so as many starts are added as the lane had frames
-pub lane_told : (sender : SendingLink) (cycle begins : ℕ) (lane : List Waiting) (old own : Vec Waiting Global) (branches : List LaidHop)
-    (before after : List (Vec Waiting Global)) (told all : List Started) →
-    TellsLane sender cycle begins lane old own branches before after told all → length all ≡ length told + length lane
-lane_told sender cycle begins lane old own branches before after told all h = omega (
+-- so as many starts are added as the queue had frames
+pub queue_reported : (sender : SendingLink) (cycle begins : ℕ) (queue : List Waiting) (old own : Vec Waiting Global) (branches : List LaidHop)
+    (before after : List (Vec Waiting Global)) (reported all : List Started) →
+    ReportsQueue sender cycle begins queue old own branches before after reported all → length all ≡ length reported + length queue
+queue_reported sender cycle begins queue old own branches before after reported all h = omega (
   arith,
-  ap length h.tells.starts,
-  length-append told (in_pace (start_of_lane cycle sender.link begins) sender.octet_time 0 h.sorted),
+  ap length h.reports.starts,
+  length-append reported (in_pace (start_of_queue cycle sender.link begins) sender.octet_time 0 h.sorted),
   one_each cycle sender.link begins sender.octet_time 0 h.sorted,
-  length_permutation lane h.sorted h.same,
+  length_permutation queue h.sorted h.same,
 )
 
--- a lane has no more frames than it has room for, and so together with the lanes before it
-pub lane_within : (before now : List (Vec Waiting Global)) (place : ℕ) (own d : Vec Waiting Global) (count : ℕ) → place < length now →
-    own ≡ get_or now place d → ((l : ℕ) → cap_at now l ≡ cap_at before l) → count ≤ caps_below before place →
-    count + length own.items ≤ caps_below before (place + 1)
-lane_within before now place own d count below at same so_far =
-    omega (arith, own.ok.0, own.ok.1, cap_there now place own d below at, same place, so_far, ap (caps_below before) (add-one place))
+-- a queue has no more frames than it has room for, and so together with the queues before it
+pub queue_within : (before now : List (Vec Waiting Global)) (index : ℕ) (own d : Vec Waiting Global) (count : ℕ) → index < length now →
+    own ≡ get_or now index d → ((l : ℕ) → cap_at now l ≡ cap_at before l) → count ≤ caps_below before index →
+    count + length own.items ≤ caps_below before (index + 1)
+queue_within before now index own d count below at same so_far =
+    omega (arith, own.ok.0, own.ok.1, cap_there now index own d below at, same index, so_far, ap (caps_below before) (add-one index))

@@ -12,14 +12,14 @@ use Rattle.std.proofs.lemmas.List.Sums.{count_by-le-length, length-filter}
 use Rattle.std.proofs.lemmas.Option.{get_or_from_slice_get, same_Some, slice_get_within}
 use Rattle.cqf_lists.specs.Lists.{each_below}
 use Rattle.cqf_lists.proofs.EachBelow.{first_below, same_below}
-use Rattle.cqf_lists.proofs.Members.{any_member, contains_from_filter, member_any, place_of_member}
+use Rattle.cqf_lists.proofs.Members.{any_member, contains_from_filter, index_of_member, member_any}
 use Rattle.cqf_model.specs.declared.topology.Hop.{Hop}
-use Rattle.cqf_model.specs.Table.{same_way}
-use Rattle.cqf_instants.specs.declared.lanes.LaidHop.{LaidHop}
+use Rattle.cqf_model.specs.Table.{same_ingress}
+use Rattle.cqf_instants.specs.declared.queues.LaidHop.{LaidHop}
 use Rattle.cqf_instants.specs.Laid.{LaysGroup, bare, group_of}
-use Rattle.cqf_instants.specs.Lanes.{branch_at}
+use Rattle.cqf_instants.specs.Queues.{branch_at}
 use Rattle.cqf_instants.specs.declared.laying.Group.{Group}
-use Rattle.cqf_instants.specs.LaidTrees.{AreBehind, AreTied, HaveLinks, IsLaidBranch, StandBehind, behind_at, group_at, is_of_tree}
+use Rattle.cqf_instants.specs.LaidTrees.{AreAfter, AreTied, HaveLinks, IsLaidBranch, StandAfter, after_at, group_at, is_of_tree}
 
 -- a list of one element for each index is the mapped list
 by_index : {X Y : Type 0} (f : X → Y) (d : X) (xs : List X) → each_below (λ k. f (get_or xs k d) ∷ []) (length xs) ≡ map f xs
@@ -36,24 +36,24 @@ abbrev no_group : Group
 no_group = record { first = 0; many = 0 }
 
 abbrev pub no_hop : Hop
-no_hop = record { link = 0; depth = 0; from = None }
+no_hop = record { link = 0; hop_number = 0; from = None }
 
 -- a filtered list is no longer
 filter_short : {X : Type 0} (p : X → Bool) (xs : List X) → length (filter p xs) ≤ length xs
 filter_short p xs = omega (arith, length-filter p xs, count_by-le-length p xs)
 
 -- branches with the same links are those of the same hops
-pub stand_same : (tree : List Hop) (way : Option ℕ) (xs ys : List LaidHop) (group : Group) → length xs ≤ length ys →
-    ((h : ℕ) → h < length xs → (branch_at ys h).link ≡ (branch_at xs h).link) → StandBehind tree way xs group → StandBehind tree way ys group
-stand_same tree way xs ys group longer same s = record {
+pub stand_same : (tree : List Hop) (ingress : Option ℕ) (xs ys : List LaidHop) (group : Group) → length xs ≤ length ys →
+    ((h : ℕ) → h < length xs → (branch_at ys h).link ≡ (branch_at xs h).link) → StandAfter tree ingress xs group → StandAfter tree ingress ys group
+stand_same tree ingress xs ys group longer same s = record {
   inside = omega (arith, longer, s.inside);
   links = same_below (λ k. (branch_at ys (group.first + k)).link ∷ []) (λ k. (branch_at xs (group.first + k)).link ∷ []) group.many
       (λ k below. ap (λ l. l ∷ []) (same (group.first + k) (omega (arith, below, s.inside)))) ∙ s.links;
 }
 
-module _ (tree : List Hop) (way : Option ℕ) (before after : List LaidHop) (many : ℕ) (lays : LaysGroup tree way before after many) where
+module _ (tree : List Hop) (ingress : Option ℕ) (before after : List LaidHop) (many : ℕ) (lays : LaysGroup tree ingress before after many) where
   abbrev group : List Hop
-  group = group_of tree way
+  group = group_of tree ingress
 
   pub grown : length after ≡ length before + many
   grown = omega (arith, ap length lays.laid, length-append before (map bare group), length-map group bare, lays.count)
@@ -69,7 +69,7 @@ module _ (tree : List Hop) (way : Option ℕ) (before after : List LaidHop) (man
       ∙ get_or-append-add before (map bare group) k no_branch
       ∙ get_or-map bare group k no_hop no_branch (omega (arith, below, lays.count))
 
-  pub stand_new : StandBehind tree way after (record { first = length before; many = many })
+  pub stand_new : StandAfter tree ingress after (record { first = length before; many = many })
   stand_new = record {
     inside = omega (arith, grown);
     links =
@@ -86,7 +86,7 @@ module _ (tree : List Hop) (way : Option ℕ) (before after : List LaidHop) (man
       let at : branch_at after h ≡ bare (get_or group k no_hop) =
       ap (branch_at after) (parts from) ∙ new_at k below in
       let member : Contains tree (get_or group k no_hop) =
-      (contains_from_filter (λ (hop : Hop). same_way hop.from way) tree (get_or group k no_hop)
+      (contains_from_filter (λ (hop : Hop). same_ingress hop.from ingress) tree (get_or group k no_hop)
       (Contains-get_or group k no_hop (omega (arith, below, lays.count)))).0 in
       subst (λ (b : LaidHop). is_of_tree tree h b) (sym at)
       (member_any (λ (hop : Hop). hop.link == (get_or group k no_hop).link) tree (get_or group k no_hop) member
@@ -96,11 +96,11 @@ module _ (tree : List Hop) (way : Option ℕ) (before after : List LaidHop) (man
       parts from = omega (arith, from)
 
   pub short : many ≤ length tree
-  short = omega (arith, lays.count, filter_short (λ (hop : Hop). same_way hop.from way) tree)
+  short = omega (arith, lays.count, filter_short (λ (hop : Hop). same_ingress hop.from ingress) tree)
 
 -- nothing is appended yet
-pub none_behind : (tree : List Hop) (before : List LaidHop) (groups : List Group) → length groups ≡ 4096 → AreBehind tree before before 0 groups
-none_behind tree before groups count = record {
+pub none_after : (tree : List Hop) (before : List LaidHop) (groups : List Group) → length groups ≡ 4096 → AreAfter tree before before 0 groups
+none_after tree before groups count = record {
   count = count;
   longer = omega arith;
   short = omega arith;
@@ -111,10 +111,10 @@ none_behind tree before groups count = record {
 }
 
 -- one more hop has its group
-pub behind_more : (tree : List Hop) (before now after : List LaidHop) (k : ℕ) (hop : Hop) (many : ℕ) (groups : List Group) →
-    length tree ≤ 200 → hop.link < 4096 → slice_get tree k ≡ Some hop → AreBehind tree before now k groups → LaysGroup tree (Some hop.link) now after many →
-    AreBehind tree before after (k + 1) (slice_set groups hop.link (record { first = length now; many = many }))
-behind_more tree before now after k hop many groups few low at b lays =
+pub after_more : (tree : List Hop) (before now after : List LaidHop) (k : ℕ) (hop : Hop) (many : ℕ) (groups : List Group) →
+    length tree ≤ 200 → hop.link < 4096 → slice_get tree k ≡ Some hop → AreAfter tree before now k groups → LaysGroup tree (Some hop.link) now after many →
+    AreAfter tree before after (k + 1) (slice_set groups hop.link (record { first = length now; many = many }))
+after_more tree before now after k hop many groups few low at b lays =
     let new : Group = record { first = length now; many = many } in
     let g = grown tree (Some hop.link) now after many lays in
     record {
@@ -123,10 +123,10 @@ behind_more tree before now after k hop many groups few low at b lays =
       short = omega (arith, b.short, g, short tree (Some hop.link) now after many lays, few);
       front = ap (take (length before)) lays.laid ∙ take-append-le (length before) now (map bare (group_of tree (Some hop.link))) b.longer ∙ b.front;
       each = λ j other below is. elim (cases_eq other.link hop.link) [
-        | inl e ↦ subst (λ l. StandBehind tree (Some l) after (group_at (slice_set groups hop.link new) l)) (sym e)
-            (subst (StandBehind tree (Some hop.link) after) (sym (get_or-set_same groups hop.link new no_group (omega (arith, low, b.count))))
+        | inl e ↦ subst (λ l. StandAfter tree (Some l) after (group_at (slice_set groups hop.link new) l)) (sym e)
+            (subst (StandAfter tree (Some hop.link) after) (sym (get_or-set_same groups hop.link new no_group (omega (arith, low, b.count))))
             (stand_new tree (Some hop.link) now after many lays))
-        | inr n ↦ subst (StandBehind tree (Some other.link) after) (sym (get_or-set_other groups hop.link other.link new no_group n))
+        | inr n ↦ subst (StandAfter tree (Some other.link) after) (sym (get_or-set_other groups hop.link other.link new no_group n))
             (stand_same tree (Some other.link) now after (group_at groups other.link) (omega (arith, g))
             (λ h inside. ap (λ (b : LaidHop). b.link) (stays tree (Some hop.link) now after many lays h inside))
             (b.each j other (before_k j other below is n) is))
@@ -158,12 +158,12 @@ hop_of tree h b own =
 low_link : (tree : List Hop) (h : ℕ) (b : LaidHop) → All (λ (hop : Hop). hop.link < 4096) tree → is_of_tree tree h b → b.link < 4096
 low_link tree h b low own =
     let found = hop_of tree h b own in
-    let place = place_of_member tree found.0 found.1 in
-    let here = get_or_from_slice_get tree place.0 found.0 no_hop place.1 in
-    omega (arith, low place.0 no_hop (slice_get_within tree place.0 found.0 place.1), ap (λ (x : Hop). x.link) here, found.2)
+    let index = index_of_member tree found.0 found.1 in
+    let here = get_or_from_slice_get tree index.0 found.0 no_hop index.1 in
+    omega (arith, low index.0 no_hop (slice_get_within tree index.0 found.0 index.1), ap (λ (x : Hop). x.link) here, found.2)
 
 module _ (tree : List Hop) (before one two : List LaidHop) (many : ℕ) (groups : List Group) (few : length tree ≤ 200)
-    (low : All (λ (hop : Hop). hop.link < 4096) tree) (lays : LaysGroup tree None before one many) (b : AreBehind tree one two (length tree) groups) where
+    (low : All (λ (hop : Hop). hop.link < 4096) tree) (lays : LaysGroup tree None before one many) (b : AreAfter tree one two (length tree) groups) where
   front_two : (h : ℕ) → h < length one → branch_at two h ≡ branch_at one h
   front_two h inside = sym (get_or-take (length one) two h no_branch inside) ∙ ap (λ (xs : List LaidHop). get_or xs h no_branch) b.front
 
@@ -181,26 +181,26 @@ module _ (tree : List Hop) (before one two : List LaidHop) (many : ℕ) (groups 
     own_three h from inside =
         ap (λ l. list_any (λ (hop : Hop). hop.link == l) tree) (tied.links h) ∙ own_two h from (omega (arith, inside, tied.count))
 
-    behind_three : (h : ℕ) → length before ≤ h → h < length three → StandBehind tree (Some (branch_at three h).link) three (behind_at three h)
-    behind_three h from inside =
+    after_three : (h : ℕ) → length before ≤ h → h < length three → StandAfter tree (Some (branch_at three h).link) three (after_at three h)
+    after_three h from inside =
         let in_two : h < length two = omega (arith, inside, tied.count) in
         let link = (branch_at two h).link in
         let found = hop_of tree h (branch_at two h) (own_two h from in_two) in
-        let place = place_of_member tree found.0 found.1 in
-        let stands = b.each place.0 found.0 (slice_get_within tree place.0 found.0 place.1) place.1 in
-        let by_link : StandBehind tree (Some link) two (group_at groups link) =
-        subst (λ l. StandBehind tree (Some l) two (group_at groups l)) found.2 stands in
+        let index = index_of_member tree found.0 found.1 in
+        let stands = b.each index.0 found.0 (slice_get_within tree index.0 found.0 index.1) index.1 in
+        let by_link : StandAfter tree (Some link) two (group_at groups link) =
+        subst (λ l. StandAfter tree (Some l) two (group_at groups l)) found.2 stands in
         let in_three = stand_same tree (Some link) two three (group_at groups link) (omega (arith, tied.count)) (λ k below. tied.links k) by_link in
         let t = tied.tied h from in_two in
-        subst (λ l. StandBehind tree (Some l) three (behind_at three h)) (sym (tied.links h))
-        (subst (StandBehind tree (Some link) three) (λ i. record { first = sym t.0 i; many = sym t.1 i }) in_three)
+        subst (λ l. StandAfter tree (Some l) three (after_at three h)) (sym (tied.links h))
+        (subst (StandAfter tree (Some link) three) (λ i. record { first = sym t.0 i; many = sym t.1 i }) in_three)
 
-    beyond_three : (h : ℕ) → length before ≤ h → h < length three → length before ≤ (behind_at three h).first
+    beyond_three : (h : ℕ) → length before ≤ h → h < length three → length before ≤ (after_at three h).first
     beyond_three h from inside =
         let in_two : h < length two = omega (arith, inside, tied.count) in
         let found = hop_of tree h (branch_at two h) (own_two h from in_two) in
-        let place = place_of_member tree found.0 found.1 in
-        let later = b.beyond place.0 found.0 (slice_get_within tree place.0 found.0 place.1) place.1 in
+        let index = index_of_member tree found.0 found.1 in
+        let later = b.beyond index.0 found.0 (slice_get_within tree index.0 found.0 index.1) index.1 in
         let first = ap (λ l. (group_at groups l).first) found.2 in
         omega (arith, later, first, (tied.tied h from in_two).0, grown tree None before one many lays)
 
@@ -218,6 +218,6 @@ module _ (tree : List Hop) (before one two : List LaidHop) (many : ℕ) (groups 
               (stand_new tree None before one many lays));
           from = omega arith;
           own = own_three;
-          behind = behind_three;
+          following = after_three;
           beyond = beyond_three;
         }

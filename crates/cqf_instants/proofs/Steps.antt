@@ -6,15 +6,15 @@ use Rattle.std.specs.declared.vec.Vec.{Vec}
 use Rattle.cqf_model.specs.declared.frames.Started.{Started}
 use Rattle.cqf_model.specs.Book.{starts_of}
 use Rattle.cqf_instants.specs.declared.basis.Basis.{Basis}
-use Rattle.cqf_instants.specs.declared.lanes.Waiting.{Waiting}
+use Rattle.cqf_instants.specs.declared.queues.Waiting.{Waiting}
 use Rattle.cqf_instants.specs.declared.standing.Standing.{Standing}
 use Rattle.cqf_instants.specs.Entering.{CanPut, PutsOffers}
-use Rattle.cqf_instants.specs.Lanes.{caps_below, sum_below}
+use Rattle.cqf_instants.specs.Queues.{caps_below, sum_below}
 use Rattle.cqf_instants.specs.Laws.{TheLaws}
 use Rattle.cqf_instants.specs.Meaning.{CanSend, Given, SendsAll, SomeCanSend}
 use Rattle.cqf_instants.specs.Progress.{IsBasisOf, IsUnderWay, SomeBasis, starts_of_cycle}
-use Rattle.cqf_instants.specs.Telling.{AreEmptyLanes, IsReadyFor, room_at}
-use Rattle.cqf_instants.proofs.Telling.{can_put, can_send, ready_first, ready_next, room_for_all, same_room, starts_are}
+use Rattle.cqf_instants.specs.Reporting.{AreEmptyQueues, IsReadyFor, room_at}
+use Rattle.cqf_instants.proofs.Reporting.{can_put, can_send, ready_first, ready_next, room_for_all, same_room, starts_are}
 
 -- the starts of the computed cycles, and of one more
 pub starts_more : (given : Given) (cycle : ℕ) →
@@ -22,13 +22,13 @@ pub starts_more : (given : Given) (cycle : ℕ) →
 starts_more given cycle = ap (λ (n : ℕ). starts_of given.run.domain n given.net.carried) (sym (add-one cycle))
 
 -- a pass before its first cycle
-pub first_way : TheLaws → (basis : Basis) → SomeBasis basis → (now next : Vec (Vec Waiting Global) Global) (starts : Vec Started Global) (frames : ℕ) →
-    AreEmptyLanes basis.links.items basis.cycle_time basis.guard (length basis.offers.items) (length basis.links.items) now.items →
-    AreEmptyLanes basis.links.items basis.cycle_time basis.guard (length basis.offers.items) (length basis.links.items) next.items →
+pub first_under_way : TheLaws → (basis : Basis) → SomeBasis basis → (now next : Vec (Vec Waiting Global) Global) (starts : Vec Started Global) (frames : ℕ) →
+    AreEmptyQueues basis.links.items basis.cycle_time basis.guard (length basis.offers.items) (length basis.links.items) now.items →
+    AreEmptyQueues basis.links.items basis.cycle_time basis.guard (length basis.offers.items) (length basis.links.items) next.items →
     frames ≡ sum_below (room_at basis.links.items basis.cycle_time basis.guard (length basis.offers.items)) (length basis.links.items) →
     vec_capacity starts ≡ frames →
     IsUnderWay basis 0 (record { now = now; next = next; from = 0; begins = 0; starts = starts })
-first_way laws basis some now next starts frames one two are cap = record {
+first_under_way laws basis some now next starts frames one two are cap = record {
   some = some;
   within = omega arith;
   room = record {
@@ -41,17 +41,17 @@ first_way laws basis some now next starts frames one two are cap = record {
       is now.items next.items one two;
 }
 
-module _ (laws : TheLaws) (basis : Basis) (cycle : ℕ) (old : Standing) (way : IsUnderWay basis cycle old) (in_run : cycle < basis.cycles)
+module _ (laws : TheLaws) (basis : Basis) (cycle : ℕ) (old : Standing) (under_way : IsUnderWay basis cycle old) (in_run : cycle < basis.cycles)
     (small : cycle < 2 ^ 32) where
   -- what a run requires to send the cycle
   pub may_send : (given : Given) → IsBasisOf given basis →
       CanSend given basis.branches.items basis.links.items cycle old.begins old.now.items old.next.items
   may_send given is =
       can_send laws given basis.links.items basis.cycle_time basis.guard basis.cycles basis.branches.items basis.offers.items is
-      cycle old.begins old.from old.now.items old.next.items (way.ready given is) (omega (arith, in_run, is.are_cycles)) small
+      cycle old.begins old.from old.now.items old.next.items (under_way.ready given is) (omega (arith, in_run, is.are_cycles)) small
 
   pub some_may_send : SomeCanSend basis.branches.items basis.links.items cycle old.begins old.now.items old.next.items
-  some_may_send = record { given = way.some.given; can = may_send way.some.given way.some.is }
+  some_may_send = record { given = under_way.some.given; can = may_send under_way.some.given under_way.some.is }
 
   module _ (now next : List (Vec Waiting Global)) (starts : Vec Started Global)
       (sends : (given : Given) → CanSend given basis.branches.items basis.links.items cycle old.begins old.now.items old.next.items →
@@ -60,40 +60,40 @@ module _ (laws : TheLaws) (basis : Basis) (cycle : ℕ) (old : Standing) (way : 
     -- the offers can be put
     pub may_put : CanPut basis.offers.items old.from old.begins (old.begins + basis.cycle_time) basis.branches.items next
     may_put =
-        let given = way.some.given in
-        let is = way.some.is in
+        let given = under_way.some.given in
+        let is = under_way.some.is in
         can_put laws given basis.links.items basis.cycle_time basis.guard basis.cycles basis.branches.items basis.offers.items is
-        cycle old.begins old.from old.now.items old.next.items (way.ready given is) now next [] starts.items (omega (arith, in_run, is.are_cycles))
+        cycle old.begins old.from old.now.items old.next.items (under_way.ready given is) now next [] starts.items (omega (arith, in_run, is.are_cycles))
         (sends given (may_send given is))
 
     -- the starts are those of the cycle
-    pub starts_told : (given : Given) → IsBasisOf given basis → starts.items ≡ starts_of_cycle given cycle
-    starts_told given is =
+    pub starts_reported : (given : Given) → IsBasisOf given basis → starts.items ≡ starts_of_cycle given cycle
+    starts_reported given is =
         starts_are laws given basis.links.items basis.cycle_time basis.guard basis.cycles basis.branches.items basis.offers.items is
         cycle old.now.items now old.next.items next starts.items (sends given (may_send given is))
 
-    -- and the lanes are ready for the next one
-    pub next_way : (to : ℕ) (after before : Vec (Vec Waiting Global) Global) → before.items ≡ now →
+    -- and the queues are ready for the next one
+    pub next_under_way : (to : ℕ) (after before : Vec (Vec Waiting Global) Global) → before.items ≡ now →
         PutsOffers basis.offers.items old.begins (old.begins + basis.cycle_time) basis.branches.items next after.items to →
         IsUnderWay basis (cycle + 1) (record { now = after; next = before; from = to; begins = old.begins + basis.cycle_time; starts = starts })
-    next_way to after before is_now puts = record {
-      some = way.some;
+    next_under_way to after before is_now puts = record {
+      some = under_way.some;
       within = omega (arith, in_run);
       room = record {
-        now = omega (arith, way.room.next, cap, (rooms way.some.given way.some.is).0);
+        now = omega (arith, under_way.room.next, cap, (rooms under_way.some.given under_way.some.is).0);
         next = omega (
           arith,
-          way.room.now,
+          under_way.room.now,
           cap,
-          (rooms way.some.given way.some.is).1,
-          ap (λ (lanes : List (Vec Waiting Global)).
-              caps_below lanes (length basis.links.items)) is_now,
+          (rooms under_way.some.given under_way.some.is).1,
+          ap (λ (queues : List (Vec Waiting Global)).
+              caps_below queues (length basis.links.items)) is_now,
         );
       };
-      ready = λ given is. subst (λ (lanes : List (Vec Waiting Global)).
-          IsReadyFor given basis.offers.items (length basis.links.items) basis.branches.items (cycle + 1) (old.begins + basis.cycle_time) to after.items lanes)
+      ready = λ given is. subst (λ (queues : List (Vec Waiting Global)).
+          IsReadyFor given basis.offers.items (length basis.links.items) basis.branches.items (cycle + 1) (old.begins + basis.cycle_time) to after.items queues)
           (sym is_now) (ready_next laws given basis.links.items basis.cycle_time basis.guard basis.cycles basis.branches.items basis.offers.items is
-          cycle old.begins old.from to old.now.items old.next.items now next after.items [] starts.items (way.ready given is)
+          cycle old.begins old.from to old.now.items old.next.items now next after.items [] starts.items (under_way.ready given is)
           (sends given (may_send given is)) puts);
     }
       where
@@ -102,5 +102,5 @@ module _ (laws : TheLaws) (basis : Basis) (cycle : ℕ) (old : Standing) (way : 
             × (caps_below now (length basis.links.items) ≡ caps_below old.now.items (length basis.links.items))
         rooms given is =
             same_room laws given basis.links.items basis.cycle_time basis.guard basis.cycles basis.branches.items basis.offers.items is
-            cycle old.begins old.from to old.now.items old.next.items now next after.items [] starts.items (way.ready given is)
+            cycle old.begins old.from to old.now.items old.next.items now next after.items [] starts.items (under_way.ready given is)
             (sends given (may_send given is)) puts

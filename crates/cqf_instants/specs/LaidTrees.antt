@@ -3,16 +3,16 @@ use Rattle.std.specs.Prelude.{ℕ, true, ◌≡◌, ◌+◌, ◌*◌, ◌≤◌,
 use Rattle.std.specs.List.{list_any}
 use Rattle.cqf_model.specs.declared.topology.Hop.{Hop}
 use Rattle.cqf_model.specs.Table.{links_in}
-use Rattle.cqf_instants.specs.declared.lanes.LaidHop.{LaidHop}
+use Rattle.cqf_instants.specs.declared.queues.LaidHop.{LaidHop}
 use Rattle.cqf_instants.specs.Laid.{group_of}
-use Rattle.cqf_instants.specs.Lanes.{branch_at}
+use Rattle.cqf_instants.specs.Queues.{branch_at}
 use Rattle.cqf_instants.specs.Meaning.{links_at}
 use Rattle.cqf_instants.specs.declared.laying.Group.{Group}
 
--- contiguous branches have the links of the hops that follow a way
-pub record StandBehind (tree : List Hop) (way : Option ℕ) (branches : List LaidHop) (group : Group) : Type 0 where
+-- contiguous branches have the links of the hops that follow the link `ingress`, or that begin at the edge if it is none
+pub record StandAfter (tree : List Hop) (ingress : Option ℕ) (branches : List LaidHop) (group : Group) : Type 0 where
   pub inside : group.first + group.many ≤ length branches
-  pub links : links_at branches group.first group.many ≡ links_in (group_of tree way)
+  pub links : links_at branches group.first group.many ≡ links_in (group_of tree ingress)
 
 -- the group of a link
 abbrev pub group_at : List Group → ℕ → Group
@@ -23,12 +23,12 @@ abbrev pub is_of_tree : List Hop → ℕ → LaidHop → Type 0
 is_of_tree tree h branch = list_any (λ (hop : Hop). hop.link == branch.link) tree ≡ true
 
 -- after the given branches, those that follow each of the first `many` hops of a tree were appended
-pub record AreBehind (tree : List Hop) (before after : List LaidHop) (many : ℕ) (groups : List Group) : Type 0 where
+pub record AreAfter (tree : List Hop) (before after : List LaidHop) (many : ℕ) (groups : List Group) : Type 0 where
   pub count : length groups ≡ 4096
   pub longer : length before ≤ length after
   pub short : length after ≤ length before + 200 * many
   pub front : take (length before) after ≡ before
-  pub each : (k : ℕ) (hop : Hop) → k < many → slice_get tree k ≡ Some hop → StandBehind tree (Some hop.link) after (group_at groups hop.link)
+  pub each : (k : ℕ) (hop : Hop) → k < many → slice_get tree k ≡ Some hop → StandAfter tree (Some hop.link) after (group_at groups hop.link)
   pub beyond : (k : ℕ) (hop : Hop) → k < many → slice_get tree k ≡ Some hop → length before ≤ (group_at groups hop.link).first
   pub own : (h : ℕ) → length before ≤ h → h < length after → is_of_tree tree h (branch_at after h)
 
@@ -45,8 +45,8 @@ pub record AreTied (before after : List LaidHop) (from to : ℕ) (groups : List 
   pub front : (h : ℕ) → h < from → branch_at after h ≡ branch_at before h
 
 -- the group of the branches that follow a branch
-abbrev pub behind_at : List LaidHop → ℕ → Group
-behind_at branches h = let branch = branch_at branches h in record { first = branch.next; many = branch.many }
+abbrev pub after_at : List LaidHop → ℕ → Group
+after_at branches h = let branch = branch_at branches h in record { first = branch.next; many = branch.many }
 
 -- a tree was appended to the given branches: it begins with a group from the edge, and each branch of it refers to those that
 -- follow its link, which belong to the tree too
@@ -54,8 +54,8 @@ pub record IsLaidBranch (tree : List Hop) (before after : List LaidHop) (edge : 
   pub longer : length before ≤ length after
   pub short : length after ≤ length before + 40200
   pub front : (h : ℕ) → h < length before → branch_at after h ≡ branch_at before h
-  pub begins : StandBehind tree None after edge
+  pub begins : StandAfter tree None after edge
   pub from : length before ≤ edge.first
   pub own : (h : ℕ) → length before ≤ h → h < length after → is_of_tree tree h (branch_at after h)
-  pub behind : (h : ℕ) → length before ≤ h → h < length after → StandBehind tree (Some (branch_at after h).link) after (behind_at after h)
-  pub beyond : (h : ℕ) → length before ≤ h → h < length after → length before ≤ (behind_at after h).first
+  pub following : (h : ℕ) → length before ≤ h → h < length after → StandAfter tree (Some (branch_at after h).link) after (after_at after h)
+  pub beyond : (h : ℕ) → length before ≤ h → h < length after → length before ≤ (after_at after h).first

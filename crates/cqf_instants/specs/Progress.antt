@@ -5,16 +5,16 @@ use Rattle.cqf_model.specs.declared.frames.Started.{Started}
 use Rattle.cqf_model.specs.Book.{starts_in, starts_of}
 use Rattle.cqf_instants.specs.declared.basis.Basis.{Basis}
 use Rattle.cqf_instants.specs.declared.standing.Standing.{Standing}
-use Rattle.cqf_instants.specs.Lanes.{caps_below}
+use Rattle.cqf_instants.specs.Queues.{caps_below}
 use Rattle.cqf_instants.specs.Meaning.{Given}
-use Rattle.cqf_instants.specs.Telling.{CanTell, IsReadyFor}
+use Rattle.cqf_instants.specs.Reporting.{CanReport, IsReadyFor}
 
 -- a basis is that of a run, in its legal network
 abbrev pub IsBasisOf : Given → Basis → Type 0
 IsBasisOf given basis =
-    CanTell given basis.links.items basis.cycle_time basis.guard basis.cycles basis.branches.items basis.offers.items
+    CanReport given basis.links.items basis.cycle_time basis.guard basis.cycles basis.branches.items basis.offers.items
 
--- there is such a run
+-- a basis is that of some run, in its legal network
 pub record SomeBasis (basis : Basis) : Type 0 where
   pub given : Given
   pub is : IsBasisOf given basis
@@ -32,31 +32,31 @@ pub record AreStartsOf (basis : Basis) (starts : List Started) : Type 0 where
 -- the progress of a pass: its basis, the number of cycles computed so far, and the starts of the last of them
 pub record Progress : Type 0 where
   pub basis : Basis
-  pub told : ℕ
+  pub reported : ℕ
   pub starts : List Started
 
 -- the next cycle is computed: the starts are those of that cycle, in each run with this basis
-pub record TellsNext (old new : Progress) : Type 0 where
+pub record ReportsNext (old new : Progress) : Type 0 where
   pub basis : new.basis ≡ old.basis
-  pub in_run : old.told < old.basis.cycles
-  pub told : new.told ≡ old.told + 1
-  pub starts : (given : Given) → IsBasisOf given old.basis → new.starts ≡ starts_of_cycle given old.told
+  pub in_run : old.reported < old.basis.cycles
+  pub reported : new.reported ≡ old.reported + 1
+  pub starts : (given : Given) → IsBasisOf given old.basis → new.starts ≡ starts_of_cycle given old.reported
 
 -- all cycles are done, and the pass is unchanged
 pub record IsOver (old new : Progress) : Type 0 where
   pub same : new ≡ old
-  pub all : old.told ≡ old.basis.cycles
+  pub all : old.reported ≡ old.basis.cycles
 
--- the starts have room for what the lanes of this many links can hold
-pub record LaneHasRoomFor (links : ℕ) (standing : Standing) : Type 0 where
+-- the starts have room for what the queues of this many links can hold
+pub record QueueHasRoomFor (links : ℕ) (standing : Standing) : Type 0 where
   pub now : caps_below standing.now.items links ≤ vec_capacity standing.starts
   pub next : caps_below standing.next.items links ≤ vec_capacity standing.starts
 
--- `told` cycles are computed, and the lanes are ready for the next one, in each run with this basis
-pub record IsUnderWay (basis : Basis) (told : ℕ) (standing : Standing) : Type 0 where
+-- `reported` cycles are computed, and the queues are ready for the next one, in each run with this basis
+pub record IsUnderWay (basis : Basis) (reported : ℕ) (standing : Standing) : Type 0 where
   pub some : SomeBasis basis
-  pub within : told ≤ basis.cycles
-  pub room : LaneHasRoomFor (length basis.links.items) standing
+  pub within : reported ≤ basis.cycles
+  pub room : QueueHasRoomFor (length basis.links.items) standing
   pub ready : (given : Given) → IsBasisOf given basis →
-      IsReadyFor given basis.offers.items (length basis.links.items) basis.branches.items told standing.begins standing.from standing.now.items
+      IsReadyFor given basis.offers.items (length basis.links.items) basis.branches.items reported standing.begins standing.from standing.now.items
       standing.next.items

@@ -1,7 +1,7 @@
 //! What the starts of a run are computed from.
 
-use crate::lanes::LaidHop;
 use crate::offers::Entering;
+use crate::queues::LaidHop;
 use cqf_model::Link;
 
 /// What the starts of a run are computed from.

@@ -1,11 +1,11 @@
 //! Room for all frames that can wait.
 ghost use Rattle.std.specs.Prelude.{◌≡◌, ◌≤◌, ◌<◌, ◌^◌, IfOk, length, min};
 ghost use Rattle.cqf_units.specs.Timing.{ticks_of_octet};
-ghost use Rattle.cqf_instants.specs.Lanes.{sum_below};
+ghost use Rattle.cqf_instants.specs.Queues.{sum_below};
 ghost use Rattle.cqf_model.specs.Domain.{guard_by};
-ghost use Rattle.cqf_instants.specs.Telling.{AreEmptyLanes, AreGuardsShort, frames_in, room_at};
+ghost use Rattle.cqf_instants.specs.Reporting.{AreEmptyQueues, AreGuardsShort, frames_in, room_at};
 
-use crate::lanes::Waiting;
+use crate::queues::Waiting;
 use cqf_model::Link;
 use cqf_units::{Memory, Nanos, budget_octets};
 use std::alloc::Global;
@@ -31,15 +31,15 @@ pub(crate) fn frames_in_all(links: &[Link], cycle_time: u32, guard: u32, offers:
     ensures { result ≡ sum_below (room_at links.now cycle_time guard offers) (length links.now) }
 {
     let mut frames = 0;
-    for place in 0..links.len() {
-        frames += frames_in(&links[place], cycle_time, guard, offers);
+    for index in 0..links.len() {
+        frames += frames_in(&links[index], cycle_time, guard, offers);
     }
     frames
 }
 
-/// Returns an empty lane for each link, with room for all that it can hold if there are this many offers. Returns `Memory` if an
+/// Returns an empty queue for each link, with room for all that it can hold if there are this many offers. Returns `Memory` if an
 /// allocation fails.
-pub(crate) fn empty_lanes(
+pub(crate) fn empty_queues(
     alloc: Global,
     links: &[Link],
     cycle_time: u32,
@@ -47,12 +47,12 @@ pub(crate) fn empty_lanes(
     offers: usize,
 ) -> Result<Vec<Vec<Waiting>>, Memory>
     requires { AreGuardsShort links.now cycle_time guard }
-    ensures { IfOk result (λ lanes. AreEmptyLanes links.now cycle_time guard offers (length links.now) lanes.items) }
+    ensures { IfOk result (λ queues. AreEmptyQueues links.now cycle_time guard offers (length links.now) queues.items) }
 {
-    let mut lanes = Vec::new(alloc);
-    for place in 0..links.len() {
-        let frames = frames_in(&links[place], cycle_time, guard, offers);
-        lanes.push(Vec::with_capacity(alloc, frames)?)?;
+    let mut queues = Vec::new(alloc);
+    for index in 0..links.len() {
+        let frames = frames_in(&links[index], cycle_time, guard, offers);
+        queues.push(Vec::with_capacity(alloc, frames)?)?;
     }
-    Ok(lanes)
+    Ok(queues)
 }

@@ -5,11 +5,11 @@ ghost use Rattle.cqf_instants.specs.Meaning.{Given};
 ghost use Rattle.cqf_instants.specs.Progress.{IsBasisOf, IsUnderWay, SomeBasis, starts_of_cycle};
 
 use crate::basis::Basis;
-use crate::cycle::tell_links;
-use crate::lanes::Waiting;
+use crate::cycle::report_links;
 use crate::link::TimedCycle;
 use crate::offers::put_offers;
-use crate::rooms::{empty_lanes, frames_in_all};
+use crate::queues::Waiting;
+use crate::rooms::{empty_queues, frames_in_all};
 use cqf_model::Started;
 use cqf_units::{Cycle, Memory};
 use std::alloc::Global;
@@ -17,9 +17,9 @@ use std::alloc::Global;
 /// The state of a pass before a cycle.
 #[derive(Debug, Drop)]
 pub(crate) struct Standing {
-    /// A lane for each link, with what it sends in the next cycle.
+    /// A queue for each link, with what it sends in the next cycle.
     pub(crate) now: Vec<Vec<Waiting>>,
-    /// A lane for each link, with what it sends in the cycle after that: nothing yet.
+    /// A queue for each link, with what it sends in the cycle after that: nothing yet.
     pub(crate) next: Vec<Vec<Waiting>>,
     /// The index of the first offer of the next cycle or a later one.
     pub(crate) from: usize,
@@ -36,22 +36,22 @@ fn the_laws()
     cqf_laws_instants::batch_is_due();
     cqf_laws_instants::queue_has_room();
     cqf_laws_instants::what_a_cycle_queues();
-    cqf_laws_instants::lane_is_queued();
+    cqf_laws_instants::gathered_is_queued();
 }
 
 /// Returns the state of a pass before its first cycle, with all the memory that it will need. Returns `Memory` if an allocation
 /// fails.
 pub(crate) fn stand_at_first(alloc: Global, basis: &Basis) -> Result<Standing, Memory>
     requires { SomeBasis basis.now }
-    ensures way { IfOk result (IsUnderWay basis.now 0) }
+    ensures under_way { IfOk result (IsUnderWay basis.now 0) }
     ensures none { IfOk result (λ standing. standing.starts.items ≡ []) }
 {
     the_laws();
     let links = basis.links.as_slice();
     let entering = basis.offers.as_slice();
     let offers = entering.len();
-    let now = empty_lanes(alloc, links, basis.cycle_time, basis.guard, offers)?;
-    let next = empty_lanes(alloc, links, basis.cycle_time, basis.guard, offers)?;
+    let now = empty_queues(alloc, links, basis.cycle_time, basis.guard, offers)?;
+    let next = empty_queues(alloc, links, basis.cycle_time, basis.guard, offers)?;
     let frames = frames_in_all(links, basis.cycle_time, basis.guard, offers);
     let starts = Vec::with_capacity(alloc, frames)?;
     Ok(Standing {
@@ -64,10 +64,10 @@ pub(crate) fn stand_at_first(alloc: Global, basis: &Basis) -> Result<Standing, M
 }
 
 /// Computes the starts of a cycle, and moves the state to the next one.
-pub(crate) fn tell_cycle(basis: &Basis, cycle: u32, standing: &mut Standing)
-    requires way { IsUnderWay basis.now cycle standing.old }
+pub(crate) fn report_cycle(basis: &Basis, cycle: u32, standing: &mut Standing)
+    requires under_way { IsUnderWay basis.now cycle standing.old }
     requires in_run { cycle < basis.now.cycles }
-    ensures way { IsUnderWay basis.now (cycle + 1) standing.new }
+    ensures under_way { IsUnderWay basis.now (cycle + 1) standing.new }
     ensures starts { (given : Given) → IsBasisOf given basis.now → standing.new.starts.items ≡ starts_of_cycle given cycle }
 {
     the_laws();
@@ -75,7 +75,7 @@ pub(crate) fn tell_cycle(basis: &Basis, cycle: u32, standing: &mut Standing)
     let ends = begins + u64::from(basis.cycle_time);
     let branches = basis.branches.as_slice();
     standing.starts.clear();
-    tell_links(
+    report_links(
         basis.links.as_slice(),
         TimedCycle {
             number: Cycle(cycle),

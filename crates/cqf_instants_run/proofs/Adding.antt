@@ -212,20 +212,20 @@ module _ {X : Type 0} (cycles : ℕ) (before now : List Column) (f : ℕ → X �
       omega (arith, wide link there, so_far.as_wide link there)
 
 -- the hops of a tree, one by one
-module _ (cycles : ℕ) (before now : List Column) (hops : List Hop) (first octets i : ℕ) (hop : Hop) (depth : ℕ) (within : i < length hops)
-    (is : hop ≡ get_or hops i hop) (deep : depth ≡ hop.depth)
-    (so_far : AddsFrame cycles before now (λ l. sum_by (λ (h : Hop). counts_frames l cycles h.link (first + h.depth) octets) (take i hops))
-    (λ l c. sum_by (λ (h : Hop). counts_in l c h.link (first + h.depth) octets) (take i hops))) where
+module _ (cycles : ℕ) (before now : List Column) (hops : List Hop) (first octets i : ℕ) (hop : Hop) (hop_number : ℕ) (within : i < length hops)
+    (is : hop ≡ get_or hops i hop) (deep : hop_number ≡ hop.hop_number)
+    (so_far : AddsFrame cycles before now (λ l. sum_by (λ (h : Hop). counts_frames l cycles h.link (first + h.hop_number) octets) (take i hops))
+    (λ l c. sum_by (λ (h : Hop). counts_in l c h.link (first + h.hop_number) octets) (take i hops))) where
   -- what a hop counts for
   abbrev frames_of : ℕ → Hop → ℕ
-  frames_of l h = counts_frames l cycles h.link (first + h.depth) octets
+  frames_of l h = counts_frames l cycles h.link (first + h.hop_number) octets
 
   abbrev octets_of : ℕ → ℕ → Hop → ℕ
-  octets_of l c h = counts_in l c h.link (first + h.depth) octets
+  octets_of l c h = counts_in l c h.link (first + h.hop_number) octets
 
   -- there is room for one more
   pub room_for_hop : HaveRoomFor cycles before (λ l. sum_by (frames_of l) hops) (λ l c. sum_by (octets_of l c) hops) →
-      HaveRoomFor cycles now (λ l. counts_frames l cycles hop.link (first + depth) octets) (λ l c. counts_in l c hop.link (first + depth) octets)
+      HaveRoomFor cycles now (λ l. counts_frames l cycles hop.link (first + hop_number) octets) (λ l c. counts_in l c hop.link (first + hop_number) octets)
   room_for_hop room = record {
     for_frames = λ l inside.
         subst (λ (n : ℕ). frames_by now l + counts_frames l cycles hop.link (first + n) octets < 2 ^ 64) (sym deep)
@@ -237,7 +237,7 @@ module _ (cycles : ℕ) (before now : List Column) (hops : List Hop) (first octe
 
   -- and it is added
   pub hop_more : (after : List Column) →
-      AddsFrame cycles now after (λ l. counts_frames l cycles hop.link (first + depth) octets) (λ l c. counts_in l c hop.link (first + depth) octets) →
+      AddsFrame cycles now after (λ l. counts_frames l cycles hop.link (first + hop_number) octets) (λ l c. counts_in l c hop.link (first + hop_number) octets) →
       AddsFrame cycles before after (λ l. sum_by (frames_of l) (take (i + 1) hops)) (λ l c. sum_by (octets_of l c) (take (i + 1) hops))
   hop_more after one =
       adds_next cycles before now frames_of octets_of hops i hop within is so_far after

@@ -17,7 +17,7 @@ use Rattle.cqf_instants_run.specs.Frames.{by_instant}
 use Rattle.cqf_instants_run.specs.Sending.{Backs, PortStartsTheBackground}
 use Rattle.cqf_instants_run.specs.Taping.{BacksTheTraces, IsTracedRun, SomeTracedRun, TakeBackground, arrival_of_mark}
 use Rattle.cqf_laws_coverage.proofs.InTurn.{IsInTurn, run_in_turn}
-use Rattle.cqf_instants_run.proofs.Comes.{backs_are, told}
+use Rattle.cqf_instants_run.proofs.Comes.{backs_are, reported}
 use Rattle.cqf_instants_run.proofs.Feeds.{fed-nil}
 use Rattle.cqf_instants_run.proofs.Takings.{frames_on_links, may_take}
 use Rattle.cqf_instants_run.proofs.Traces.{background_more, links_stay, starts_stay}
@@ -32,7 +32,7 @@ backs_there gives law run net legal frames by l is_link =
     subst (λ (z : List Arrival). Backs run.domain end l (fed z (map (arrival_of_sent run.domain) (net.carried l))) (net.backed l))
     (backs_are gives run net legal l frames by)
     (law run.domain end l (comes_before run net.carried l (length run.tables)) (net.carried l) (net.backed l) legal.accepted is_link
-    (told gives run net legal l) (legal.legal.sends l is_link))
+    (reported gives run net legal l) (legal.legal.sends l is_link))
 
 module _ (d : Domain) (end : ℕ) (background : List Background) (traces : List Trace) (run : Run) (net : Network)
     (t : IsTracedRun d end background traces run net) where
@@ -41,14 +41,14 @@ module _ (d : Domain) (end : ℕ) (background : List Background) (traces : List 
   accepted = subst IsAccepted t.of_domain t.legal.accepted
 
   -- the background frames are allowed
-  behind : AreBackground d background
-  behind =
+  following : AreBackground d background
+  following =
       subst (λ (xs : List Background). AreBackground d xs) t.backed
       (subst (λ (e : Domain). AreBackground e run.background) t.of_domain t.legal.background)
 
   -- what the links carry is in order
-  turn : IsInTurn d (length run.tables) net.carried
-  turn = subst (λ (e : Domain). IsInTurn e (length run.tables) net.carried) t.of_domain (run_in_turn run net t.legal)
+  in_turn : IsInTurn d (length run.tables) net.carried
+  in_turn = subst (λ (e : Domain). IsInTurn e (length run.tables) net.carried) t.of_domain (run_in_turn run net t.legal)
 
   -- a trace's streams' frames arrive as what its link carries
   marks_are : (l : ℕ) → l < length d.links → map (arrival_of_mark d) (starts_at traces l) ≡ map (arrival_of_sent d) (net.carried l)
@@ -57,7 +57,7 @@ module _ (d : Domain) (end : ℕ) (background : List Background) (traces : List 
   module _ (frames : List Backed) (by : frames ≡ by_instant background end) where
     -- each background frame is on a link
     on_each_link : (links : ℕ) → links ≡ length d.links → All (λ (x : Backed). x.background.link < links) frames
-    on_each_link links same = frames_on_links d background end links frames behind by same
+    on_each_link links same = frames_on_links d background end links frames following by same
 
     -- by instant they are those of the run
     by_run : frames ≡ by_instant run.background (length run.tables * run.domain.cycle_time)
@@ -90,7 +90,7 @@ module _ (d : Domain) (end : ℕ) (background : List Background) (traces : List 
           let is_link : l < length d.links = omega (arith, inside, given.one_each) in
           let soon : length run.tables * d.cycle_time < 2 ^ 62 = omega (arith, t.ends, t.early) in
           subst AreTaken (ap₂ fed (sym (list_is l is_link)) (sym (marks_are l is_link)))
-          (may_take d (length run.tables) net.carried background frames accepted soon turn behind (by ∙ ap (by_instant background) t.ends) l is_link)
+          (may_take d (length run.tables) net.carried background frames accepted soon in_turn following (by ∙ ap (by_instant background) t.ends) l is_link)
 
       -- and the trace gets what the network starts
       trace_backed : GateGivesClass → PortStartsTheBackground → (l : ℕ) → l < length d.links →

@@ -11,11 +11,11 @@ use Rattle.cqf_model.specs.declared.frames.Sent.{Sent}
 use Rattle.cqf_model.specs.declared.frames.Started.{Started}
 use Rattle.cqf_model.specs.Book.{batch, started, starts_in, starts_of}
 use Rattle.cqf_model.specs.Domain.{Domain, cycle_of}
-use Rattle.cqf_model.specs.Traffic.{Carried}
+use Rattle.cqf_model.specs.Policing.{Carried}
 use Rattle.cqf_laws_coverage.proofs.InTurn.{IsInTurn, batches}
 use Rattle.cqf_instants_run.specs.Feeding.{arrival_of_sent, arrival_of_start, is_start_on, streams_fed_on}
 
-module _ (d : Domain) (cycles : ℕ) (carried : Carried) (some : 0 < d.cycle_time) (turn : IsInTurn d cycles carried) where
+module _ (d : Domain) (cycles : ℕ) (carried : Carried) (some : 0 < d.cycle_time) (in_turn : IsInTurn d cycles carried) where
   -- a start of a batch is on its link, in its cycle
   of_batch : (cycle l : ℕ) (x : Started) → Contains (starts_in d carried cycle l) x → x.link ≡ l
   of_batch cycle l x c = ap (λ (s : Started). s.link) (sym (contains_from_map (started cycle l) (batch d carried l cycle) x c).2)
@@ -46,7 +46,7 @@ module _ (d : Domain) (cycles : ℕ) (carried : Carried) (some : 0 < d.cycle_tim
       ∙ same_below (λ cycle. map arrival_of_start (starts_in d carried cycle l)) (λ cycle. map (arrival_of_sent d) (batch d carried l cycle)) cycles
       (λ cycle less. given_in l cycle)
       ∙ sym (map_below (arrival_of_sent d) (batch d carried l) cycles)
-      ∙ ap (map (arrival_of_sent d)) (sym (batches d cycles carried some turn l is_link))
+      ∙ ap (map (arrival_of_sent d)) (sym (batches d cycles carried some in_turn l is_link))
 
   -- each start is on a link of the domain
   pub starts_on_links : (x : Started) → Contains (starts_of d cycles carried) x → x.link < length d.links

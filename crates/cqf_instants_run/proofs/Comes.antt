@@ -13,9 +13,9 @@ use Rattle.cqf_model.specs.Network.{Network, QueuedFrame, arrivals_of, backed_at
 use Rattle.cqf_model.specs.Network.{comes_in, is_backed_at, numbered_background}
 use Rattle.cqf_model.specs.Network.{queued_before, queued_in}
 use Rattle.cqf_model.specs.Run.{IsBackground, Run}
-use Rattle.cqf_model.specs.Table.{depth_behind}
-use Rattle.cqf_model.specs.Traffic.{came_by, policed_before}
-use Rattle.cqf_laws_cycle.specs.Beside.{IsToldByClass, is_of_stream}
+use Rattle.cqf_model.specs.Table.{hop_number_after}
+use Rattle.cqf_model.specs.Policing.{came_by, policed_before}
+use Rattle.cqf_laws_cycle.specs.Beside.{IsReportedByClass, is_of_stream}
 use Rattle.cqf_laws_cycle.specs.Compiled.{GateGivesClass}
 use Rattle.cqf_laws_shift.specs.Run.{IsLegalRun}
 use Rattle.cqf_laws_shift.proofs.Queues.{gives_streams, queued_from}
@@ -54,12 +54,12 @@ module _ (gives : GateGivesClass) (run : Run) (net : Network) (legal : IsLegalRu
   queued_high : (end : ℕ) (q : QueuedFrame) → Contains (queued_before run net.carried l end) q → 6 ≤ q.arrival.class
   queued_high end q c =
       let from = queued_from d l (policed_before run net.carried (bridge_of d l) end) q c in
-      let given = gives d.cycle_time from.row.octets from.row.pace (depth_behind from.row (came_by from.p.received.way)) from.p.received.at some in
+      let given = gives d.cycle_time from.row.octets from.row.pace (hop_number_after from.row (came_by from.p.received.ingress)) from.p.received.at some in
       omega (arith, ap (λ (z : QueuedFrame). z.arrival.class) from.is, given, gives_streams (from.p.received.at / d.cycle_time))
 
   -- so what arrives is recognised by its class
-  pub told : All IsToldByClass comes
-  told = all_from_members IsToldByClass comes (λ q c. elim (comes_of run net.carried l (length run.tables) q c) [
+  pub reported : All IsReportedByClass comes
+  reported = all_from_members IsReportedByClass comes (λ q c. elim (comes_of run net.carried l (length run.tables) q c) [
     | inl back ↦
         let low = (All-contains (IsBackground d) run.background back.0 legal.background back.1).class_most in
         (λ e. omega (arith, low, back.3), λ e. back.2)

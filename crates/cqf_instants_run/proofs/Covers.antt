@@ -20,7 +20,7 @@ use Rattle.cqf_model.specs.Domain.{Domain}
 use Rattle.cqf_model.specs.History.{IsLegalHistory, Recorded, seals, streams_of}
 use Rattle.cqf_model.specs.Shift.{offer_cycle, taken_by}
 use Rattle.cqf_model.specs.Table.{is_held, is_live, residence}
-use Rattle.cqf_model.specs.Traffic.{Queued, DroppedFor, numbered}
+use Rattle.cqf_model.specs.Policing.{Queued, DroppedFor, numbered}
 use Rattle.cqf_laws_coverage.specs.Rows.{as_of}
 use Rattle.cqf_instants_run.specs.declared.judged.EdgeVerdict.{EdgeVerdict}
 use Rattle.cqf_instants_run.specs.declared.judged.Used.{Used}
@@ -29,27 +29,27 @@ use Rattle.cqf_instants_run.specs.Coverage.{AreJudged, JudgedFor, queued_as, use
 
 -- what the offers below an index have used of each live row in a cycle
 abbrev pub AreUsed : Domain → List Recorded → List Row → List Offer → ℕ → ℕ → List Used → Type 0
-AreUsed d entries rows offers place cycle used = (k : ℕ) (row : Row) → slice_get rows k ≡ Some row → is_live row cycle ≡ true → cycle < seals entries →
-    taken_by d row cycle (take place (numbered offers)) ≡ used_at used cycle k
+AreUsed d entries rows offers index cycle used = (k : ℕ) (row : Row) → slice_get rows k ≡ Some row → is_live row cycle ≡ true → cycle < seals entries →
+    taken_by d row cycle (take index (numbered offers)) ≡ used_at used cycle k
 
 -- so they are judged, and what they use is counted
-pub record IsFor (d : Domain) (entries : List Recorded) (rows : List Row) (offers : List Offer) (place cycle : ℕ) (used : List Used)
+pub record IsFor (d : Domain) (entries : List Recorded) (rows : List Row) (offers : List Offer) (index cycle : ℕ) (used : List Used)
     (edge_verdicts : List EdgeVerdict) : Type 0 where
-  pub judged : AreJudged d entries rows offers place edge_verdicts
-  pub counted : AreUsed d entries rows offers place cycle used
+  pub judged : AreJudged d entries rows offers index edge_verdicts
+  pub counted : AreUsed d entries rows offers index cycle used
 
 -- the same by a cycle, the last one of the offers below an index
-pub record CoversTo (d : Domain) (rows : List Row) (offers : List Offer) (place begun : ℕ) (place_of : List ℕ → Option ℕ) (used : List Used)
+pub record CoversTo (d : Domain) (rows : List Row) (offers : List Offer) (index begun : ℕ) (index_of : List ℕ → Option ℕ) (used : List Used)
     (edge_verdicts : List EdgeVerdict) : Type 0 where
   pub within : begun ≤ length rows
   pub counters : length used ≡ length rows
-  pub leads : LeadsToLast rows begun place_of
+  pub leads : LeadsToLast rows begun index_of
   pub cycle : ℕ
   pub begun_by : (k : ℕ) (row : Row) → k < begun → slice_get rows k ≡ Some row → row.admitted.0 ≤ cycle
-  pub passed : (y : Offered) → Contains (take place (numbered offers)) y → offer_cycle d y ≤ cycle
-  pub ahead : (offer : Offer) → slice_get offers place ≡ Some offer → cycle ≤ offer.at.0 / d.cycle_time
+  pub passed : (y : Offered) → Contains (take index (numbered offers)) y → offer_cycle d y ≤ cycle
+  pub ahead : (offer : Offer) → slice_get offers index ≡ Some offer → cycle ≤ offer.at.0 / d.cycle_time
   pub stamps : (k : ℕ) (u : Used) → slice_get used k ≡ Some u → u.cycle ≤ cycle
-  pub for_each : (entries : List Recorded) → IsLegalHistory d entries → streams_of d entries ≡ rows → IsFor d entries rows offers place cycle used edge_verdicts
+  pub for_each : (entries : List Recorded) → IsLegalHistory d entries → streams_of d entries ≡ rows → IsFor d entries rows offers index cycle used edge_verdicts
 
 -- the offer at an index, with its number
 pub numbered_at : (offers : List Offer) (p : ℕ) (offer : Offer) → slice_get offers p ≡ Some offer →
@@ -90,41 +90,41 @@ fresh used cycle later k stamps less inside =
     (ne_eqb u.cycle later (λ e. omega (arith, e, less, stamps k u (slice_get-get_or used k none inside))))
 
 -- the effect of a row's verdict on its own counter, and on another
-pub own_counter : (cycle place : ℕ) (before after : List Used) (j : EdgeVerdict) (live begins fits : Bool) (n : ℕ) → live ≡ true → place < length before →
-    JudgedFor cycle place before after j (if not live then Err Withdrawn
+pub own_counter : (cycle index : ℕ) (before after : List Used) (j : EdgeVerdict) (live begins fits : Bool) (n : ℕ) → live ≡ true → index < length before →
+    JudgedFor cycle index before after j (if not live then Err Withdrawn
     else (if not begins then Err OtherBridge else (if not fits then Err Octets else Ok n))) →
-    (if begins && fits then n else used_at before cycle place) ≡ used_at after cycle place
-own_counter cycle place before after j false begins fits n live inside by_row = absurd (true≢false (sym live))
-own_counter cycle place before after j true false fits n live inside by_row = ap (λ us. used_at us cycle place) (sym by_row.1)
-own_counter cycle place before after j true true false n live inside by_row = ap (λ us. used_at us cycle place) (sym by_row.1)
-own_counter cycle place before after j true true true n live inside by_row =
+    (if begins && fits then n else used_at before cycle index) ≡ used_at after cycle index
+own_counter cycle index before after j false begins fits n live inside by_row = absurd (true≢false (sym live))
+own_counter cycle index before after j true false fits n live inside by_row = ap (λ us. used_at us cycle index) (sym by_row.1)
+own_counter cycle index before after j true true false n live inside by_row = ap (λ us. used_at us cycle index) (sym by_row.1)
+own_counter cycle index before after j true true true n live inside by_row =
     let none : Used = record { cycle = 0; octets = 0 } in
     let u : Used = record { cycle = cycle; octets = n } in
-    sym (ap (λ us. used_at us cycle place) by_row.1
-    ∙ ap (used_in cycle) (get_or-set_same before place u none inside)
+    sym (ap (λ us. used_at us cycle index) by_row.1
+    ∙ ap (used_in cycle) (get_or-set_same before index u none inside)
     ∙ ap (λ b. if b then n else 0) (eq-eqb cycle cycle refl))
 
-pub other_counter : (cycle place k : ℕ) (before after : List Used) (j : EdgeVerdict) (r : Result ℕ Reason) → k ≢ place → JudgedFor cycle place before after j r →
+pub other_counter : (cycle index k : ℕ) (before after : List Used) (j : EdgeVerdict) (r : Result ℕ Reason) → k ≢ index → JudgedFor cycle index before after j r →
     used_at after cycle k ≡ used_at before cycle k
-other_counter cycle place k before after j (Err reason) other by_row = ap (λ us. used_at us cycle k) by_row.1
-other_counter cycle place k before after j (Ok n) other by_row =
+other_counter cycle index k before after j (Err reason) other by_row = ap (λ us. used_at us cycle k) by_row.1
+other_counter cycle index k before after j (Ok n) other by_row =
     let none : Used = record { cycle = 0; octets = 0 } in
     ap (λ us. used_at us cycle k) by_row.1
-    ∙ ap (used_in cycle) (get_or-set_other before place k (record { cycle = cycle; octets = n }) none other)
+    ∙ ap (used_in cycle) (get_or-set_other before index k (record { cycle = cycle; octets = n }) none other)
 
 -- and the verdict itself
-pub own_verdict : (rows : List Row) (cycle place : ℕ) (row : Row) (before after : List Used) (j : EdgeVerdict) (live begins fits also_fits : Bool) (n : ℕ) →
-    slice_get rows place ≡ Some row → (live ≡ true → fits ≡ also_fits) →
-    JudgedFor cycle place before after j (if not live then Err Withdrawn
+pub own_verdict : (rows : List Row) (cycle index : ℕ) (row : Row) (before after : List Used) (j : EdgeVerdict) (live begins fits also_fits : Bool) (n : ℕ) →
+    slice_get rows index ≡ Some row → (live ≡ true → fits ≡ also_fits) →
+    JudgedFor cycle index before after j (if not live then Err Withdrawn
     else (if not begins then Err OtherBridge else (if not fits then Err Octets else Ok n))) →
     verdict_of rows cycle j
     ≡ (if not live then DroppedFor Withdrawn else (if not begins then DroppedFor OtherBridge
     else (if not also_fits then DroppedFor Octets else Queued (as_of cycle row))))
-own_verdict rows cycle place row before after j false begins fits also_fits n at same by_row = ap (verdict_of rows cycle) by_row.0
-own_verdict rows cycle place row before after j true false fits also_fits n at same by_row = ap (verdict_of rows cycle) by_row.0
-own_verdict rows cycle place row before after j true true fits also_fits n at same by_row = by fits (same refl) by_row
+own_verdict rows cycle index row before after j false begins fits also_fits n at same by_row = ap (verdict_of rows cycle) by_row.0
+own_verdict rows cycle index row before after j true false fits also_fits n at same by_row = ap (verdict_of rows cycle) by_row.0
+own_verdict rows cycle index row before after j true true fits also_fits n at same by_row = by fits (same refl) by_row
   where
-    by : (b : Bool) → b ≡ also_fits → JudgedFor cycle place before after j (if not b then Err Octets else Ok n) →
+    by : (b : Bool) → b ≡ also_fits → JudgedFor cycle index before after j (if not b then Err Octets else Ok n) →
         verdict_of rows cycle j ≡ (if not also_fits then DroppedFor Octets else Queued (as_of cycle row))
     by true e by_row =
         ap (verdict_of rows cycle) by_row.0 ∙ ap (queued_as cycle) at ∙ ap (λ b. if not b then DroppedFor Octets else Queued (as_of cycle row)) e
@@ -138,15 +138,15 @@ same_there (suc n) zero v = refl
 same_there (suc n) (suc k) v = same_there n k v
 
 -- before the first offer nothing is judged
-pub covers_none : (d : Domain) (rows : List Row) (offers : List Offer) (place_of : List ℕ → Option ℕ) (used : List Used) (edge_verdicts : List EdgeVerdict) →
-    ((name : List ℕ) → place_of name ≡ None) → used ≡ replicate (length rows) (record { cycle = 0; octets = 0 }) → edge_verdicts ≡ [] →
-    CoversTo d rows offers 0 0 place_of used edge_verdicts
-covers_none d rows offers place_of used edge_verdicts nowhere none none_judged =
+pub covers_none : (d : Domain) (rows : List Row) (offers : List Offer) (index_of : List ℕ → Option ℕ) (used : List Used) (edge_verdicts : List EdgeVerdict) →
+    ((name : List ℕ) → index_of name ≡ None) → used ≡ replicate (length rows) (record { cycle = 0; octets = 0 }) → edge_verdicts ≡ [] →
+    CoversTo d rows offers 0 0 index_of used edge_verdicts
+covers_none d rows offers index_of used edge_verdicts nowhere none none_judged =
     let unused : Used = record { cycle = 0; octets = 0 } in
     record {
       within = omega arith;
       counters = ap length none ∙ length-replicate (length rows) unused;
-      leads = λ name. subst (IsLastBegun rows 0 name) (sym (nowhere name)) (λ place row below is. absurd (omega (arith, below)));
+      leads = λ name. subst (IsLastBegun rows 0 name) (sym (nowhere name)) (λ index row below is. absurd (omega (arith, below)));
       cycle = 0;
       begun_by = λ k row below is. absurd (omega (arith, below));
       passed = λ y inside. absurd (omega (arith, inside.1));
@@ -158,14 +158,14 @@ covers_none d rows offers place_of used edge_verdicts nowhere none none_judged =
                 ∙ same_there (length rows) k unused),
           );
       for_each = λ entries legal is. record {
-        judged = record { count = ap length none_judged; each = λ place x j below x_is j_is closed. absurd (omega (arith, below)) };
+        judged = record { count = ap length none_judged; each = λ index x j below x_is j_is closed. absurd (omega (arith, below)) };
         counted = λ k row is live closed. sym (ap (λ us. used_at us 0 k) none ∙ ap (used_in 0) (same_there (length rows) k unused));
       };
     }
 
 -- and after the last offer all are judged
-pub covers_all : (d : Domain) (rows : List Row) (offers : List Offer) (place begun : ℕ) (place_of : List ℕ → Option ℕ) (used : List Used)
-    (edge_verdicts : List EdgeVerdict) → place ≡ length offers → CoversTo d rows offers place begun place_of used edge_verdicts →
+pub covers_all : (d : Domain) (rows : List Row) (offers : List Offer) (index begun : ℕ) (index_of : List ℕ → Option ℕ) (used : List Used)
+    (edge_verdicts : List EdgeVerdict) → index ≡ length offers → CoversTo d rows offers index begun index_of used edge_verdicts →
     (entries : List Recorded) → IsLegalHistory d entries → streams_of d entries ≡ rows → AreJudged d entries rows offers (length offers) edge_verdicts
-covers_all d rows offers place begun place_of used edge_verdicts end all entries legal is =
+covers_all d rows offers index begun index_of used edge_verdicts end all entries legal is =
     subst (λ n. AreJudged d entries rows offers n edge_verdicts) end (all.for_each entries legal is).judged

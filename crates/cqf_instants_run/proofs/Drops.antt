@@ -25,7 +25,7 @@ use Rattle.cqf_model.specs.History.{Recorded, seals, table_at, tables_of}
 use Rattle.cqf_model.specs.HistoryBook.{IsBookOfHistory, run_of_history}
 use Rattle.cqf_model.specs.Run.{AreOffers, Run}
 use Rattle.cqf_model.specs.Shift.{IsUncovered, offer_cycle}
-use Rattle.cqf_model.specs.Traffic.{DroppedFor, Policed, Queued, numbered, policed_before}
+use Rattle.cqf_model.specs.Policing.{DroppedFor, Policed, Queued, numbered, policed_before}
 use Rattle.cqf_model.specs.Promise.{IsOfUncovered, SaysTheShift, IsDecided}
 use Rattle.cqf_model.proofs.Drops.{drops_at}
 use Rattle.cqf_book.specs.BookOrder.{in_book_order, is_drop_of}
@@ -38,8 +38,8 @@ use Rattle.cqf_instants_run.specs.declared.judged.EdgeVerdict.TheVariants as edg
 use Rattle.cqf_instants_run.specs.Coverage.{AreJudged, queued_as, verdict_of}
 use Rattle.cqf_instants_run.proofs.Covers.{numbered_at}
 use Rattle.cqf_instants_run.specs.Drops.{AreDropsBy, drop_at}
-use Rattle.cqf_instants_run.proofs.ByPlace.{by_place, drop_is_judged, drop_of_offer, frames_ascend, judged_is_drop}
-use Rattle.cqf_laws_coverage.proofs.Single.{IsDropOf, drop_of_place, one_drop}
+use Rattle.cqf_instants_run.proofs.ByIndex.{by_index, drop_is_judged, drop_of_offer, frames_ascend, judged_is_drop}
+use Rattle.cqf_laws_coverage.proofs.Single.{IsDropOf, drop_of_index, one_drop}
 
 -- there are as many numbers as offers
 many_numbers : (offers : List Offer) → length (numbered offers) ≡ length offers
@@ -59,20 +59,20 @@ module _ (decide : OffersAreJudged) (d : Domain) (entries : List Recorded) (offe
 
   -- the offer at an index, with its number
   abbrev placed : ℕ → Offer → Offered
-  placed place offer = record { frame = place + 1; offer = offer }
+  placed index offer = record { frame = index + 1; offer = offer }
 
   -- the verdict there is what the definitions say
-  decided_at : (place : ℕ) (offer : Offer) (j : EdgeVerdict) → place < length offers → slice_get offers place ≡ Some offer → slice_get edge_verdicts place ≡ Some j →
-      offer_cycle d (placed place offer) < cycles → IsDecided run (placed place offer) (verdict_of rows (offer_cycle d (placed place offer)) j)
-  decided_at place offer j inside at there in_run =
-      let x = placed place offer in
-      let stands = numbered_at offers place offer at in
-      subst (IsDecided run x) (sym (made.each place x j inside stands there (omega (arith, in_run, sealed))))
-      (decide d entries offers background cycles x sealed ordered (contains_at (numbered offers) place x stands) in_run)
+  decided_at : (index : ℕ) (offer : Offer) (j : EdgeVerdict) → index < length offers → slice_get offers index ≡ Some offer → slice_get edge_verdicts index ≡ Some j →
+      offer_cycle d (placed index offer) < cycles → IsDecided run (placed index offer) (verdict_of rows (offer_cycle d (placed index offer)) j)
+  decided_at index offer j inside at there in_run =
+      let x = placed index offer in
+      let stands = numbered_at offers index offer at in
+      subst (IsDecided run x) (sym (made.each index x j inside stands there (omega (arith, in_run, sealed))))
+      (decide d entries offers background cycles x sealed ordered (contains_at (numbered offers) index x stands) in_run)
 
   -- all drops by the verdicts
   abbrev pub by_edge_verdicts : List Dropped
-  by_edge_verdicts = by_place d.cycle_time cycles offers edge_verdicts (length offers)
+  by_edge_verdicts = by_index d.cycle_time cycles offers edge_verdicts (length offers)
 
   -- each is of an offer that isn't covered
   pub drop_is_uncovered : (x : Dropped) → Contains by_edge_verdicts x → IsOfUncovered run x
@@ -96,7 +96,7 @@ module _ (decide : OffersAreJudged) (d : Domain) (entries : List Recorded) (offe
       let both : DroppedFor other ≡ DroppedFor reason = sym (uncovered_judged run x other decided) ∙ uncovered_judged run x reason uncovered in
       let same : other ≡ reason = cc in
       ap (λ (r : Reason). edge_verdict.Dropped r) same
-  judged_so x cycle reason (edge_verdict.Covered place) uncovered decided = absurd (not_covered (slice_get rows place) decided)
+  judged_so x cycle reason (edge_verdict.Covered index) uncovered decided = absurd (not_covered (slice_get rows index) decided)
     where
       -- it has no row
       not_covered : (o : Option Row) → IsDecided run x (queued_as cycle o) → ⊥
@@ -150,67 +150,67 @@ module _ (decide : OffersAreJudged) (d : Domain) (entries : List Recorded) (offe
     in_cycle cycle = each_below (drops_in d (length offers) given cycle) (length d.bridges)
 
     -- a test for a cycle, a bridge and the number of an index tells what a drop has
-    has_keys : (cycle bridge place : ℕ) (x : Dropped) → is_drop_of cycle bridge (place + 1) x ≡ true → IsDropOf cycle bridge place x
-    has_keys cycle bridge place x e =
-        let first = and_parts (x.cycle.0 == cycle) ((x.bridge == bridge) && (x.frame == place + 1)) e in
-        let second = and_parts (x.bridge == bridge) (x.frame == place + 1) first.1 in
+    has_keys : (cycle bridge index : ℕ) (x : Dropped) → is_drop_of cycle bridge (index + 1) x ≡ true → IsDropOf cycle bridge index x
+    has_keys cycle bridge index x e =
+        let first = and_parts (x.cycle.0 == cycle) ((x.bridge == bridge) && (x.frame == index + 1)) e in
+        let second = and_parts (x.bridge == bridge) (x.frame == index + 1) first.1 in
         record {
           of_cycle = eqb-true x.cycle.0 cycle first.0;
           of_bridge = eqb-true x.bridge bridge second.0;
-          of_place = eqb-true x.frame (place + 1) second.1;
+          of_index = eqb-true x.frame (index + 1) second.1;
         }
 
-    passes : (cycle bridge place : ℕ) (x : Dropped) → IsDropOf cycle bridge place x → is_drop_of cycle bridge (place + 1) x ≡ true
-    passes cycle bridge place x k =
-        and_from (x.cycle.0 == cycle) ((x.bridge == bridge) && (x.frame == place + 1)) (eq-eqb x.cycle.0 cycle k.of_cycle)
-        (and_from (x.bridge == bridge) (x.frame == place + 1) (eq-eqb x.bridge bridge k.of_bridge) (eq-eqb x.frame (place + 1) k.of_place))
+    passes : (cycle bridge index : ℕ) (x : Dropped) → IsDropOf cycle bridge index x → is_drop_of cycle bridge (index + 1) x ≡ true
+    passes cycle bridge index x k =
+        and_from (x.cycle.0 == cycle) ((x.bridge == bridge) && (x.frame == index + 1)) (eq-eqb x.cycle.0 cycle k.of_cycle)
+        (and_from (x.bridge == bridge) (x.frame == index + 1) (eq-eqb x.bridge bridge k.of_bridge) (eq-eqb x.frame (index + 1) k.of_index))
 
     -- a drop of the book is one by the verdicts
-    from_book : (cycle bridge place : ℕ) → cycle < many → bridge < length d.bridges → place < length offers → (x : Dropped) →
-        Contains (drops_at d given cycle bridge place) x → Contains (filter (is_drop_of cycle bridge (place + 1)) by_edge_verdicts) x
-    from_book cycle bridge place in_run is_bridge is_place x c =
-        let placed_there = contains_below (drops_at d given cycle bridge) (length offers) place x is_place c in
+    from_book : (cycle bridge index : ℕ) → cycle < many → bridge < length d.bridges → index < length offers → (x : Dropped) →
+        Contains (drops_at d given cycle bridge index) x → Contains (filter (is_drop_of cycle bridge (index + 1)) by_edge_verdicts) x
+    from_book cycle bridge index in_run is_bridge is_index x c =
+        let placed_there = contains_below (drops_at d given cycle bridge) (length offers) index x is_index c in
         let bridged = contains_below (drops_in d (length offers) given cycle) (length d.bridges) bridge x is_bridge placed_there in
         let whole = contains_below in_cycle many cycle x in_run bridged in
-        contains_filter (is_drop_of cycle bridge (place + 1)) by_edge_verdicts x
+        contains_filter (is_drop_of cycle bridge (index + 1)) by_edge_verdicts x
         (uncovered_is_drop x (says.only_drops x (subst (λ (xs : List Dropped). Contains xs x) (sym is_book.is_book.are_drops) whole)))
-        (passes cycle bridge place x (drop_of_place d given cycle bridge place x c))
+        (passes cycle bridge index x (drop_of_index d given cycle bridge index x c))
 
     -- and one by the verdicts is in the book
-    to_book : (cycle bridge place : ℕ) (x : Dropped) → Contains (filter (is_drop_of cycle bridge (place + 1)) by_edge_verdicts) x →
-        Contains (drops_at d given cycle bridge place) x
-    to_book cycle bridge place x c =
-        let kept = contains_from_filter (is_drop_of cycle bridge (place + 1)) by_edge_verdicts x c in
-        let keys = has_keys cycle bridge place x kept.1 in
-        let told = subst (λ (xs : List Dropped). Contains xs x) is_book.is_book.are_drops (says.each_drop x (drop_is_uncovered x kept.0)) in
-        let by_cycle = contains_from_below in_cycle many x told in
+    to_book : (cycle bridge index : ℕ) (x : Dropped) → Contains (filter (is_drop_of cycle bridge (index + 1)) by_edge_verdicts) x →
+        Contains (drops_at d given cycle bridge index) x
+    to_book cycle bridge index x c =
+        let kept = contains_from_filter (is_drop_of cycle bridge (index + 1)) by_edge_verdicts x c in
+        let keys = has_keys cycle bridge index x kept.1 in
+        let reported = subst (λ (xs : List Dropped). Contains xs x) is_book.is_book.are_drops (says.each_drop x (drop_is_uncovered x kept.0)) in
+        let by_cycle = contains_from_below in_cycle many x reported in
         let by_bridge = contains_from_below (drops_in d (length offers) given by_cycle.0) (length d.bridges) x by_cycle.2 in
         let at = contains_from_below (drops_at d given by_cycle.0 by_bridge.0) (length offers) x by_bridge.2 in
-        let there = drop_of_place d given by_cycle.0 by_bridge.0 at.0 x at.2 in
+        let there = drop_of_index d given by_cycle.0 by_bridge.0 at.0 x at.2 in
         let same_cycle : by_cycle.0 ≡ cycle = sym there.of_cycle ∙ keys.of_cycle in
         let same_bridge : by_bridge.0 ≡ bridge = sym there.of_bridge ∙ keys.of_bridge in
-        let same_place : at.0 ≡ place = omega (arith, there.of_place, keys.of_place) in
-        subst (λ n. Contains (drops_at d given n bridge place) x) same_cycle
-        (subst (λ n. Contains (drops_at d given by_cycle.0 n place) x) same_bridge
-        (subst (λ n. Contains (drops_at d given by_cycle.0 by_bridge.0 n) x) same_place at.2))
+        let same_index : at.0 ≡ index = omega (arith, there.of_index, keys.of_index) in
+        subst (λ n. Contains (drops_at d given n bridge index) x) same_cycle
+        (subst (λ n. Contains (drops_at d given by_cycle.0 n index) x) same_bridge
+        (subst (λ n. Contains (drops_at d given by_cycle.0 by_bridge.0 n) x) same_index at.2))
 
     -- so for each offer the drops are the same
-    at_one_place : (cycle bridge place : ℕ) → cycle < many → bridge < length d.bridges → place < length offers →
-        drops_at d given cycle bridge place ≡ filter (is_drop_of cycle bridge (place + 1)) by_edge_verdicts
-    at_one_place cycle bridge place in_run is_bridge is_place =
-        let keep = is_drop_of cycle bridge (place + 1) in
+    at_one_index : (cycle bridge index : ℕ) → cycle < many → bridge < length d.bridges → index < length offers →
+        drops_at d given cycle bridge index ≡ filter (is_drop_of cycle bridge (index + 1)) by_edge_verdicts
+    at_one_index cycle bridge index in_run is_bridge is_index =
+        let keep = is_drop_of cycle bridge (index + 1) in
         let ascend : AllPairs (λ (a b : Dropped). a.frame < b.frame) (filter keep by_edge_verdicts) =
         AllPairs-filter (λ (a b : Dropped). a.frame < b.frame) keep by_edge_verdicts (frames_ascend d.cycle_time cycles offers edge_verdicts (length offers)) in
-        same_ordered (λ (a b : Dropped). ⊥) (λ x y none other. none) (drops_at d given cycle bridge place) (filter keep by_edge_verdicts)
-        (one_drop run is_book.is_book.net.carried (many * d.cycle_time) cycle bridge place)
+        same_ordered (λ (a b : Dropped). ⊥) (λ x y none other. none) (drops_at d given cycle bridge index) (filter keep by_edge_verdicts)
+        (one_drop run is_book.is_book.net.carried (many * d.cycle_time) cycle bridge index)
         (pairs_weaker (λ (a b : Dropped). a.frame < b.frame) (λ (a b : Dropped). ⊥) (filter keep by_edge_verdicts) (λ x z cx cz less.
         absurd (omega (
           arith,
           less,
-          (has_keys cycle bridge place x (contains_from_filter keep by_edge_verdicts x cx).1).of_place,
-          (has_keys cycle bridge place z (contains_from_filter keep by_edge_verdicts z cz).1).of_place,
+          (has_keys cycle bridge index x (contains_from_filter keep by_edge_verdicts x cx).1).of_index,
+          (has_keys cycle bridge index z (contains_from_filter keep by_edge_verdicts z cz).1).of_index,
         ))) ascend)
-        (from_book cycle bridge place in_run is_bridge is_place) (to_book cycle bridge place)
+        (from_book cycle bridge index in_run is_bridge is_index) (to_book cycle bridge index)
 
     -- no frame has the number 0
     none_0 : (cycle bridge : ℕ) → filter (is_drop_of cycle bridge 0) by_edge_verdicts ≡ []
@@ -232,9 +232,9 @@ module _ (decide : OffersAreJudged) (d : Domain) (entries : List Recorded) (offe
     at_one_bridge cycle bridge in_run is_bridge =
         let by : ℕ → List Dropped = λ frame. filter (is_drop_of cycle bridge frame) by_edge_verdicts in
         let next : suc (length offers) ≡ length offers + 1 = omega arith in
-        same_below (drops_at d given cycle bridge) (λ place. by (place + 1)) (length offers)
-        (λ place is_place. at_one_place cycle bridge place in_run is_bridge is_place)
-        ∙ ap (λ (xs : List Dropped). xs ++ each_below (λ place. by (place + 1)) (length offers)) (sym (none_0 cycle bridge))
+        same_below (drops_at d given cycle bridge) (λ index. by (index + 1)) (length offers)
+        (λ index is_index. at_one_index cycle bridge index in_run is_bridge is_index)
+        ∙ ap (λ (xs : List Dropped). xs ++ each_below (λ index. by (index + 1)) (length offers)) (sym (none_0 cycle bridge))
         ∙ sym (first_below by (length offers))
         ∙ ap (each_below by) next
 
@@ -253,7 +253,7 @@ module _ (decide : OffersAreJudged) (d : Domain) (entries : List Recorded) (offe
 pub drops_by_edge_verdicts : OffersAreJudged → BookOfHistorySaysTheShift →
     (d : Domain) (offers : List Offer) (cycles : ℕ) (edge_verdicts : List EdgeVerdict)
     (drops : List Dropped) → IsAccepted d → AreOffers d offers → StandInOrder offers →
-    drops ≡ in_book_order cycles (length d.bridges) (length offers + 1) (by_place d.cycle_time cycles offers edge_verdicts (length offers)) →
+    drops ≡ in_book_order cycles (length d.bridges) (length offers + 1) (by_index d.cycle_time cycles offers edge_verdicts (length offers)) →
     AreDropsBy d offers cycles edge_verdicts drops
 drops_by_edge_verdicts decide says d offers cycles edge_verdicts drops accepted offered ordered sorted entries rows legal made background book backed is_book =
     sorted

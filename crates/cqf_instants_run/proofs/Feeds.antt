@@ -58,9 +58,9 @@ start_elsewhere : (s : Started) (link : ℕ) → (s.link == link) ≡ false → 
 start_elsewhere = made_elsewhere (λ (s : Started). s.link) arrival_of_start
 
 -- if a link's port is given nothing, a start is skipped
-pub AddsStart-none : (lists : List (Vec Arrival Global)) (place : ℕ) (list d : Vec Arrival Global) (s : Started) → place ≡ s.link → place < length lists →
-    list ≡ get_or lists place d → length list.items ≡ 0 → AddsStart (lists_of lists) (lists_of lists) s
-AddsStart-none lists place list d s is below at empty = record { as_many = refl; each = λ link none inside. by link none (s.link == link) refl }
+pub AddsStart-none : (lists : List (Vec Arrival Global)) (index : ℕ) (list d : Vec Arrival Global) (s : Started) → index ≡ s.link → index < length lists →
+    list ≡ get_or lists index d → length list.items ≡ 0 → AddsStart (lists_of lists) (lists_of lists) s
+AddsStart-none lists index list d s is below at empty = record { as_many = refl; each = λ link none inside. by link none (s.link == link) refl }
   where
     -- its link has nothing, and the others are the same
     by : (link : ℕ) (none : List Arrival) → (b : Bool) → (s.link == link) ≡ b → get_or (lists_of lists) link none
@@ -68,16 +68,16 @@ AddsStart-none lists place list d s is below at empty = record { as_many = refl;
     by link none true e =
         let same : link ≡ s.link = grind (arith, nat_tests) in
         let nothing : get_or (lists_of lists) link none ≡ [] =
-        ap (λ k. get_or (lists_of lists) k none) (same ∙ sym is) ∙ get_or-map (λ (l : Vec Arrival Global). l.items) lists place d none below
+        ap (λ k. get_or (lists_of lists) k none) (same ∙ sym is) ∙ get_or-map (λ (l : Vec Arrival Global). l.items) lists index d none below
         ∙ ap (λ (l : Vec Arrival Global). l.items) (sym at) ∙ nil_from_length list.items empty in
         nothing ∙ ap (λ z. fed z (streams_fed_on link (s ∷ []))) (sym nothing)
     by link none false e = sym (fed-nil (get_or (lists_of lists) link none)) ∙ ap (fed (get_or (lists_of lists) link none)) (sym (start_elsewhere s link e))
 
 -- if it is given something, the start is appended
-pub AddsStart-some : (lists : List (Vec Arrival Global)) (after : List (List Arrival)) (place : ℕ) (list d : Vec Arrival Global) (s : Started)
-    → place ≡ s.link → place < length lists →
-    list ≡ get_or lists place d → 0 < length list.items → AddsTo (lists_of lists) after s.link (arrival_of_start s) → AddsStart (lists_of lists) after s
-AddsStart-some lists after place list d s is below at some adds =
+pub AddsStart-some : (lists : List (Vec Arrival Global)) (after : List (List Arrival)) (index : ℕ) (list d : Vec Arrival Global) (s : Started)
+    → index ≡ s.link → index < length lists →
+    list ≡ get_or lists index d → 0 < length list.items → AddsTo (lists_of lists) after s.link (arrival_of_start s) → AddsStart (lists_of lists) after s
+AddsStart-some lists after index list d s is below at some adds =
     record { as_many = adds.as_many; each = λ link none inside. by link none (s.link == link) refl }
   where
     -- its link's list has it, and the others are the same
@@ -86,7 +86,7 @@ AddsStart-some lists after place list d s is below at some adds =
     by link none true e =
         let same : link ≡ s.link = grind (arith, nat_tests) in
         let own : get_or (lists_of lists) link none ≡ list.items =
-        ap (λ k. get_or (lists_of lists) k none) (same ∙ sym is) ∙ get_or-map (λ (l : Vec Arrival Global). l.items) lists place d none below
+        ap (λ k. get_or (lists_of lists) k none) (same ∙ sym is) ∙ get_or-map (λ (l : Vec Arrival Global). l.items) lists index d none below
         ∙ ap (λ (l : Vec Arrival Global). l.items) (sym at) in
         ap (λ (k : ℕ). get_or after k none) same ∙ adds.own none ∙ ap (λ (k : ℕ). get_or (lists_of lists) k none ++ arrival_of_start s ∷ []) (sym same)
         ∙ ap (λ z. z ++ arrival_of_start s ∷ []) own ∙ sym (given_whole list.items (arrival_of_start s ∷ []) some)

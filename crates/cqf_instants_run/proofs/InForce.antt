@@ -53,20 +53,20 @@ over row cycle end is h =
 -- the row at an optional index
 abbrev pub row_there : List Row → Option ℕ → Option Row
 row_there rows None = None
-row_there rows (Some place) = slice_get rows place
+row_there rows (Some index) = slice_get rows index
 
 module _ (rows : List Row) (begun cycle : ℕ) (name : List ℕ)
     (follow : AllPairs (λ (a b : Row). a.name ≡ b.name → EndsBefore a b) rows)
     (rise : AllPairs (λ (a b : Row). a.admitted.0 ≤ b.admitted.0) rows)
-    (begun_by : (place : ℕ) (row : Row) → place < begun → slice_get rows place ≡ Some row → row.admitted.0 ≤ cycle)
+    (begun_by : (index : ℕ) (row : Row) → index < begun → slice_get rows index ≡ Some row → row.admitted.0 ≤ cycle)
     (next : (row : Row) → slice_get rows begun ≡ Some row → cycle < row.admitted.0) (within : begun ≤ length rows) where
   -- the test of a row in force
   abbrev test : Row → Bool
   test row = is_text row.name name && is_held row cycle
 
   -- no row after those that have begun is held
-  behind : (j : ℕ) (y : Row) → begun ≤ j → slice_get rows j ≡ Some y → is_held y cycle ≡ false
-  behind j y from at = elim (cases_eq begun j) [
+  following : (j : ℕ) (y : Row) → begun ≤ j → slice_get rows j ≡ Some y → is_held y cycle ≡ false
+  following j y from at = elim (cases_eq begun j) [
     | inl e ↦ late y cycle (next y (ap (slice_get rows) e ∙ at))
     | inr n ↦ (let inside = slice_get_within rows j y at in
         let first = get_or rows begun y in
@@ -91,23 +91,23 @@ module _ (rows : List Row) (begun cycle : ℕ) (name : List ℕ)
   not_named y f = ap (λ b. b && is_held y cycle) f
 
   -- a row of the name before its last one has ended
-  before_last : (place : ℕ) (last : IsLastOf rows begun name place) (j : ℕ) (y : Row) → j < place → slice_get rows j ≡ Some y →
+  before_last : (index : ℕ) (last : IsLastOf rows begun name index) (j : ℕ) (y : Row) → j < index → slice_get rows j ≡ Some y →
       is_text y.name name ≡ true → is_held y cycle ≡ false
-  before_last place last j y l at named =
+  before_last index last j y l at named =
       let names : y.name ≡ last.row.name = is_text_same y.name name named ∙ sym (is_text_same last.row.name name last.named) in
       let here : get_or rows j y ≡ y = get_or_from_slice_get rows j y y at in
-      let there : get_or rows place y ≡ last.row = get_or_from_slice_get rows place last.row y last.is in
+      let there : get_or rows index y ≡ last.row = get_or_from_slice_get rows index last.row y last.is in
       let ends : EndsBefore y last.row = subst (λ (b : Row). y.name ≡ b.name → EndsBefore y b) there
-      (subst (λ (a : Row). a.name ≡ (get_or rows place y).name → EndsBefore a (get_or rows place y)) here
-      (follow j place y l (slice_get_within rows place last.row last.is))) names in
-      over y cycle ends.end ends.is (omega (arith, ends.over, begun_by place last.row last.below last.is))
+      (subst (λ (a : Row). a.name ≡ (get_or rows index y).name → EndsBefore a (get_or rows index y)) here
+      (follow j index y l (slice_get_within rows index last.row last.is))) names in
+      over y cycle ends.end ends.is (omega (arith, ends.over, begun_by index last.row last.below last.is))
 
   -- if the last one is known
-  one : (place : ℕ) → IsHeldLast rows begun name cycle place → find test rows ≡ slice_get rows place
-  one place held =
-      find_at test rows place held.last.row held.last.is (both (is_text held.last.row.name name) (is_held held.last.row cycle) held.last.named held.held)
+  one : (index : ℕ) → IsHeldLast rows begun name cycle index → find test rows ≡ slice_get rows index
+  one index held =
+      find_at test rows index held.last.row held.last.is (both (is_text held.last.row.name name) (is_held held.last.row cycle) held.last.named held.held)
       (λ j y l at. elim (cases_Bool (is_text y.name name)) [
-        | inl t ↦ not_held y (before_last place held.last j y l at t)
+        | inl t ↦ not_held y (before_last index held.last j y l at t)
         | inr f ↦ not_named y f
       ]) ∙ sym held.last.is
     where
@@ -118,7 +118,7 @@ module _ (rows : List Row) (begun cycle : ℕ) (name : List ℕ)
   -- and if it isn't held, or there is none
   none : (o : Option ℕ) → IsLastBegun rows begun name o → IsInForce rows begun name cycle None → (j : ℕ) (y : Row) → slice_get rows j ≡ Some y → test y ≡ false
   none o leads in_force j y at = elim (cases_lt j begun) [
-    | inr from ↦ not_held y (behind j y from at)
+    | inr from ↦ not_held y (following j y from at)
     | inl below ↦ elim (cases_Bool (is_text y.name name)) [
       | inr f ↦ not_named y f
       | inl t ↦ not_held y (by o leads j y at below t in_force)
@@ -131,15 +131,15 @@ module _ (rows : List Row) (begun cycle : ℕ) (name : List ℕ)
       by : (o : Option ℕ) → IsLastBegun rows begun name o → (j : ℕ) (y : Row) → slice_get rows j ≡ Some y → j < begun → is_text y.name name ≡ true →
           IsInForce rows begun name cycle None → is_held y cycle ≡ false
       by None have j y at below t in_force = absurd (true_not_false (sym t ∙ have j y below at))
-      by (Some place) last j y at below t in_force = elim (cases_lt j place) [
-        | inl l ↦ before_last place last j y l at t
-        | inr more ↦ elim (cases_eq j place) [
-          | inl e ↦ ap (λ (r : Row). is_held r cycle) (one_there rows place y last.row (ap (slice_get rows) (sym e) ∙ at) last.is) ∙ in_force place last
+      by (Some index) last j y at below t in_force = elim (cases_lt j index) [
+        | inl l ↦ before_last index last j y l at t
+        | inr more ↦ elim (cases_eq j index) [
+          | inl e ↦ ap (λ (r : Row). is_held r cycle) (one_there rows index y last.row (ap (slice_get rows) (sym e) ∙ at) last.is) ∙ in_force index last
           | inr n ↦ absurd (true_not_false (sym t ∙ last.later j y (omega (arith, n, more)) below at))
         ]
       ]
 
-  pub found : (place_of : List ℕ → Option ℕ) → LeadsToLast rows begun place_of → (o : Option ℕ) → IsInForce rows begun name cycle o →
+  pub found : (index_of : List ℕ → Option ℕ) → LeadsToLast rows begun index_of → (o : Option ℕ) → IsInForce rows begun name cycle o →
       find (λ (row : Row). is_text row.name name && is_held row cycle) rows ≡ row_there rows o
-  found place_of leads None in_force = find_none test rows (none (place_of name) (leads name) in_force)
-  found place_of leads (Some place) held = one place held
+  found index_of leads None in_force = find_none test rows (none (index_of name) (leads name) in_force)
+  found index_of leads (Some index) held = one index held

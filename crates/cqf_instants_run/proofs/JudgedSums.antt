@@ -16,11 +16,11 @@ use Rattle.cqf_model.proofs.Links.{budget_within}
 use Rattle.cqf_model.specs.History.{IsLegalHistory, Recorded, seals}
 use Rattle.cqf_model.specs.Run.{AreOffers}
 use Rattle.cqf_model.specs.Shift.{offer_cycle}
-use Rattle.cqf_model.specs.Traffic.{Verdict, numbered}
+use Rattle.cqf_model.specs.Policing.{Verdict, numbered}
 use Rattle.cqf_laws_coverage.specs.declared.column.Column.{Column}
 use Rattle.cqf_laws_coverage.specs.Counted.{counts_frames, counts_in, hops_of, sum_of_hops}
 use Rattle.cqf_laws_coverage.specs.Judged.{StandInOrder, judged_of}
-use Rattle.cqf_laws_coverage.specs.Told.{CellsFit}
+use Rattle.cqf_laws_coverage.specs.Reported.{CellsFit}
 use Rattle.cqf_laws_coverage.proofs.Counts.{second_fails}
 use Rattle.cqf_laws_coverage.proofs.Matched.{sum_same}
 use Rattle.cqf_instants_run.specs.declared.judged.EdgeVerdict.{EdgeVerdict}
@@ -34,26 +34,26 @@ use Rattle.cqf_instants_run.proofs.Offers.{numbered_all}
 module _ (d : Domain) (cycles : ℕ) (counts : ℕ → ℕ → ℕ → ℕ) (later : (link cycle octets : ℕ) → cycles ≤ cycle → counts link cycle octets ≡ 0) where
   -- what an offer counts
   abbrev of : (Offered → Verdict) → Offered → ℕ
-  of verdict x = sum_by (λ (hop : Hop). counts hop.link (offer_cycle d x + hop.depth) x.offer.octets) (hops_of (verdict x))
+  of verdict x = sum_by (λ (hop : Hop). counts hop.link (offer_cycle d x + hop.hop_number) x.offer.octets) (hops_of (verdict x))
 
   -- nothing after the cycles
   none : (verdict : Offered → Verdict) (x : Offered) → cycles ≤ offer_cycle d x → of verdict x ≡ 0
   none verdict x late =
-      sum_none (λ (hop : Hop). counts hop.link (offer_cycle d x + hop.depth) x.offer.octets) (hops_of (verdict x))
-      (λ hop c. later hop.link (offer_cycle d x + hop.depth) x.offer.octets (omega (arith, late)))
+      sum_none (λ (hop : Hop). counts hop.link (offer_cycle d x + hop.hop_number) x.offer.octets) (hops_of (verdict x))
+      (λ hop c. later hop.link (offer_cycle d x + hop.hop_number) x.offer.octets (omega (arith, late)))
 
   same_hops : (first second : Offered → Verdict) (xs : List Offered) →
       ((x : Offered) → Contains xs x → offer_cycle d x < cycles → first x ≡ second x) → sum_of_hops d first counts xs ≡ sum_of_hops d second counts xs
   same_hops first second xs agree = sum_same (of first) (of second) xs (λ x c. elim (cases_lt (offer_cycle d x) cycles) [
-    | inl early ↦ ap (λ (v : Verdict). sum_by (λ (hop : Hop). counts hop.link (offer_cycle d x + hop.depth) x.offer.octets) (hops_of v)) (agree x c early)
+    | inl early ↦ ap (λ (v : Verdict). sum_by (λ (hop : Hop). counts hop.link (offer_cycle d x + hop.hop_number) x.offer.octets) (hops_of v)) (agree x c early)
     | inr late ↦ none first x late ∙ sym (none second x late)
   ])
 
 module _ (d : Domain) (entries : List Recorded) (rows : List Row) (offers : List Offer) (edge_verdicts : List EdgeVerdict)
     (judged : AreJudged d entries rows offers (length offers) edge_verdicts) (cycles : ℕ) (closed : cycles ≤ seals entries) where
   -- the verdict at an offer's index is the verdict on it
-  pub at_place : (x : Offered) → Contains (numbered offers) x → offer_cycle d x < cycles → verdict_at d rows edge_verdicts x ≡ judged_of d entries offers x
-  at_place x c early =
+  pub at_index : (x : Offered) → Contains (numbered offers) x → offer_cycle d x < cycles → verdict_at d rows edge_verdicts x ≡ judged_of d entries offers x
+  at_index x c early =
       let k = c.0 in
       let inside : k < length offers = omega (arith, c.1, numbered_all offers) in
       let among : k < length edge_verdicts = omega (arith, inside, judged.count) in
@@ -73,14 +73,14 @@ module _ (d : Domain) (entries : List Recorded) (rows : List Row) (offers : List
       ≡ sum_of_hops d (judged_of d entries offers) (counts_frames link cycles) (numbered offers)
   frames_same link = same_hops d cycles (counts_frames link cycles)
       (λ l c octets past. second_fails (l == link) (nat_lt c cycles) 1 (le-ltb c cycles past))
-      (verdict_at d rows edge_verdicts) (judged_of d entries offers) (numbered offers) at_place
+      (verdict_at d rows edge_verdicts) (judged_of d entries offers) (numbered offers) at_index
 
   octets_same : (link cycle : ℕ) → cycle < cycles → sum_of_hops d (verdict_at d rows edge_verdicts) (counts_in link cycle) (numbered offers)
       ≡ sum_of_hops d (judged_of d entries offers) (counts_in link cycle) (numbered offers)
   octets_same link cycle in_run =
       same_hops d cycles (counts_in link cycle)
       (λ l c octets past. second_fails (l == link) (c == cycle) octets (ne_eqb c cycle (λ e. omega (arith, e, past, in_run))))
-      (verdict_at d rows edge_verdicts) (judged_of d entries offers) (numbered offers) at_place
+      (verdict_at d rows edge_verdicts) (judged_of d entries offers) (numbered offers) at_index
 
   -- so each cell has room
   pub judged_room : CellsFit → IsAccepted d → IsLegalHistory d entries → AreOffers d offers → StandInOrder offers →

@@ -30,36 +30,36 @@ same_name a b = elim (cases_Bool (is_text a b)) [
 module _ (rows : List Row) (p : ℕ) (row : Row) (is : slice_get rows p ≡ Some row) where
   -- a row of another name changes nothing
   still : (name : List ℕ) (o : Option ℕ) → IsLastBegun rows p name o → is_text row.name name ≡ false → IsLastBegun rows (p + 1) name o
-  still name None none other = λ place there below at. elim (cases_eq place p) [
+  still name None none other = λ index there below at. elim (cases_eq index p) [
     | inl e ↦ ap (λ (r : Row). is_text r.name name) (one_there rows p there row (ap (slice_get rows) (sym e) ∙ at) is) ∙ other
-    | inr n ↦ none place there (omega (arith, n, below)) at
+    | inr n ↦ none index there (omega (arith, n, below)) at
   ]
   still name (Some last) l other = record {
     row = l.row;
     is = l.is;
     below = omega (arith, l.below);
     named = l.named;
-    later = λ place there above below at. elim (cases_eq place p) [
+    later = λ index there above below at. elim (cases_eq index p) [
       | inl e ↦ ap (λ (r : Row). is_text r.name name) (one_there rows p there row (ap (slice_get rows) (sym e) ∙ at) is) ∙ other
-      | inr n ↦ l.later place there above (omega (arith, n, below)) at
+      | inr n ↦ l.later index there above (omega (arith, n, below)) at
     ];
   }
 
   -- one row more is the last of its name
-  pub leads_more : (place_of after : List ℕ → Option ℕ) → LeadsToLast rows p place_of →
-      ((name : List ℕ) → after name ≡ cond (pointwise nat_eq row.name name) (Some p) (place_of name)) → LeadsToLast rows (p + 1) after
-  leads_more place_of after leads updates name = elim (cases_Bool (is_text row.name name)) [
-    | inl t ↦ subst (IsLastBegun rows (p + 1) name) (sym (updates name ∙ ap (λ b. cond b (Some p) (place_of name)) (same_name row.name name ∙ t)))
-        (record { row = row; is = is; below = omega arith; named = t; later = λ place there above below at. absurd (omega (arith, above, below)) })
-    | inr f ↦ subst (IsLastBegun rows (p + 1) name) (sym (updates name ∙ ap (λ b. cond b (Some p) (place_of name)) (same_name row.name name ∙ f)))
-        (still name (place_of name) (leads name) f)
+  pub leads_more : (index_of after : List ℕ → Option ℕ) → LeadsToLast rows p index_of →
+      ((name : List ℕ) → after name ≡ cond (pointwise nat_eq row.name name) (Some p) (index_of name)) → LeadsToLast rows (p + 1) after
+  leads_more index_of after leads updates name = elim (cases_Bool (is_text row.name name)) [
+    | inl t ↦ subst (IsLastBegun rows (p + 1) name) (sym (updates name ∙ ap (λ b. cond b (Some p) (index_of name)) (same_name row.name name ∙ t)))
+        (record { row = row; is = is; below = omega arith; named = t; later = λ index there above below at. absurd (omega (arith, above, below)) })
+    | inr f ↦ subst (IsLastBegun rows (p + 1) name) (sym (updates name ∙ ap (λ b. cond b (Some p) (index_of name)) (same_name row.name name ∙ f)))
+        (still name (index_of name) (leads name) f)
   ]
 
 -- if all have begun, there is no next one
-pub begins_all : (rows : List Row) (from k cycle : ℕ) (place_of : List ℕ → Option ℕ) → length rows ≤ k → Begins rows from k cycle place_of →
-    HasBegun rows from (length rows) cycle place_of
-begins_all rows from k cycle place_of all b = record {
-  begins = subst (λ n. Begins rows from n cycle place_of) (same k (length rows) all b.within) b;
+pub begins_all : (rows : List Row) (from k cycle : ℕ) (index_of : List ℕ → Option ℕ) → length rows ≤ k → Begins rows from k cycle index_of →
+    HasBegun rows from (length rows) cycle index_of
+begins_all rows from k cycle index_of all b = record {
+  begins = subst (λ n. Begins rows from n cycle index_of) (same k (length rows) all b.within) b;
   next = λ row there. absurd (omega (arith, slice_get_within rows (length rows) row there));
 }
   where
@@ -80,8 +80,8 @@ last_once rows begun name p q a b = elim (cases_eq p q) [
     true_not_false e = absurd cc
 
 -- if a name leads nowhere, no row of it is the last
-pub none_last : (rows : List Row) (begun : ℕ) (name : List ℕ) (place : ℕ) → HaveNone rows begun name → IsLastOf rows begun name place → ⊥
-none_last rows begun name place none l = true_not_false (sym l.named ∙ none place l.row l.below l.is)
+pub none_last : (rows : List Row) (begun : ℕ) (name : List ℕ) (index : ℕ) → HaveNone rows begun name → IsLastOf rows begun name index → ⊥
+none_last rows begun name index none l = true_not_false (sym l.named ∙ none index l.row l.below l.is)
   where
     true_not_false : true ≡ false → ⊥
     true_not_false e = absurd cc

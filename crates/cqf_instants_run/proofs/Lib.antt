@@ -8,7 +8,7 @@ pub mod Runs
 pub mod Adding
 pub mod Offers
 pub mod JudgedSums
-pub mod ByPlace
+pub mod ByIndex
 pub mod Drops
 pub mod OfParts
 pub mod StartCounts

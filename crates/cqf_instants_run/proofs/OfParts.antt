@@ -25,7 +25,7 @@ use Rattle.cqf_laws_history.specs.HistoryLaws.{TablesAreOrderly}
 use Rattle.cqf_laws_shift.specs.Run.{IsLegalRun}
 use Rattle.cqf_laws_shift.proofs.QueuesByCycles.{comes_of}
 use Rattle.cqf_lists.proofs.EachBelow.{length-singles}
-use Rattle.cqf_laws_coverage.specs.Told.{BookOfHistoryIsThere, IsThere}
+use Rattle.cqf_laws_coverage.specs.Reported.{BookOfHistoryIsThere, IsThere}
 use Rattle.cqf_instants_run.specs.Parts.{AreBookOfHistory, AreQuietBookOfHistory}
 
 -- a stream's frame starts no background frame
@@ -67,20 +67,20 @@ module _ (run : Run) (quiet : run.background ≡ []) (net : Network) (legal : Is
 -- the parts are the book
 pub parts_are_book : TablesAreOrderly → BookOfHistoryIsThere → (starts backed : List Started) (drops : List Dropped) →
     AreBookOfHistory starts backed drops (record { starts = starts; background = backed; drops = drops })
-parts_are_book are_orderly is_there starts backed drops d entries offers background cycles accepted legal offered behind sealed are_starts
+parts_are_book are_orderly is_there starts backed drops d entries offers background cycles accepted legal offered following sealed are_starts
     are_backed are_drops =
-    let found = is_there d entries offers background cycles accepted legal offered behind sealed in
+    let found = is_there d entries offers background cycles accepted legal offered following sealed in
     let book : Contents = found.0 in
     let there : IsThere d entries offers background cycles book = found.1 in
     let one = there.is_book.is_book in
     let is_legal : IsLegalRun (run_of_history d entries offers background cycles) one.net =
-    record { accepted = accepted; orderly = are_orderly d entries cycles legal sealed; offered = offered; background = behind; legal = one.legal } in
+    record { accepted = accepted; orderly = are_orderly d entries cycles legal sealed; offered = offered; background = following; legal = one.legal } in
     let many : cycles ≡ length (tables_of d entries cycles) = sym (length-singles (table_at d entries) cycles) in
     let first : starts ≡ book.starts =
     are_starts one.net is_legal ∙ ap (λ n. starts_of d n one.net.carried) many ∙ sym one.are_starts in
     let second : backed ≡ book.background =
     are_backed one.net is_legal ∙ ap (λ n. background_of d n one.net.backed) many ∙ sym one.are_background in
-    let third : drops ≡ book.drops = are_drops background book behind there.is_book in
+    let third : drops ≡ book.drops = are_drops background book following there.is_book in
     let parts : Contents = record { starts = starts; background = backed; drops = drops } in
     let same : book ≡ parts =
     λ i. record { starts = sym first i; background = sym second i; drops = sym third i } in

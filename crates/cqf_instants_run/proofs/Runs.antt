@@ -27,7 +27,7 @@ use Rattle.cqf_model.specs.Run.{AreOffers, IsBackground, Run}
 use Rattle.cqf_model.specs.Shift.{IsUncovered, offer_cycle}
 use Rattle.cqf_model.specs.Paces.{each_cycle}
 use Rattle.cqf_model.specs.Table.{is_live, row_named, table_of}
-use Rattle.cqf_model.specs.Traffic.{DroppedFor, Queued, numbered}
+use Rattle.cqf_model.specs.Policing.{DroppedFor, Queued, numbered}
 use Rattle.cqf_model.specs.Promise.{IsDecided}
 use Rattle.cqf_laws_shift.specs.Run.{IsLegalRun}
 use Rattle.cqf_laws_shift.proofs.Decided.{covered_judged, uncovered_judged}
@@ -37,15 +37,15 @@ use Rattle.cqf_laws_instants.specs.QueueLaws.{CoveringCovers, covering, covers, 
 use Rattle.cqf_laws_coverage.specs.Judged.{OffersAreJudged, StandInOrder}
 use Rattle.cqf_laws_coverage.specs.Rows.{AsLive, RowsSayTheTables, as_of}
 use Rattle.cqf_instants.specs.declared.basis.Basis.{Basis}
-use Rattle.cqf_instants.specs.declared.lanes.LaidHop.{LaidHop}
+use Rattle.cqf_instants.specs.declared.queues.LaidHop.{LaidHop}
 use Rattle.cqf_instants.specs.declared.offers.Entering.{Entering}
 use Rattle.cqf_instants.specs.Entering.{AreEntering, GoesByRow, IsEntering, StandByInstant, offer_at}
-use Rattle.cqf_instants.specs.Lanes.{branch_at}
+use Rattle.cqf_instants.specs.Queues.{branch_at}
 use Rattle.cqf_instants.specs.Meaning.{AreBranches, AreHops, Given}
 use Rattle.cqf_instants.specs.OfRun.{SomeRun, given_with}
 use Rattle.cqf_instants.specs.Progress.{IsBasisOf}
 use Rattle.cqf_instants.specs.declared.laying.Group.{Group}
-use Rattle.cqf_instants.specs.LaidTrees.{behind_at, group_at}
+use Rattle.cqf_instants.specs.LaidTrees.{after_at, group_at}
 use Rattle.cqf_instants_run.specs.declared.judged.EdgeVerdict.{EdgeVerdict}
 use Rattle.cqf_instants_run.specs.declared.judged.EdgeVerdict.TheVariants.{Covered, Dropped}
 use Rattle.cqf_instants_run.specs.Coverage.{queued_as, verdict_of}
@@ -57,7 +57,7 @@ use Rattle.cqf_instants_run.proofs.Streams.{few_streams, in_table, live_as, live
 use Rattle.cqf_instants_run.proofs.Streams.{while_live}
 
 abbrev no_row : Row
-no_row = record { no = 0; name = []; octets = 0; pace = each_cycle; tree = record { items = [] }; admitted = record { 0 = 0 }; withdrawn = None }
+no_row = record { no = 0; name = []; octets = 0; overhead = 0; pace = each_cycle; tree = record { items = [] }; admitted = record { 0 = 0 }; withdrawn = None }
 
 -- there are as many numbered offers as offers
 numbered_count : (offers : List Offer) → length (numbered offers) ≡ length offers
@@ -109,17 +109,17 @@ module _ (d : Domain) (rows : List Row) (offers : List Offer) (edge_verdicts : L
   abbrev row_at : ℕ → Row
   row_at h = while_live (get_or rows (laid.row_of h) no_row)
 
-  row_is : (h place : ℕ) (row : Row) → laid.row_of h ≡ place → slice_get rows place ≡ Some row → row_at h ≡ while_live row
-  row_is h place row at is =
-      ap (λ (p : ℕ). while_live (get_or rows p no_row)) at ∙ ap while_live (get_or_from_slice_get rows place row no_row is)
+  row_is : (h index : ℕ) (row : Row) → laid.row_of h ≡ index → slice_get rows index ≡ Some row → row_at h ≡ while_live row
+  row_is h index row at is =
+      ap (λ (p : ℕ). while_live (get_or rows p no_row)) at ∙ ap while_live (get_or_from_slice_get rows index row no_row is)
 
   -- laid hops of a row's tree are the hops of that tree in each run
-  are_hops : (given : Given) → given.row_at ≡ row_at → (place : ℕ) (row : Row) (way : Option ℕ) (group : Group) → slice_get rows place ≡ Some row →
-      AreHopsOf laid.row_of place row.tree.items way branches group → AreHops given branches group.first group.many (while_live row) way
-  are_hops given same place row way group is hops = record {
+  are_hops : (given : Given) → given.row_at ≡ row_at → (index : ℕ) (row : Row) (ingress : Option ℕ) (group : Group) → slice_get rows index ≡ Some row →
+      AreHopsOf laid.row_of index row.tree.items ingress branches group → AreHops given branches group.first group.many (while_live row) ingress
+  are_hops given same index row ingress group is hops = record {
     inside = hops.stand.inside;
     links = hops.stand.links;
-    rows = λ k below. ap (λ (f : ℕ → Row). f (group.first + k)) same ∙ row_is (group.first + k) place row (hops.owned k below) is;
+    rows = λ k below. ap (λ (f : ℕ → Row). f (group.first + k)) same ∙ row_is (group.first + k) index row (hops.owned k below) is;
   }
 
   -- an offer by its index, with its verdict
@@ -165,8 +165,8 @@ module _ (d : Domain) (rows : List Row) (offers : List Offer) (edge_verdicts : L
     rise = λ i j le inside. elim (cases_eq i j) [
       | inl e ↦ omega (arith, ap (λ (k : ℕ). (offer_at entering k).at) e)
       | inr n ↦ (let below : j < length offers = omega (arith, inside, entered.count) in
-          let first = at_place i (omega (arith, le, below)) in
-          let second = at_place j below in
+          let first = at_index i (omega (arith, le, below)) in
+          let second = at_index j below in
           let x : Offer = record { at = record { 0 = 0 }; bridge = 0; stream = []; octets = 0 } in
           omega (arith, first x, second x, ordered i j x (omega (arith, le, n)) below))
     ];
@@ -181,14 +181,14 @@ module _ (d : Domain) (rows : List Row) (offers : List Offer) (edge_verdicts : L
           entered.each k (get_or offers k x) (get_or edge_verdicts k (Dropped Unknown)) below (slice_get-get_or offers k x below)
           (slice_get-get_or edge_verdicts k (Dropped Unknown) (omega (arith, below, count)))
 
-      at_place : (k : ℕ) → k < length offers → (x : Offer) → (offer_at entering k).at ≡ (get_or offers k x).at.0
-      at_place k below x = ap (λ (e : Entering). e.at) (is_at k x below)
+      at_index : (k : ℕ) → k < length offers → (x : Offer) → (offer_at entering k).at ≡ (get_or offers k x).at.0
+      at_index k below x = ap (λ (e : Entering). e.at) (is_at k x below)
 
       fits : Group → Type 0
       fits group = group.first + group.many ≤ length branches
 
       by_edge_verdict : (edge_verdict : EdgeVerdict) → fits (group_for groups edge_verdict)
-      by_edge_verdict (Covered place) = laid.inside place
+      by_edge_verdict (Covered index) = laid.inside index
       by_edge_verdict (Dropped reason) = omega arith
 
       by_time : (early : Bool) (edge_verdict : EdgeVerdict) → fits (if early then group_for groups edge_verdict else no_group)
@@ -209,8 +209,8 @@ module _ (d : Domain) (rows : List Row) (offers : List Offer) (edge_verdicts : L
     few_branches = omega (arith, laid.few, few_streams d entries is.legal, ap length is.streams)
 
     -- a row is a stream of the history
-    its_stream : (place : ℕ) (row : Row) → slice_get rows place ≡ Some row → Contains (streams_of d entries) row
-    its_stream place row at = subst (λ (xs : List Row). Contains xs row) (sym is.streams) (contains_at rows place row at)
+    its_stream : (index : ℕ) (row : Row) → slice_get rows index ≡ Some row → Contains (streams_of d entries) row
+    its_stream index row at = subst (λ (xs : List Row). Contains xs row) (sym is.streams) (contains_at rows index row at)
 
     module _ (background : List Background) (net : Network) where
       abbrev run : Run
@@ -235,8 +235,8 @@ module _ (d : Domain) (rows : List Row) (offers : List Offer) (edge_verdicts : L
               All-contains (λ (hop : Hop). hop.link < length d.links) row.tree.items found.0 (tree_now d entries row is.legal member).inside found.1,
               eqb-true found.0.link link found.2,
             );
-            behind = subst (λ (r : Row). AreHops given branches (branch_at branches h).next (branch_at branches h).many r (Some link)) (sym same)
-                (are_hops given refl (laid.row_of h) row (Some link) (behind_at branches h) b.is b.behind);
+            following = subst (λ (r : Row). AreHops given branches (branch_at branches h).next (branch_at branches h).many r (Some link)) (sym same)
+                (are_hops given refl (laid.row_of h) row (Some link) (after_at branches h) b.is b.following);
           }
 
       module _ (x : Offered) (inside : Contains (numbered offers) x) (at : IsPlaced x) where
@@ -252,22 +252,22 @@ module _ (d : Domain) (rows : List Row) (offers : List Offer) (edge_verdicts : L
         goes_by_none : covering run x ≡ None → goes no_group
         goes_by_none none = subst (GoesByRow given branches 0 0) (sym none) refl
 
-        by_row : (place : ℕ) (found : Option Row) → slice_get rows place ≡ found → offer_cycle d x < cycles →
-            IsDecided run x (queued_as (offer_cycle d x) found) → goes (group_at groups place)
-        by_row place None none early v = absurd v
-        by_row place (Some row) there early is_covered =
+        by_row : (index : ℕ) (found : Option Row) → slice_get rows index ≡ found → offer_cycle d x < cycles →
+            IsDecided run x (queued_as (offer_cycle d x) found) → goes (group_at groups index)
+        by_row index None none early v = absurd v
+        by_row index (Some row) there early is_covered =
             let c = offer_cycle d x in
             let live : is_live row c ≡ true = sym (as_live row c) ∙ is_covered.live in
             let some : covering run x ≡ Some (while_live row) = (covers run x (as_of c row) inside).1 is_covered
             ∙ ap (λ (r : Row). Some r) (live_as row c live) in
-            let group = group_at groups place in
+            let group = group_at groups index in
             subst (GoesByRow given branches group.first group.many) (sym some)
-            (are_hops given refl place row None group there
-            (laid.begin place row (slice_get_within rows place row there) there (live_below row c cycles live early)))
+            (are_hops given refl index row None group there
+            (laid.begin index row (slice_get_within rows index row there) there (live_below row c cycles live early)))
 
         by_edge_verdict : (edge_verdict : EdgeVerdict) → offer_cycle d x < cycles → IsDecided run x (verdict_of rows (offer_cycle d x) edge_verdict) →
             goes (group_for groups edge_verdict)
-        by_edge_verdict (Covered place) early v = by_row place (slice_get rows place) refl early v
+        by_edge_verdict (Covered index) early v = by_row index (slice_get rows index) refl early v
         by_edge_verdict (Dropped reason) early v = goes_by_none (covering_none covers run x reason inside v)
 
         some_time : 0 < d.cycle_time

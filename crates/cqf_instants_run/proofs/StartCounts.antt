@@ -16,7 +16,7 @@ abbrev pub many_before : List Transmission → ℕ → ℕ
 many_before xs t = length (filter (is_before t) xs)
 
 -- a start is at that index
-pub record StandsBehind (xs : List Transmission) (x d : Transmission) : Type 0 where
+pub record StandsAfter (xs : List Transmission) (x d : Transmission) : Type 0 where
   pub inside : many_before xs x.1 < length xs
   pub same : get_or xs (many_before xs x.1) d ≡ x
 
@@ -29,13 +29,13 @@ none_before y x xs pairs e = filter_none (is_before x.1) (y ∷ xs) (λ z h. le-
     later : (z : Transmission) → Contains (y ∷ xs) z → x.1 ≤ z.1
     later z h = elim (contains_cases y xs z h) [
       | inl first ↦ omega (arith, ap (λ (w : Transmission). w.1) e, ap (λ (w : Transmission). w.1) first)
-      | inr behind ↦ omega (arith, ap (λ (w : Transmission). w.1) e, pairs_head (λ (a b : Transmission). a.1 < b.1) y xs z pairs behind)
+      | inr following ↦ omega (arith, ap (λ (w : Transmission). w.1) e, pairs_head (λ (a b : Transmission). a.1 < b.1) y xs z pairs following)
     ]
 
 -- each start of the list is at that index
-pub stands_behind : (xs : List Transmission) (x d : Transmission) → AllPairs (λ (a b : Transmission). a.1 < b.1) xs → Contains xs x → StandsBehind xs x d
-stands_behind [] x d pairs c = absurd (contains_none x c)
-stands_behind (y ∷ xs) x d pairs c = elim (contains_cases y xs x c) [
+pub stands_after : (xs : List Transmission) (x d : Transmission) → AllPairs (λ (a b : Transmission). a.1 < b.1) xs → Contains xs x → StandsAfter xs x d
+stands_after [] x d pairs c = absurd (contains_none x c)
+stands_after (y ∷ xs) x d pairs c = elim (contains_cases y xs x c) [
   | inl e ↦
       let none : many_before (y ∷ xs) x.1 ≡ 0 = ap length (none_before y x xs pairs e) in
       record { inside = omega (arith, none); same = ap (λ k. get_or (y ∷ xs) k d) none ∙ e }
@@ -43,7 +43,7 @@ stands_behind (y ∷ xs) x d pairs c = elim (contains_cases y xs x c) [
       let first = cond-true (nat_lt y.1 x.1) (y ∷ filter (is_before x.1) xs) (filter (is_before x.1) xs)
       (lt-ltb y.1 x.1 (pairs_head (λ (a b : Transmission). a.1 < b.1) y xs x pairs h)) in
       let more : many_before (y ∷ xs) x.1 ≡ suc (many_before xs x.1) = ap length first in
-      let rest = stands_behind xs x d (pairs_tail (λ (a b : Transmission). a.1 < b.1) y xs pairs) h in
+      let rest = stands_after xs x d (pairs_tail (λ (a b : Transmission). a.1 < b.1) y xs pairs) h in
       record { inside = omega (arith, more, rest.inside); same = ap (λ k. get_or (y ∷ xs) k d) more ∙ rest.same }
 ]
 
@@ -52,7 +52,7 @@ pub many_at : (xs : List Transmission) (k : ℕ) (d : Transmission) → AllPairs
     many_before xs (get_or xs k d).1 ≡ k
 many_at xs k d pairs inside =
     let x = get_or xs k d in
-    let at = stands_behind xs x d pairs (Contains-get_or xs k d inside) in
+    let at = stands_after xs x d pairs (Contains-get_or xs k d inside) in
     let same : (get_or xs (many_before xs x.1) d).1 ≡ x.1 = ap (λ (w : Transmission). w.1) at.same in
     elim (cases_order (many_before xs x.1) k) [
       | inl e ↦ e

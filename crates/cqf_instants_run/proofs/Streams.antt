@@ -17,7 +17,7 @@ use Rattle.cqf_model.specs.Domain.{Domain}
 use Rattle.cqf_model.specs.History.{Act, Admits, IsLegalHistory, Recorded, Seals, Withdraws, held_in, is_seal, seals}
 use Rattle.cqf_model.specs.History.{stream_by, streams_of, table_at, tables_of}
 use Rattle.cqf_model.specs.Table.{is_held, is_live, table_of}
-use Rattle.cqf_laws_history.proofs.Places.{admitted_at, admitted_before, sealed-suc, sealed_before, withdrawn_before, with_end}
+use Rattle.cqf_laws_history.proofs.Indices.{admitted_at, admitted_before, sealed-suc, sealed_before, withdrawn_before, with_end}
 use Rattle.cqf_laws_coverage.specs.Rows.{RowsSayTheTables, as_of, end_as_of}
 use Rattle.cqf_laws_coverage.proofs.Rows.{all_streams}
 use Rattle.cqf_instants_run.proofs.Covers.{live_held}
@@ -26,7 +26,7 @@ use Rattle.cqf_instants_run.specs.Laid.{is_live_below}
 -- a row as the tables have it while its stream is live: its end is not yet known
 abbrev pub while_live : Row → Row
 while_live row =
-    record { no = row.no; name = row.name; octets = row.octets; pace = row.pace; tree = row.tree; admitted = row.admitted; withdrawn = None }
+    record { no = row.no; name = row.name; octets = row.octets; overhead = row.overhead; pace = row.pace; tree = row.tree; admitted = row.admitted; withdrawn = None }
 
 -- an entry is a Seal, or admits at most one stream
 one_or_seal : (d : Domain) (entries : List Recorded) (effect : ℕ) (act : Act) (reply : Reply) →
@@ -80,7 +80,7 @@ no_end row cycle live = by row.withdrawn live
 pub live_as : (row : Row) (cycle : ℕ) → is_live row cycle ≡ true → as_of cycle row ≡ while_live row
 live_as row cycle live =
     ap (λ (end : Option Cycle). let made : Row =
-    record { no = row.no; name = row.name; octets = row.octets; pace = row.pace; tree = row.tree; admitted = row.admitted; withdrawn = end } in made) (no_end row cycle live)
+    record { no = row.no; name = row.name; octets = row.octets; overhead = row.overhead; pace = row.pace; tree = row.tree; admitted = row.admitted; withdrawn = end } in made) (no_end row cycle live)
 
 -- and a stream that is live in one of the first cycles is live in the cycle of its admission
 pub live_below : (row : Row) (cycle cycles : ℕ) → is_live row cycle ≡ true → cycle < cycles → is_live_below cycles row ≡ true

@@ -18,7 +18,7 @@ use Rattle.cqf_model.specs.Domain.{Domain, IsAccepted, cycle_of}
 use Rattle.cqf_model.specs.Network.{numbered_background}
 use Rattle.cqf_model.specs.Port.{no_arrival}
 use Rattle.cqf_model.specs.Run.{AreBackground, IsBackground}
-use Rattle.cqf_model.specs.Traffic.{Carried}
+use Rattle.cqf_model.specs.Policing.{Carried}
 use Rattle.cqf_laws_cycle.specs.Compiled.{open_class}
 use Rattle.cqf_port.specs.PortState.{AreTaken}
 use Rattle.cqf_laws_shift.proofs.Came.{placed_member}
@@ -79,12 +79,12 @@ sent_class cycle = either (cycle % 2 == 0)
 -- a background frame of a run by instant is allowed, and has its instant
 pub of_background : (d : Domain) (background : List Background) (end : ℕ) (x : Backed) → AreBackground d background → Contains (by_instant background end) x →
     IsBackground d x.background
-of_background d background end x behind c =
+of_background d background end x following c =
     let t = contains_from_below (λ t. filter (is_at t) (numbered_background background)) end x c in
     let kept = contains_from_filter (is_at t.0) (numbered_background background) x t.2 in
     let placed = contains_from_map the_backed (enumerate_from 1 background) x kept.0 in
     let member = placed_member 1 background placed.0.0 placed.0.1 placed.1 in
-    subst (λ (z : Backed). IsBackground d z.background) placed.2 (All-contains (IsBackground d) background placed.0.1 behind member.0)
+    subst (λ (z : Backed). IsBackground d z.background) placed.2 (All-contains (IsBackground d) background placed.0.1 following member.0)
   where
     -- a background frame with its number
     the_backed : ℕ × Background → Backed
@@ -106,14 +106,14 @@ in_order background end =
     when t x c = eqb-true x.background.at.0 t (contains_from_filter (is_at t) (numbered_background background) x c).1
 
 module _ (d : Domain) (cycles : ℕ) (carried : Carried) (background : List Background) (frames : List Backed) (accepted : IsAccepted d)
-    (soon : cycles * d.cycle_time < 2 ^ 62) (turn : IsInTurn d cycles carried) (behind : AreBackground d background)
+    (soon : cycles * d.cycle_time < 2 ^ 62) (in_turn : IsInTurn d cycles carried) (following : AreBackground d background)
     (by : frames ≡ by_instant background (cycles * d.cycle_time)) where
   -- each background frame of a link
   frame_given : (l : ℕ) (a : Arrival) → Contains (frames_fed_on l frames) a → IsGiven 0 6 a
   frame_given l a c =
       let m = contains_from_map arrival_of_frame (filter (is_frame_on l) frames) a c in
       let kept = contains_from_filter (is_frame_on l) frames m.0 m.1 in
-      let is = of_background d background (cycles * d.cycle_time) m.0 behind (subst (λ z. Contains z m.0) by kept.0) in
+      let is = of_background d background (cycles * d.cycle_time) m.0 following (subst (λ z. Contains z m.0) by kept.0) in
       subst (IsGiven 0 6) m.2 (record { from = omega arith; below = omega (arith, is.class_most); early = omega (arith, is.early) })
 
   -- each stream's frame
@@ -121,7 +121,7 @@ module _ (d : Domain) (cycles : ℕ) (carried : Carried) (background : List Back
   stream_given l a c =
       let m = contains_from_map (arrival_of_sent d) (carried l) a c in
       let class = sent_class (cycle_of d m.0.start.0) in
-      subst (IsGiven 6 8) m.2 (record { from = class.0; below = class.1; early = omega (arith, turn.before_end l m.0 m.1, soon) })
+      subst (IsGiven 6 8) m.2 (record { from = class.0; below = class.1; early = omega (arith, in_turn.before_end l m.0 m.1, soon) })
 
   -- the background frames of a link are in order
   frames_in_order : (l : ℕ) → AllPairs (λ (a b : Arrival). a.at.0 ≤ b.at.0) (frames_fed_on l frames)
@@ -135,7 +135,7 @@ module _ (d : Domain) (cycles : ℕ) (carried : Carried) (background : List Back
   streams_in_order l is_link =
       pairs_map (λ (a b : Arrival). a.at.0 ≤ b.at.0) (arrival_of_sent d) (carried l)
       (pairs_weaker (λ (a b : Sent). a.start.0 < b.start.0) (λ (a b : Sent). a.start.0 ≤ b.start.0) (carried l) (λ a b c e less. omega (arith, less))
-      (turn.in_order l is_link))
+      (in_turn.in_order l is_link))
 
   -- so a link's port may take both
   pub may_take : (l : ℕ) → l < length d.links → AreTaken (fed (frames_fed_on l frames) (map (arrival_of_sent d) (carried l)))
@@ -148,18 +148,18 @@ pub all_taken : (d : Domain) (cycles : ℕ) (carried : Carried) (starts : List S
     (lists : List (List Arrival)) → IsAccepted d → cycles < 2 ^ 32 → IsInTurn d cycles carried → starts ≡ starts_of d cycles carried →
     AreBackground d background → frames ≡ by_instant background (cycles * d.cycle_time) → AreFed frames starts (length d.links) lists →
     (l : ℕ) → l < length lists → AreTaken (get_or lists l [])
-all_taken d cycles carried starts background frames lists accepted few turn are behind by given l inside =
+all_taken d cycles carried starts background frames lists accepted few in_turn are following by given l inside =
     let is_link : l < length d.links = omega (arith, inside, given.one_each) in
     let some : 0 < d.cycle_time = omega (arith, accepted.cycle_least) in
     let streams : streams_fed_on l starts ≡ map (arrival_of_sent d) (carried l) =
-    ap (streams_fed_on l) are ∙ streams_are d cycles carried some turn l is_link in
+    ap (streams_fed_on l) are ∙ streams_are d cycles carried some in_turn l is_link in
     let is : get_or lists l [] ≡ fed (frames_fed_on l frames) (map (arrival_of_sent d) (carried l)) =
     given.each l [] is_link ∙ ap (fed (frames_fed_on l frames)) streams in
     subst AreTaken (sym is)
-    (may_take d cycles carried background frames accepted (end_early cycles d.cycle_time few accepted.cycle_most) turn behind by l is_link)
+    (may_take d cycles carried background frames accepted (end_early cycles d.cycle_time few accepted.cycle_most) in_turn following by l is_link)
 
 -- each background frame is on a link of the domain
 pub frames_on_links : (d : Domain) (background : List Background) (end links : ℕ) (frames : List Backed) → AreBackground d background →
     frames ≡ by_instant background end → links ≡ length d.links → All (λ (x : Backed). x.background.link < links) frames
-frames_on_links d background end links frames behind by same = all_from_members (λ (x : Backed). x.background.link < links) frames (λ x c.
-    omega (arith, (of_background d background end x behind (subst (λ z. Contains z x) by c)).on_link, same))
+frames_on_links d background end links frames following by same = all_from_members (λ (x : Backed). x.background.link < links) frames (λ x c.
+    omega (arith, (of_background d background end x following (subst (λ z. Contains z x) by c)).on_link, same))

@@ -24,7 +24,7 @@ use Rattle.cqf_model.specs.Network.{compiled_lists}
 use Rattle.cqf_model.specs.Port.{PortRules, Transmission}
 use Rattle.cqf_port.specs.PortState.{Advances, AreOnly, AreTaken, IsPort, PortState, rules_of, start_of}
 use Rattle.cqf_lists.specs.ByNumber.{lists_of}
-use Rattle.cqf_instants_run.specs.Sending.{Backs, Hands, TellsLink, TellsLinks, is_low, told}
+use Rattle.cqf_instants_run.specs.Sending.{Backs, Hands, ReportsLink, ReportsLinks, is_low, reported}
 
 module _ {X Y : Type 0} (f : X → Y) (keep : X → Bool) (xs : List X) (k : ℕ) (x d : X) (inside : k < length xs) (there : x ≡ get_or xs k d)
     (before list : List Y)
@@ -34,8 +34,8 @@ module _ {X Y : Type 0} (f : X → Y) (keep : X → Bool) (xs : List X) (k : ℕ
   kept_more = ap (filter keep) (take_more xs k d inside ∙ ap (λ (y : X). take k xs ++ y ∷ []) (sym there)) ∙ filter-append keep (take k xs) (x ∷ [])
 
   -- its entry is appended
-  pub one_told : (after : List Y) → keep x ≡ true → after ≡ list ++ f x ∷ [] → after ≡ before ++ map f (filter keep (take (k + 1) xs))
-  one_told after hit more =
+  pub one_reported : (after : List Y) → keep x ≡ true → after ≡ list ++ f x ∷ [] → after ≡ before ++ map f (filter keep (take (k + 1) xs))
+  one_reported after hit more =
       more ∙ ap (λ (ys : List Y). ys ++ f x ∷ []) so_far
       ∙ append_assoc before (map f (filter keep (take k xs))) (f x ∷ [])
       ∙ ap (λ (ys : List Y). before ++ ys) (sym (map-append f (filter keep (take k xs)) (x ∷ []))
@@ -61,16 +61,16 @@ rules_same d l list link is there =
 -- the guard band of a link is shorter than the cycle, and its list goes by it
 pub own_guard : (d : Domain) (l : ℕ) (link : Link) (cycle_time guard own : ℕ) → IsAccepted d → slice_get d.links l ≡ Some link →
     cycle_time ≡ d.cycle_time → guard ≡ d.guard → own ≡ guard_by guard link → (0 < own) × (own < cycle_time)
-own_guard d l link cycle_time guard own accepted there time is told =
+own_guard d l link cycle_time guard own accepted there time is reported =
     let good = accepted.links_good l link there in
-    let same : own ≡ guard_by d.guard link = told ∙ ap (λ (g : ℕ). guard_by g link) is in
+    let same : own ≡ guard_by d.guard link = reported ∙ ap (λ (g : ℕ). guard_by g link) is in
     (omega (arith, same, good.delay_short), omega (arith, same, time, good.guard_short))
 
 pub own_list : (d : Domain) (l : ℕ) (link : Link) (cycle_time guard own : ℕ) (list : List Entry) → slice_get d.links l ≡ Some link → cycle_time ≡ d.cycle_time →
     guard ≡ d.guard → own ≡ guard_by guard link → list ≡ port_list cycle_time own → list ≡ compiled_lists d l
-own_list d l link cycle_time guard own list there time is told listed =
+own_list d l link cycle_time guard own list there time is reported listed =
     let same : own ≡ guard_of d l =
-    told ∙ ap (λ (g : ℕ). guard_by g link) is ∙ ap (λ (o : Option Link). option_map_or (guard_by d.guard) o d.guard) (sym there) in
+    reported ∙ ap (λ (g : ℕ). guard_by g link) is ∙ ap (λ (o : Option Link). option_map_or (guard_by d.guard) o d.guard) (sym there) in
     listed ∙ (λ i. port_list (time i) (same i))
 
 -- a port that has taken arrivals and is at instant 0
@@ -129,11 +129,11 @@ hands_fit d end l cycle_time arrivals made same some few h =
     subst (λ (z : Start). cycle_at d.cycle_time z.start.0 < 2 ^ 32) m.2 (omega (arith, order, few)))))
 
 -- the entries of a link are appended
-pub tells : (d : Domain) (end l cycle_time : ℕ) (arrivals : List Arrival) (made : List Start) (before after : List Started) → cycle_time ≡ d.cycle_time →
-    Hands d end l arrivals made → after ≡ before ++ map (told cycle_time l) (filter is_low made) → TellsLink d end l arrivals before after
-tells d end l cycle_time arrivals made before after same h is backed b =
-    is ∙ ap (λ n. before ++ map (told n l) (filter is_low made)) same
-    ∙ ap (λ (xs : List Start). before ++ map (told d.cycle_time l) xs)
+pub reports : (d : Domain) (end l cycle_time : ℕ) (arrivals : List Arrival) (made : List Start) (before after : List Started) → cycle_time ≡ d.cycle_time →
+    Hands d end l arrivals made → after ≡ before ++ map (reported cycle_time l) (filter is_low made) → ReportsLink d end l arrivals before after
+reports d end l cycle_time arrivals made before after same h is backed b =
+    is ∙ ap (λ n. before ++ map (reported n l) (filter is_low made)) same
+    ∙ ap (λ (xs : List Start). before ++ map (reported d.cycle_time l) xs)
     (ap (filter is_low) (h.are ∙ ap (map (start_of arrivals)) (sym (h.only b.starts b.legal))) ∙ sym b.are_backed)
 
 module _ (front : List (Vec Arrival Global)) (p : Vec Arrival Global) (rest all : List (Vec Arrival Global)) (link : ℕ) (parts : front ++ p ∷ rest ≡ all)
@@ -154,18 +154,18 @@ module _ (front : List (Vec Arrival Global)) (p : Vec Arrival Global) (rest all 
   taken_there each = subst AreTaken list_there (each link below_all)
 
   -- and its entries are appended
-  pub link_told : (d : Domain) (end : ℕ) (starts after : List Started) → TellsLinks d end (λ l. get_or (lists_of all) l []) link starts →
-      TellsLink d end link p.items starts after → TellsLinks d end (λ l. get_or (lists_of all) l []) (link + 1) after
-  link_told d end starts after so_far one backed each =
+  pub link_reported : (d : Domain) (end : ℕ) (starts after : List Started) → ReportsLinks d end (λ l. get_or (lists_of all) l []) link starts →
+      ReportsLink d end link p.items starts after → ReportsLinks d end (λ l. get_or (lists_of all) l []) (link + 1) after
+  link_reported d end starts after so_far one backed each =
       let next : suc link ≡ link + 1 = omega arith in
       one (backed link) (subst (λ z. Backs d end link z (backed link)) list_there (each link (omega arith)))
-      ∙ ap (λ xs. xs ++ map (told d.cycle_time link) (backed link)) (so_far backed (λ l less. each l (omega (arith, less))))
-      ∙ ap (each_below (λ l. map (told d.cycle_time l) (backed l))) next
+      ∙ ap (λ xs. xs ++ map (reported d.cycle_time link) (backed link)) (so_far backed (λ l less. each l (omega (arith, less))))
+      ∙ ap (each_below (λ l. map (reported d.cycle_time l) (backed l))) next
 
 -- in the end the entries of all are appended
-pub all_told : (d : Domain) (end : ℕ) (front rest all : List (Vec Arrival Global)) (link : ℕ) (starts : List Started) → front ++ rest ≡ all
+pub all_reported : (d : Domain) (end : ℕ) (front rest all : List (Vec Arrival Global)) (link : ℕ) (starts : List Started) → front ++ rest ≡ all
     → length front ≡ link →
-    length rest ≡ 0 → TellsLinks d end (λ l. get_or (lists_of all) l []) link starts → TellsLinks d end (λ l. get_or (lists_of all) l []) (length all) starts
-all_told d end front rest all link starts parts at none so_far =
+    length rest ≡ 0 → ReportsLinks d end (λ l. get_or (lists_of all) l []) link starts → ReportsLinks d end (λ l. get_or (lists_of all) l []) (length all) starts
+all_reported d end front rest all link starts parts at none so_far =
     let same : link ≡ length all = omega (arith, ap (λ (ps : List (Vec Arrival Global)). length ps) parts, length-append front rest, at, none) in
-    subst (λ n. TellsLinks d end (λ l. get_or (lists_of all) l []) n starts) same so_far
+    subst (λ n. ReportsLinks d end (λ l. get_or (lists_of all) l []) n starts) same so_far

@@ -20,7 +20,7 @@ use Rattle.cqf_instants_run.specs.Feeding.{fed}
 use Rattle.cqf_instants_run.specs.Sending.{Backs, Hands, is_low}
 use Rattle.cqf_instants_run.specs.Taping.{TakeBackground, TakesBackground, arrival_of_mark}
 use Rattle.cqf_instants_run.proofs.Starting.{given_none, given_whole}
-use Rattle.cqf_instants_run.proofs.Tellings.{one_passed, one_told}
+use Rattle.cqf_instants_run.proofs.Tellings.{one_passed, one_reported}
 
 -- a trace has in addition the background frames among some starts
 pub record HasBesides (made : List Start) (before after : Trace) : Type 0 where
@@ -40,7 +40,7 @@ module _ (made : List Start) (k : ℕ) (x e : Start) (inside : k < length made) 
   one_besides after low link starts more = record {
     link = link ∙ so_far.link;
     starts = starts ∙ so_far.starts;
-    background = one_told mark_of_start is_low made k x e inside there before.background.items trace.background.items so_far.background
+    background = one_reported mark_of_start is_low made k x e inside there before.background.items trace.background.items so_far.background
         after.background.items low more;
   }
 
@@ -53,9 +53,9 @@ module _ (made : List Start) (k : ℕ) (x e : Start) (inside : k < length made) 
   }
 
 -- if a port is given background frames, the streams' frames of a trace follow them
-pub given_behind : (d : Domain) (frames arrivals : List Arrival) (items marks : List Mark) → 0 < length frames →
+pub given_after : (d : Domain) (frames arrivals : List Arrival) (items marks : List Mark) → 0 < length frames →
     arrivals ≡ frames ++ map (arrival_of_mark d) items → items ≡ marks → arrivals ≡ fed frames (map (arrival_of_mark d) marks)
-given_behind d frames arrivals items marks some more same =
+given_after d frames arrivals items marks some more same =
     more ∙ ap (λ (xs : List Mark). frames ++ map (arrival_of_mark d) xs) same ∙ sym (given_whole frames (map (arrival_of_mark d) marks) some)
 
 -- if it is given nothing, none starts
@@ -99,48 +99,48 @@ all_taken d end frames before after arrivals made is h has = record {
         ap (filter is_low) (h.are ∙ ap (map (start_of arrivals)) (sym (h.only own.starts own.legal))) ∙ sym own.are_backed
 
 -- the first traces of a list have what their links' ports start, and the others are unchanged
-pub record FirstTake (d : Domain) (end : ℕ) (feeds : ℕ → List Arrival) (before after : List Trace) (place : ℕ) : Type 0 where
+pub record FirstTake (d : Domain) (end : ℕ) (feeds : ℕ → List Arrival) (before after : List Trace) (index : ℕ) : Type 0 where
   pub many : length after ≡ length before
-  pub done : (k : ℕ) (none : Trace) → k < place → k < length before → TakesBackground d end (feeds k) (get_or before k none) (get_or after k none)
-  pub left : (k : ℕ) (none : Trace) → place ≤ k → get_or after k none ≡ get_or before k none
+  pub done : (k : ℕ) (none : Trace) → k < index → k < length before → TakesBackground d end (feeds k) (get_or before k none) (get_or after k none)
+  pub left : (k : ℕ) (none : Trace) → index ≤ k → get_or after k none ≡ get_or before k none
 
 module _ (d : Domain) (end : ℕ) (feeds : ℕ → List Arrival) (before : List Trace) where
   -- at first no trace has it
   pub none_take : FirstTake d end feeds before before 0
   none_take = record { many = refl; done = λ k none below inside. absurd (omega (arith, below)); left = λ k none at. refl }
 
-  module _ (after : List Trace) (place : ℕ) (h : FirstTake d end feeds before after place) where
+  module _ (after : List Trace) (index : ℕ) (h : FirstTake d end feeds before after index) where
     -- the next one has it too
-    pub next_takes : (none new : Trace) → place < length before → TakesBackground d end (feeds place) (get_or after place none) new →
-        FirstTake d end feeds before (set after place new) (place + 1)
+    pub next_takes : (none new : Trace) → index < length before → TakesBackground d end (feeds index) (get_or after index none) new →
+        FirstTake d end feeds before (set after index new) (index + 1)
     next_takes none new inside more = record {
-      many = length-set after place new ∙ h.many;
-      done = λ k e below within. done k e within (cases_lt k place) (omega (arith, below));
-      left = λ k e at. get_or-set_other after place k new e (λ same. omega (arith, same, at)) ∙ h.left k e (omega (arith, at));
+      many = length-set after index new ∙ h.many;
+      done = λ k e below within. done k e within (cases_lt k index) (omega (arith, below));
+      left = λ k e at. get_or-set_other after index k new e (λ same. omega (arith, same, at)) ∙ h.left k e (omega (arith, at));
     }
       where
         -- there is such an index
-        here : place < length after
+        here : index < length after
         here = omega (arith, inside, h.many)
 
         -- what was there
-        was : (e : Trace) → get_or after place none ≡ get_or before place e
-        was e = h.left place none (omega arith) ∙ get_or_default before place none e inside
+        was : (e : Trace) → get_or after index none ≡ get_or before index e
+        was e = h.left index none (omega arith) ∙ get_or_default before index none e inside
 
         -- the trace there has it, and so do those before it
-        done : (k : ℕ) (e : Trace) → k < length before → (k < place) ⊎ (place ≤ k) → k ≤ place →
-            TakesBackground d end (feeds k) (get_or before k e) (get_or (set after place new) k e)
+        done : (k : ℕ) (e : Trace) → k < length before → (k < index) ⊎ (index ≤ k) → k ≤ index →
+            TakesBackground d end (feeds k) (get_or before k e) (get_or (set after index new) k e)
         done k e within (inl less) most =
             subst (λ (t : Trace). TakesBackground d end (feeds k) (get_or before k e) t)
-            (sym (get_or-set_other after place k new e (λ same. omega (arith, same, less)))) (h.done k e less within)
+            (sym (get_or-set_other after index k new e (λ same. omega (arith, same, less)))) (h.done k e less within)
         done k e within (inr least) most =
-            let same : place ≡ k = omega (arith, least, most) in
-            subst (λ (i : ℕ). TakesBackground d end (feeds i) (get_or before i e) (get_or (set after place new) i e)) same
-            (subst (λ (t : Trace). TakesBackground d end (feeds place) (get_or before place e) t) (sym (get_or-set_same after place new e here))
-            (subst (λ (t : Trace). TakesBackground d end (feeds place) t new) (was e) more))
+            let same : index ≡ k = omega (arith, least, most) in
+            subst (λ (i : ℕ). TakesBackground d end (feeds i) (get_or before i e) (get_or (set after index new) i e)) same
+            (subst (λ (t : Trace). TakesBackground d end (feeds index) (get_or before index e) t) (sym (get_or-set_same after index new e here))
+            (subst (λ (t : Trace). TakesBackground d end (feeds index) t new) (was e) more))
 
     -- in the end all have it
-    pub all_take : length before ≤ place → TakeBackground d end feeds before after
+    pub all_take : length before ≤ index → TakeBackground d end feeds before after
     all_take all = record { many = h.many; each = λ k none inside. h.done k none (omega (arith, inside, all)) inside }
 
 -- traces in order of link number, one for each of the first links
@@ -154,51 +154,51 @@ module _ (count : ℕ) (traces : List Trace) (by : links_of traces ≡ first_lin
   own_number = by ∙ ap first_links (sym as_many_traces)
 
   -- the link of each is its index
-  pub link_of_place : (k : ℕ) (none : Trace) → k < length traces → (get_or traces k none).link ≡ k
-  link_of_place k none inside =
+  pub link_of_index : (k : ℕ) (none : Trace) → k < length traces → (get_or traces k none).link ≡ k
+  link_of_index k none inside =
       sym (get_or-map link_of_trace traces k none 0 inside) ∙ ap (λ (links : List ℕ). get_or links k 0) own_number
       ∙ get_or-singles (λ (l : ℕ). l) (length traces) k 0 inside
 
   -- so it has the link's streams' frames
-  pub starts_of_place : (k : ℕ) (none : Trace) → k < length traces → (get_or traces k none).starts.items ≡ starts_at traces k
-  starts_of_place k none inside =
+  pub starts_of_index : (k : ℕ) (none : Trace) → k < length traces → (get_or traces k none).starts.items ≡ starts_at traces k
+  starts_of_index k none inside =
       starts_there traces k (get_or traces k none) own_number inside (get_or_default traces k none (get_or traces k none) inside)
 
   -- and its background frames
-  pub background_of_place : (k : ℕ) (none : Trace) → k < length traces → (get_or traces k none).background.items ≡ background_at traces k
-  background_of_place k none inside =
+  pub background_of_index : (k : ℕ) (none : Trace) → k < length traces → (get_or traces k none).background.items ≡ background_at traces k
+  background_of_index k none inside =
       background_there traces k (get_or traces k none) own_number inside (get_or_default traces k none (get_or traces k none) inside)
 
 -- the trace after the first ones that have what their ports start
-module _ (d : Domain) (end : ℕ) (feeds : ℕ → List Arrival) (before after : List Trace) (place : ℕ) (h : FirstTake d end feeds before after place)
-    (by : links_of before ≡ first_links (length d.links)) (is_link : place < length d.links) where
+module _ (d : Domain) (end : ℕ) (feeds : ℕ → List Arrival) (before after : List Trace) (index : ℕ) (h : FirstTake d end feeds before after index)
+    (by : links_of before ≡ first_links (length d.links)) (is_link : index < length d.links) where
   -- there was one
-  inside : place < length before
+  inside : index < length before
   inside = omega (arith, is_link, as_many_traces (length d.links) before by)
 
   -- is there
-  pub next_there : place < length after
+  pub next_there : index < length after
   next_there = omega (arith, inside, h.many)
 
   -- as it was
-  as_before : (none : Trace) → get_or after place none ≡ get_or before place none
-  as_before none = h.left place none (omega arith)
+  as_before : (none : Trace) → get_or after index none ≡ get_or before index none
+  as_before none = h.left index none (omega arith)
 
   -- its link is the domain's
-  pub next_link : (none : Trace) → (get_or after place none).link < length d.links
+  pub next_link : (none : Trace) → (get_or after index none).link < length d.links
   next_link none =
-      omega (arith, is_link, ap (λ (trace : Trace). trace.link) (as_before none), link_of_place (length d.links) before by place none inside)
+      omega (arith, is_link, ap (λ (trace : Trace). trace.link) (as_before none), link_of_index (length d.links) before by index none inside)
 
   -- it has its link's streams' frames
-  pub next_marks : (none : Trace) → (get_or after place none).starts.items ≡ starts_at before place
-  next_marks none = ap (λ (trace : Trace). trace.starts.items) (as_before none) ∙ starts_of_place (length d.links) before by place none inside
+  pub next_marks : (none : Trace) → (get_or after index none).starts.items ≡ starts_at before index
+  next_marks none = ap (λ (trace : Trace). trace.starts.items) (as_before none) ∙ starts_of_index (length d.links) before by index none inside
 
   -- and once it has what its port starts, one more trace has
-  pub next_has : (list : List Arrival) (none new : Trace) → feeds place ≡ list → TakesBackground d end list (get_or after place none) new →
-      FirstTake d end feeds before (set after place new) (place + 1)
+  pub next_has : (list : List Arrival) (none new : Trace) → feeds index ≡ list → TakesBackground d end list (get_or after index none) new →
+      FirstTake d end feeds before (set after index new) (index + 1)
   next_has list none new is more =
-      next_takes d end feeds before after place h none new inside
-      (subst (λ (xs : List Arrival). TakesBackground d end xs (get_or after place none) new) (sym is) more)
+      next_takes d end feeds before after index h none new inside
+      (subst (λ (xs : List Arrival). TakesBackground d end xs (get_or after index none) new) (sym is) more)
 
 -- a trace keeps its link and its streams' frames
 record KeepsStarts (before after : Trace) : Type 0 where
@@ -267,8 +267,8 @@ module _ (d : Domain) (end : ℕ) (feeds : ℕ → List Arrival) (before after :
       let one = t.each l none inside in
       let own : Backs d end (get_or before l none).link (fed (feeds l) (map (arrival_of_mark d) (get_or before l none).starts.items)) backed =
       subst (λ (k : ℕ). Backs d end k (fed (feeds l) (map (arrival_of_mark d) (get_or before l none).starts.items)) backed)
-      (sym (link_of_place (length d.links) before by l none inside))
+      (sym (link_of_index (length d.links) before by l none inside))
       (subst (λ (marks : List Mark). Backs d end l (fed (feeds l) (map (arrival_of_mark d) marks)) backed)
-      (sym (starts_of_place (length d.links) before by l none inside)) b) in
-      sym (background_of_place (length d.links) after (links_stay ∙ by) l none within) ∙ one.background backed own
-      ∙ ap (λ (marks : List Mark). marks ++ map mark_of_start backed) (background_of_place (length d.links) before by l none inside)
+      (sym (starts_of_index (length d.links) before by l none inside)) b) in
+      sym (background_of_index (length d.links) after (links_stay ∙ by) l none within) ∙ one.background backed own
+      ∙ ap (λ (marks : List Mark). marks ++ map mark_of_start backed) (background_of_index (length d.links) before by l none inside)

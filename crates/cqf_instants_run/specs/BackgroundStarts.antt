@@ -17,5 +17,5 @@ pub record SomeStarts (d : Domain) (cycles : ℕ) (starts : List Started) : Type
   pub legal : IsLegalHistory d entries
   pub sealed : cycles ≤ seals entries
   pub offered : AreOffers d offers
-  pub behind : AreBackground d background
+  pub following : AreBackground d background
   pub are : AreStartsOfHistory d entries offers background cycles starts

@@ -7,11 +7,11 @@ use Rattle.cqf_model.specs.declared.frames.Reason.TheVariants.{Unknown}
 use Rattle.cqf_model.specs.declared.topology.Row.{Row}
 use Rattle.cqf_model.specs.Domain.{Domain}
 use Rattle.cqf_model.specs.Shift.{offer_cycle}
-use Rattle.cqf_model.specs.Traffic.{Verdict, numbered}
+use Rattle.cqf_model.specs.Policing.{Verdict, numbered}
 use Rattle.cqf_laws_coverage.specs.declared.column.Column.{Column}
 use Rattle.cqf_laws_coverage.specs.Columns.{frames_by, octets_by}
 use Rattle.cqf_laws_coverage.specs.Counted.{counts_in, sum_of_hops}
-use Rattle.cqf_laws_coverage.specs.Told.{AreToldSums}
+use Rattle.cqf_laws_coverage.specs.Reported.{AreReportedSums}
 use Rattle.cqf_instants_run.specs.declared.judged.EdgeVerdict.{EdgeVerdict}
 use Rattle.cqf_instants_run.specs.declared.judged.EdgeVerdict.TheVariants.{Dropped}
 use Rattle.cqf_instants_run.specs.Coverage.{verdict_of}
@@ -28,7 +28,7 @@ HaveColumnsRoom d cycles verdict offers = (link cycle : ℕ) → link < length d
 -- there is a column for each link, and the columns are the sums of the offers by link
 pub record AreSumsBy (d : Domain) (cycles : ℕ) (verdict : Offered → Verdict) (offers : List Offer) (columns : List Column) : Type 0 where
   pub all : length columns ≡ length d.links
-  pub sums : AreToldSums d cycles verdict (numbered offers) (frames_by columns) (octets_by columns)
+  pub sums : AreReportedSums d cycles verdict (numbered offers) (frames_by columns) (octets_by columns)
 
 -- `links` columns of `width` cycles, with nothing counted
 pub record AreEmptyColumns (columns : List Column) (links width : ℕ) : Type 0 where
@@ -39,8 +39,8 @@ pub record AreEmptyColumns (columns : List Column) (links width : ℕ) : Type 0 
 -- a width of at most `cycles`: if a frame of an offer can leave in a cycle below `cycles`, that cycle is below the width
 pub record IsWide (cycle_time cycles : ℕ) (offers : List Offer) (width : ℕ) : Type 0 where
   pub within : width ≤ cycles
-  pub enough : All (λ (offer : Offer). (depth : ℕ) → depth < 256 → cycle_at cycle_time offer.at.0 + depth < cycles →
-      cycle_at cycle_time offer.at.0 + depth < width) offers
+  pub enough : All (λ (offer : Offer). (hop_number : ℕ) → hop_number < 256 → cycle_at cycle_time offer.at.0 + hop_number < cycles →
+      cycle_at cycle_time offer.at.0 + hop_number < width) offers
 
 -- each column has at least `width` cycles
 abbrev pub HaveWidth : List Column → ℕ → Type 0

@@ -1,6 +1,7 @@
 -- The verdict on each offer, by the rows that were ever granted.
 use Rattle.std.specs.Prelude.{ℕ, ◌≡◌, ◌+◌, ◌<◌, ◌==◌, if◌then◌else◌, not, nat_le, List, Option, Some, None, Result, Ok}
 use Rattle.std.specs.Prelude.{Err, length, slice_get, slice_index_or, slice_set}
+use Rattle.cqf_units.specs.Timing.{counted_of}
 use Rattle.cqf_model.specs.declared.frames.Offer.{Offer}
 use Rattle.cqf_model.specs.declared.frames.Offered.{Offered}
 use Rattle.cqf_model.specs.declared.frames.Reason.{Reason}
@@ -10,7 +11,7 @@ use Rattle.cqf_model.specs.Domain.{Domain}
 use Rattle.cqf_model.specs.History.{Recorded, seals}
 use Rattle.cqf_model.specs.Shift.{offer_cycle}
 use Rattle.cqf_model.specs.Table.{begins_at, is_live, reserved_in}
-use Rattle.cqf_model.specs.Traffic.{Verdict, Queued, DroppedFor, LacksRow, numbered}
+use Rattle.cqf_model.specs.Policing.{Verdict, Queued, DroppedFor, LacksRow, numbered}
 use Rattle.cqf_laws_coverage.specs.Judged.{judged_of}
 use Rattle.cqf_laws_coverage.specs.Rows.{as_of}
 use Rattle.cqf_instants_run.specs.Begun.{IsInForce}
@@ -19,19 +20,19 @@ use Rattle.cqf_instants_run.specs.declared.judged.EdgeVerdict.TheVariants.{Cover
 use Rattle.cqf_instants_run.specs.declared.judged.Used.{Used}
 
 -- the octets used of a row in a cycle after an offer that it covers, or the first reason against the offer
-abbrev pub used_behind : Domain → Row → ℕ → ℕ → Offer → Result ℕ Reason
-used_behind d row cycle used offer =
+abbrev pub used_after : Domain → Row → ℕ → ℕ → Offer → Result ℕ Reason
+used_after d row cycle used offer =
     if not (is_live row cycle) then Err Withdrawn
     else (if not (begins_at d row offer.bridge) then Err OtherBridge
-    else (if not (nat_le (used + offer.octets) (reserved_in row 0 cycle)) then Err Octets
-    else Ok (used + offer.octets)))
+    else (if not (nat_le (used + counted_of d.overhead offer.octets) (reserved_in row 0 cycle)) then Err Octets
+    else Ok (used + counted_of d.overhead offer.octets)))
 
 -- the octets used in a cycle, and those used of the row at an index
 abbrev pub used_in : ℕ → Used → ℕ
 used_in cycle used = if used.cycle == cycle then used.octets else 0
 
 abbrev pub used_at : List Used → ℕ → ℕ → ℕ
-used_at used cycle place = used_in cycle (slice_index_or used place (record { cycle = 0; octets = 0 }))
+used_at used cycle index = used_in cycle (slice_index_or used index (record { cycle = 0; octets = 0 }))
 
 -- an edge verdict in the terms of the definitions: the row is as in the table of the offer's cycle
 abbrev pub queued_as : ℕ → Option Row → Verdict
@@ -39,7 +40,7 @@ queued_as cycle None = LacksRow
 queued_as cycle (Some row) = Queued (as_of cycle row)
 
 abbrev pub verdict_of : List Row → ℕ → EdgeVerdict → Verdict
-verdict_of rows cycle (Covered place) = queued_as cycle (slice_get rows place)
+verdict_of rows cycle (Covered index) = queued_as cycle (slice_get rows index)
 verdict_of rows cycle (Dropped reason) = DroppedFor reason
 
 -- if no row is in force, the offer is dropped and no octets are used
@@ -49,29 +50,29 @@ pub record IsUnknown (before after : List Used) (edge_verdict : EdgeVerdict) : T
 
 -- if there is a reason against the offer, it is dropped and no octets are used; else it is covered and its octets are used
 abbrev pub JudgedFor : ℕ → ℕ → List Used → List Used → EdgeVerdict → Result ℕ Reason → Type 0
-JudgedFor cycle place before after edge_verdict (Err reason) = (edge_verdict ≡ Dropped reason) × (after ≡ before)
-JudgedFor cycle place before after edge_verdict (Ok octets) =
-    (edge_verdict ≡ Covered place) × (after ≡ slice_set before place (record { cycle = cycle; octets = octets }))
+JudgedFor cycle index before after edge_verdict (Err reason) = (edge_verdict ≡ Dropped reason) × (after ≡ before)
+JudgedFor cycle index before after edge_verdict (Ok octets) =
+    (edge_verdict ≡ Covered index) × (after ≡ slice_set before index (record { cycle = cycle; octets = octets }))
 
 -- the verdict is that of the row in force
-pub record IsJudgedBy (d : Domain) (rows : List Row) (cycle place : ℕ) (offer : Offer) (before after : List Used) (edge_verdict : EdgeVerdict) : Type 0 where
+pub record IsJudgedBy (d : Domain) (rows : List Row) (cycle index : ℕ) (offer : Offer) (before after : List Used) (edge_verdict : EdgeVerdict) : Type 0 where
   pub row : Row
-  pub is : slice_get rows place ≡ Some row
-  pub judged : JudgedFor cycle place before after edge_verdict (used_behind d row cycle (used_at before cycle place) offer)
+  pub is : slice_get rows index ≡ Some row
+  pub judged : JudgedFor cycle index before after edge_verdict (used_after d row cycle (used_at before cycle index) offer)
 
 abbrev pub JudgedAt : Domain → List Row → ℕ → Offer → List Used → List Used → EdgeVerdict → Option ℕ → Type 0
 JudgedAt d rows cycle offer before after edge_verdict None = IsUnknown before after edge_verdict
-JudgedAt d rows cycle offer before after edge_verdict (Some place) = IsJudgedBy d rows cycle place offer before after edge_verdict
+JudgedAt d rows cycle offer before after edge_verdict (Some index) = IsJudgedBy d rows cycle index offer before after edge_verdict
 
 pub record IsJudged (d : Domain) (rows : List Row) (begun cycle : ℕ) (offer : Offer) (before after : List Used)
     (edge_verdict : EdgeVerdict) : Type 0 where
-  pub place : Option ℕ
-  pub in_force : IsInForce rows begun offer.stream cycle place
-  pub by_row : JudgedAt d rows cycle offer before after edge_verdict place
+  pub index : Option ℕ
+  pub in_force : IsInForce rows begun offer.stream cycle index
+  pub by_row : JudgedAt d rows cycle offer before after edge_verdict index
 
 -- the first `many` offers are judged as the definitions say, if their cycle is closed
 pub record AreJudged (d : Domain) (entries : List Recorded) (rows : List Row) (offers : List Offer) (many : ℕ) (edge_verdicts : List EdgeVerdict) : Type 0 where
   pub count : length edge_verdicts ≡ many
-  pub each : (place : ℕ) (x : Offered) (edge_verdict : EdgeVerdict) → place < many → slice_get (numbered offers) place ≡ Some x →
-      slice_get edge_verdicts place ≡ Some edge_verdict → offer_cycle d x < seals entries →
+  pub each : (index : ℕ) (x : Offered) (edge_verdict : EdgeVerdict) → index < many → slice_get (numbered offers) index ≡ Some x →
+      slice_get edge_verdicts index ≡ Some edge_verdict → offer_cycle d x < seals entries →
       verdict_of rows (offer_cycle d x) edge_verdict ≡ judged_of d entries offers x

@@ -20,7 +20,7 @@ drop_judged cycle frame offer (edge_verdict.Covered row) = None
 drop_judged cycle frame offer (edge_verdict.Dropped reason) =
     Some (record { cycle = record { 0 = cycle }; bridge = offer.bridge; frame = frame; octets = offer.octets; reason = reason })
 
--- the same if the offer's cycle is one of the first `cycles` cycles, else none
+-- the drop of an offer if its verdict is a drop and its cycle is one of the first `cycles` cycles, else none
 abbrev pub drop_within : ℕ → ℕ → ℕ → Offer → EdgeVerdict → Option Dropped
 drop_within cycle_time cycles frame offer judged = let cycle = cycle_at cycle_time offer.at.0 in
     if nat_lt cycle cycles then drop_judged cycle frame offer judged else None
@@ -37,15 +37,15 @@ drop_by_both cycle_time cycles frame (Some offer) None = []
 drop_by_both cycle_time cycles frame (Some offer) (Some judged) = where_any (drop_within cycle_time cycles frame offer judged)
 
 abbrev pub drop_at : ℕ → ℕ → List Offer → List EdgeVerdict → ℕ → List Dropped
-drop_at cycle_time cycles offers edge_verdicts place =
-    drop_by_both cycle_time cycles (place + 1) (slice_get offers place) (slice_get edge_verdicts place)
+drop_at cycle_time cycles offers edge_verdicts index =
+    drop_by_both cycle_time cycles (index + 1) (slice_get offers index) (slice_get edge_verdicts index)
 
--- they are the drops of each book of a history with these offers, for any background frames
+-- the drops are those of each book of a history with these offers, for any background frames
 abbrev pub AreDropsOfHistory : Domain → List Recorded → List Offer → ℕ → List Dropped → Type 0
 AreDropsOfHistory d entries offers cycles drops =
     (background : List Background) (book : Contents) → AreBackground d background → IsBookOfHistory d entries offers background cycles book → drops ≡ book.drops
 
--- they are the drops of each legal history that judges the offers by these verdicts
+-- the drops are those of each legal history that judges the offers by these verdicts
 abbrev pub AreDropsBy : Domain → List Offer → ℕ → List EdgeVerdict → List Dropped → Type 0
 AreDropsBy d offers cycles edge_verdicts drops =
     (entries : List Recorded) (rows : List Row) → IsLegalHistory d entries →

@@ -25,7 +25,7 @@ pub record IsLaidOutHistoryOf (d : Domain) (cycles : ℕ) (rows : List Row) (off
   pub streams : streams_of d entries ≡ rows
   pub judged : AreJudged d entries rows offers (length offers) edge_verdicts
 
--- there is such a history
+-- some legal history of the domain has these rows and verdicts
 pub record SomeHistory (d : Domain) (cycles : ℕ) (rows : List Row) (offers : List Offer) (edge_verdicts : List EdgeVerdict) : Type 0 where
   pub entries : List Recorded
   pub is : IsLaidOutHistoryOf d cycles rows offers edge_verdicts entries

@@ -3,10 +3,10 @@ use Rattle.std.specs.Prelude.{ℕ, Bool, true, false, ◌≡◌, ◌+◌, ◌*�
 use Rattle.cqf_model.specs.declared.topology.Hop.{Hop}
 use Rattle.cqf_model.specs.declared.topology.Row.{Row}
 use Rattle.cqf_model.specs.Table.{is_live}
-use Rattle.cqf_instants.specs.declared.lanes.LaidHop.{LaidHop}
-use Rattle.cqf_instants.specs.Lanes.{branch_at}
+use Rattle.cqf_instants.specs.declared.queues.LaidHop.{LaidHop}
+use Rattle.cqf_instants.specs.Queues.{branch_at}
 use Rattle.cqf_instants.specs.declared.laying.Group.{Group}
-use Rattle.cqf_instants.specs.LaidTrees.{IsLaidBranch, StandBehind, behind_at, group_at, is_of_tree}
+use Rattle.cqf_instants.specs.LaidTrees.{IsLaidBranch, StandAfter, after_at, group_at, is_of_tree}
 
 -- whether a stream is live in one of the first `cycles` cycles; the first cycle in which it can be live is that of its admission
 abbrev pub is_live_below : ℕ → Row → Bool
@@ -26,10 +26,10 @@ pub record LaysStream (cycles : ℕ) (row : Row) (before after : List LaidHop) (
   pub other_group : is_live_below cycles row ≡ false → group ≡ no_group
   pub other_branches : is_live_below cycles row ≡ false → after ≡ before
 
--- adjacent branches are the hops that follow a path in the tree of the row at an index
-pub record AreHopsOf (row_of : ℕ → ℕ) (place : ℕ) (tree : List Hop) (way : Option ℕ) (branches : List LaidHop) (group : Group) : Type 0 where
-  pub stand : StandBehind tree way branches group
-  pub owned : (k : ℕ) → k < group.many → row_of (group.first + k) ≡ place
+-- contiguous branches are the hops that follow the link `ingress`, or that begin at the edge if it is none, in the tree of the row at an index
+pub record AreHopsOf (row_of : ℕ → ℕ) (index : ℕ) (tree : List Hop) (ingress : Option ℕ) (branches : List LaidHop) (group : Group) : Type 0 where
+  pub stand : StandAfter tree ingress branches group
+  pub owned : (k : ℕ) → k < group.many → row_of (group.first + k) ≡ index
 
 -- a branch is a hop of a row's tree, and leads to the hops that follow it
 pub record IsHopOfRow (cycles : ℕ) (rows : List Row) (branches : List LaidHop) (row_of : ℕ → ℕ) (h : ℕ) : Type 0 where
@@ -37,7 +37,7 @@ pub record IsHopOfRow (cycles : ℕ) (rows : List Row) (branches : List LaidHop)
   pub is : slice_get rows (row_of h) ≡ Some row
   pub live : is_live_below cycles row ≡ true
   pub of_tree : is_of_tree row.tree.items h (branch_at branches h)
-  pub behind : AreHopsOf row_of (row_of h) row.tree.items (Some (branch_at branches h).link) branches (behind_at branches h)
+  pub following : AreHopsOf row_of (row_of h) row.tree.items (Some (branch_at branches h).link) branches (after_at branches h)
 
 -- the trees of those of the first `many` rows that are live in one of the first `cycles` cycles are laid; the group of each row is the
 -- position of its hops from the edge bridge. `row_of` gives the index of the row whose tree has a branch
@@ -46,6 +46,6 @@ pub record AreLaid (cycles : ℕ) (rows : List Row) (many : ℕ) (branches : Lis
   pub few : length branches ≤ 40200 * many
   pub row_of : ℕ → ℕ
   pub each : (h : ℕ) → h < length branches → IsHopOfRow cycles rows branches row_of h
-  pub begin : (place : ℕ) (row : Row) → place < many → slice_get rows place ≡ Some row → is_live_below cycles row ≡ true →
-      AreHopsOf row_of place row.tree.items None branches (group_at groups place)
-  pub inside : (place : ℕ) → (group_at groups place).first + (group_at groups place).many ≤ length branches
+  pub begin : (index : ℕ) (row : Row) → index < many → slice_get rows index ≡ Some row → is_live_below cycles row ≡ true →
+      AreHopsOf row_of index row.tree.items None branches (group_at groups index)
+  pub inside : (index : ℕ) → (group_at groups index).first + (group_at groups index).many ≤ length branches

@@ -11,7 +11,7 @@ use Rattle.cqf_model.specs.HistoryBook.{run_of_history}
 use Rattle.cqf_model.specs.Network.{Network}
 use Rattle.cqf_model.specs.Run.{AreBackground, AreOffers}
 use Rattle.cqf_laws_shift.specs.Run.{IsLegalRun}
-use Rattle.cqf_laws_coverage.specs.Told.{IsThere}
+use Rattle.cqf_laws_coverage.specs.Reported.{IsThere}
 use Rattle.cqf_instants_run.specs.Drops.{AreDropsOfHistory}
 
 -- the starts of streams' frames in each legal run over the first cycles of a history

@@ -16,6 +16,6 @@ use Rattle.cqf_instants_run.specs.HistoryStarts.{IsLaidOutHistoryOf}
 -- a pass before its first cycle: it returns the starts of each legal network of the run of each history with these rows, for any background
 -- frames
 pub record IsPassOf (d : Domain) (cycles : ℕ) (rows : List Row) (offers : List Offer) (edge_verdicts : List EdgeVerdict) (pass : Progress) : Type 0 where
-  pub begins : pass.told ≡ 0
-  pub tells : (entries : List Recorded) (background : List Background) (net : Network) → IsLaidOutHistoryOf d cycles rows offers edge_verdicts entries →
+  pub begins : pass.reported ≡ 0
+  pub reports : (entries : List Recorded) (background : List Background) (net : Network) → IsLaidOutHistoryOf d cycles rows offers edge_verdicts entries →
       IsLegalRun (run_of_history d entries offers background cycles) net → AreStartsOf pass.basis (starts_of d cycles net.carried)

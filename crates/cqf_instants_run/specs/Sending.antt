@@ -10,7 +10,7 @@ use Rattle.cqf_model.specs.Book.{started_backed}
 use Rattle.cqf_model.specs.Domain.{Domain, IsAccepted, octet_time_of}
 use Rattle.cqf_model.specs.Network.{QueuedFrame, Sends, compiled_lists}
 use Rattle.cqf_model.specs.Port.{AreLegal, Transmission}
-use Rattle.cqf_laws_cycle.specs.Beside.{IsToldByClass}
+use Rattle.cqf_laws_cycle.specs.Beside.{IsReportedByClass}
 use Rattle.cqf_port.specs.PortState.{start_of}
 use Rattle.cqf_instants_run.specs.Feeding.{arrival_of_sent, backs_among, fed}
 
@@ -35,19 +35,19 @@ pub record Hands (d : Domain) (end l : ℕ) (arrivals : List Arrival) (made : Li
 -- a port starts the same background frames if the streams' frames arrive when they start; a port without background frames starts none
 abbrev pub PortStartsTheBackground : Type 0
 PortStartsTheBackground = (d : Domain) (end l : ℕ) (queued : List QueuedFrame) (sents : List Sent) (backed : List Start) →
-    IsAccepted d → l < length d.links → All IsToldByClass queued → Sends d (compiled_lists d l) end l queued sents backed →
+    IsAccepted d → l < length d.links → All IsReportedByClass queued → Sends d (compiled_lists d l) end l queued sents backed →
     Backs d end l (fed (backs_among queued) (map (arrival_of_sent d) sents)) backed
 
 -- a start as an entry of the background list, in the cycle of its instant
-abbrev pub told : ℕ → ℕ → Start → Started
-told cycle_time link start = started_backed (cycle_at cycle_time start.start.0) link start
+abbrev pub reported : ℕ → ℕ → Start → Started
+reported cycle_time link start = started_backed (cycle_at cycle_time start.start.0) link start
 
 -- the background frames that a port starts are appended as entries
-abbrev pub TellsLink : Domain → ℕ → ℕ → List Arrival → List Started → List Started → Type 0
-TellsLink d end l arrivals before after =
-    (backed : List Start) → Backs d end l arrivals backed → after ≡ before ++ map (told d.cycle_time l) backed
+abbrev pub ReportsLink : Domain → ℕ → ℕ → List Arrival → List Started → List Started → Type 0
+ReportsLink d end l arrivals before after =
+    (backed : List Start) → Backs d end l arrivals backed → after ≡ before ++ map (reported d.cycle_time l) backed
 
 -- the entries of the background frames that the ports of the first `count` links start, by link
-abbrev pub TellsLinks : Domain → ℕ → (ℕ → List Arrival) → ℕ → List Started → Type 0
-TellsLinks d end feeds count starts = (backed : ℕ → List Start) → ((l : ℕ) → l < count → Backs d end l (feeds l) (backed l)) →
-    starts ≡ each_below (λ l. map (told d.cycle_time l) (backed l)) count
+abbrev pub ReportsLinks : Domain → ℕ → (ℕ → List Arrival) → ℕ → List Started → Type 0
+ReportsLinks d end feeds count starts = (backed : ℕ → List Start) → ((l : ℕ) → l < count → Backs d end l (feeds l) (backed l)) →
+    starts ≡ each_below (λ l. map (reported d.cycle_time l) (backed l)) count

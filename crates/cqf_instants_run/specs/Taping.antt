@@ -29,7 +29,7 @@ pub record IsTracedRun (d : Domain) (end : ℕ) (background : List Background) (
   pub links : links_of traces ≡ first_links (length d.links)
   pub starts : (l : ℕ) → l < length d.links → starts_at traces l ≡ map mark_of_sent (net.carried l)
 
--- there is such a run
+-- these are the traces of some run of the domain
 pub record SomeTracedRun (d : Domain) (end : ℕ) (background : List Background) (traces : List Trace) : Type 0 where
   pub run : Run
   pub net : Network

@@ -10,7 +10,7 @@ ghost use Rattle.cqf_model.specs.Limits.{most_offers};
 use crate::feeding::feed_links;
 use crate::frames::frames_before;
 use crate::law::port_starts_the_background;
-use crate::telling::tell_links;
+use crate::reporting::report_links;
 use cqf_model::{Background, Started};
 use cqf_topology::Domain;
 use cqf_units::{Memory, Nanos};
@@ -50,7 +50,7 @@ pub fn background_of_history(
     let lists = feed_links(alloc, links, frames.as_slice(), starts)?;
     // the ports have these frames now
     drop(frames);
-    let mut backed = tell_links(alloc, domain, end, lists)?;
+    let mut backed = report_links(alloc, domain, end, lists)?;
     backed.sort_by_key(|start| start.cycle.0)?;
     Ok(backed)
 }

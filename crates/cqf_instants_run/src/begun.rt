@@ -32,12 +32,12 @@ pub(crate) fn begin(
     requires leads { LeadsToLast rows.now from (λ name. get (slice_cmp nat_cmp) last.old name) }
     ensures { IfOk result (λ to. HasBegun rows.now from to cycle.0 (λ name. get (slice_cmp nat_cmp) last.new name)) }
 {
-    for place in from..rows.len() {
-        let row = &rows[place];
+    for index in from..rows.len() {
+        let row = &rows[index];
         if row.admitted.0 > cycle.0 {
-            return Ok(place);
+            return Ok(index);
         }
-        last.insert(row.name.copied(), place)?;
+        last.insert(row.name.copied(), index)?;
     }
     Ok(rows.len())
 }
@@ -49,10 +49,10 @@ pub(crate) fn find_in_force(begun: &RowsBegun<'_>, name: &Name, cycle: Cycle) ->
     ensures { IsInForce begun.now.rows.now begun.now.count name.now cycle.0 result }
 {
     let rows = begun.rows;
-    let place = *begun.last.get(name)?;
-    prove!(place < rows.len());
-    if rows[place].is_held(cycle) {
-        Some(place)
+    let index = *begun.last.get(name)?;
+    prove!(index < rows.len());
+    if rows[index].is_held(cycle) {
+        Some(index)
     } else {
         None
     }

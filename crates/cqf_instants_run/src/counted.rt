@@ -1,7 +1,7 @@
 //! The hops of covered offers, counted for each link.
 ghost use Rattle.std.specs.Prelude.{ℕ, ◌≡◌, ◌+◌, ◌≤◌, ◌<◌, All, IfOk, length, sum_by};
 ghost use Rattle.cqf_model.specs.Run.{AreOffers};
-ghost use Rattle.cqf_model.specs.Traffic.{numbered};
+ghost use Rattle.cqf_model.specs.Policing.{numbered};
 ghost use Rattle.cqf_laws_coverage.specs.Counted.{counts_frames, counts_in, hops_of};
 ghost use Rattle.cqf_laws_coverage.specs.Judged.{StandInOrder};
 ghost use Rattle.cqf_instants_run.specs.Coverage.{verdict_of};
@@ -16,7 +16,7 @@ use cqf_units::{Cycle, Memory, Nanos, cycle_of};
 use std::alloc::Global;
 
 /// Each hop number of a tree is less than this.
-const DEPTHS: u32 = 256;
+const HOP_NUMBERS: u32 = 256;
 
 /// Returns a column for each of the first `links` links, with `width` cycles and nothing counted.
 fn empty_columns(alloc: Global, links: u16, width: u32) -> Result<Vec<Column>, Memory>
@@ -39,7 +39,7 @@ fn width_of(offers: &[Offer], cycle_time: Nanos, cycles: u32) -> u32
 {
     match offers.last() {
         None => 0,
-        Some(last) => cycles.min(cycle_of(last.at, cycle_time).0 + DEPTHS),
+        Some(last) => cycles.min(cycle_of(last.at, cycle_time).0 + HOP_NUMBERS),
     }
 }
 
@@ -51,7 +51,7 @@ fn hops_of(rows: &[Row], edge_verdict: EdgeVerdict) -> &[Hop]
     let none: &[Hop] = &[];
     match edge_verdict {
         EdgeVerdict::Dropped(_) => none,
-        EdgeVerdict::Covered(place) => match rows.get(place) {
+        EdgeVerdict::Covered(index) => match rows.get(index) {
             Some(row) => row.tree.as_slice(),
             None => none,
         },
@@ -64,9 +64,9 @@ fn add_hop(columns: &mut Vec<Column>, link: u16, cycle: u32, octets: u32, cycles
     requires room { HaveRoomFor cycles columns.old.items (λ l. counts_frames l cycles link cycle octets) (λ l c. counts_in l c link cycle octets) }
     ensures { AddsFrame cycles columns.old.items columns.new.items (λ l. counts_frames l cycles link cycle octets) (λ l c. counts_in l c link cycle octets) }
 {
-    let place = usize::from(link);
-    if cycle < cycles && place < columns.len() {
-        let column = &mut columns[place];
+    let index = usize::from(link);
+    if cycle < cycles && index < columns.len() {
+        let column = &mut columns[index];
         column.frames += 1;
         column.octets[cycle as usize] += octets;
     }
@@ -75,19 +75,19 @@ fn add_hop(columns: &mut Vec<Column>, link: u16, cycle: u32, octets: u32, cycles
 /// Counts a frame of an offer of this cycle at each of its hops.
 fn add_hops(columns: &mut Vec<Column>, hops: &[Hop], cycle: Cycle, octets: u32, cycles: u32)
     requires early { cycle.0 ≤ 100000000 }
-    requires width { (depth : ℕ) → depth < 256 → cycle.0 + depth < cycles → HaveWidth columns.old.items (cycle.0 + depth + 1) }
+    requires width { (hop_number : ℕ) → hop_number < 256 → cycle.0 + hop_number < cycles → HaveWidth columns.old.items (cycle.0 + hop_number + 1) }
     requires room { HaveRoomFor cycles columns.old.items
-        (λ l. sum_by (λ hop. counts_frames l cycles hop.link (cycle.0 + hop.depth) octets) hops.now)
-        (λ l c. sum_by (λ hop. counts_in l c hop.link (cycle.0 + hop.depth) octets) hops.now) }
+        (λ l. sum_by (λ hop. counts_frames l cycles hop.link (cycle.0 + hop.hop_number) octets) hops.now)
+        (λ l c. sum_by (λ hop. counts_in l c hop.link (cycle.0 + hop.hop_number) octets) hops.now) }
     ensures { AddsFrame cycles columns.old.items columns.new.items
-        (λ l. sum_by (λ hop. counts_frames l cycles hop.link (cycle.0 + hop.depth) octets) hops.now)
-        (λ l c. sum_by (λ hop. counts_in l c hop.link (cycle.0 + hop.depth) octets) hops.now) }
+        (λ l. sum_by (λ hop. counts_frames l cycles hop.link (cycle.0 + hop.hop_number) octets) hops.now)
+        (λ l c. sum_by (λ hop. counts_in l c hop.link (cycle.0 + hop.hop_number) octets) hops.now) }
 {
     for hop in hops {
         add_hop(
             columns,
             hop.link,
-            cycle.0 + u32::from(hop.depth),
+            cycle.0 + u32::from(hop.hop_number),
             octets,
             cycles,
         );
@@ -119,8 +119,8 @@ pub fn columns_of(
     let cycle_time = domain.cycle_time();
     let width = width_of(offers, cycle_time, cycles);
     let mut columns = empty_columns(alloc, domain.links(), width)?;
-    for (place, offer) in offers.iter().enumerate() {
-        let hops = hops_of(rows, edge_verdicts[place]);
+    for (index, offer) in offers.iter().enumerate() {
+        let hops = hops_of(rows, edge_verdicts[index]);
         let cycle = cycle_of(offer.at, cycle_time);
         add_hops(&mut columns, hops, cycle, offer.octets, cycles);
     }

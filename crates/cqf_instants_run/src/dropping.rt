@@ -34,7 +34,7 @@ fn drop_judged(
     }
 }
 
-/// Returns the same if the offer's cycle is one of the first `cycles` cycles, else `None`.
+/// Returns the drop of an offer if its verdict is a drop and its cycle is one of the first `cycles` cycles, else `None`.
 fn drop_within(
     cycle_time: Nanos,
     cycles: u32,
@@ -65,7 +65,7 @@ fn put(drops: &mut Vec<Dropped>, drop: Option<Dropped>) -> Result<(), Memory>
 }
 
 /// Returns the drops of the offers in the first `cycles` cycles, in order of the offers.
-fn drops_by_place(
+fn drops_by_index(
     alloc: Global,
     cycle_time: Nanos,
     cycles: u32,
@@ -79,13 +79,13 @@ fn drops_by_place(
     ensures { IfOk result (λ drops. drops.items ≡ each_below (drop_at cycle_time.0 cycles offers.now edge_verdicts.now) (length offers.now)) }
 {
     let mut drops = Vec::new(alloc);
-    for (place, offer) in offers.iter().enumerate() {
+    for (index, offer) in offers.iter().enumerate() {
         let drop = drop_within(
             cycle_time,
             cycles,
-            place as u32 + 1,
+            index as u32 + 1,
             offer,
-            edge_verdicts[place],
+            edge_verdicts[index],
         );
         put(&mut drops, drop)?;
     }
@@ -93,8 +93,8 @@ fn drops_by_place(
 }
 
 /// Returns the drops of a run of a domain over the first `cycles` cycles, by cycle, then bridge, then frame. The drops are those of each
-/// book of each legal history that judges the offers as the verdicts say. Offers of later cycles are in no book. The offers are in order of
-/// instant, and each has a verdict at the same index.
+/// book of each legal history that judges the offers as the verdicts say. Offers of later cycles are in no book. There are at most
+/// 16,777,215 offers, in order of instant, and each has a verdict at the same index.
 ///
 /// The drops are collected in one pass over the offers, then sorted once. The time grows with the offers, and with n log n for n drops.
 ///
@@ -116,7 +116,7 @@ pub fn drops_of(
     cqf_laws_coverage::offers_are_judged();
     cqf_laws_shift::book_of_history_says_the_shift();
     let cycle_time = domain.cycle_time();
-    let mut drops = drops_by_place(alloc, cycle_time, cycles, offers, edge_verdicts)?;
+    let mut drops = drops_by_index(alloc, cycle_time, cycles, offers, edge_verdicts)?;
     sort_drops(&mut drops)?;
     Ok(drops)
 }

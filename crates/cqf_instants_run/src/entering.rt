@@ -16,7 +16,7 @@ fn group_for(groups: &[Group], edge_verdict: EdgeVerdict) -> Group
     ensures { result ≡ group_for groups.now edge_verdict }
 {
     match edge_verdict {
-        EdgeVerdict::Covered(place) => match groups.get(place) {
+        EdgeVerdict::Covered(index) => match groups.get(index) {
             Some(group) => *group,
             None => NONE,
         },
@@ -24,7 +24,7 @@ fn group_for(groups: &[Group], edge_verdict: EdgeVerdict) -> Group
     }
 }
 
-/// Returns the same for an offer before `end`, and no hops for a later offer.
+/// Returns the first hops of an offer with this verdict if it is offered before `end`, and no hops if it is offered later.
 fn group_until(end: Nanos, groups: &[Group], offer: &Offer, edge_verdict: EdgeVerdict) -> Group
     ensures { result ≡ group_until end.0 groups.now offer.now edge_verdict }
 {
@@ -52,8 +52,8 @@ pub fn enter_offers(
     ensures { IfOk result (λ entering. AreEntered end.0 offers.now edge_verdicts.now groups.now (length offers.now) entering.items) }
 {
     let mut entering = Vec::with_capacity(alloc, offers.len())?;
-    for (place, offer) in offers.iter().enumerate() {
-        let Group { first, many } = group_until(end, groups, offer, edge_verdicts[place]);
+    for (index, offer) in offers.iter().enumerate() {
+        let Group { first, many } = group_until(end, groups, offer, edge_verdicts[index]);
         entering.push(Entering {
             at: offer.at.0,
             octets: offer.octets,

@@ -9,12 +9,12 @@ use cqf_units::{Memory, Nanos};
 use std::alloc::Global;
 
 /// Returns the background frame at an index, with its number, from 1.
-fn numbered_frame(place: usize, background: &Background) -> Backed
-    requires { place + 1 < 2 ^ 32 }
-    ensures { result ≡ record { frame = place + 1; background = background.now } }
+fn numbered_frame(index: usize, background: &Background) -> Backed
+    requires { index + 1 < 2 ^ 32 }
+    ensures { result ≡ record { frame = index + 1; background = background.now } }
 {
     Backed {
-        frame: (place + 1) as u32,
+        frame: (index + 1) as u32,
         background: *background,
     }
 }
@@ -36,9 +36,9 @@ fn listed_before(
     ensures { IfOk result (λ frames. frames.items ≡ filter (is_early end.0) (numbered_background background.now)) }
 {
     let mut frames = Vec::new(alloc);
-    for (place, frame) in background.iter().enumerate() {
+    for (index, frame) in background.iter().enumerate() {
         if is_early(frame, end) {
-            frames.push(numbered_frame(place, frame))?;
+            frames.push(numbered_frame(index, frame))?;
         }
     }
     Ok(frames)

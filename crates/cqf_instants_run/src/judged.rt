@@ -7,13 +7,13 @@ ghost use Rattle.cqf_model.specs.History.{IsLegalHistory, Recorded, streams_of};
 ghost use Rattle.cqf_model.specs.Run.{AreOffers};
 ghost use Rattle.cqf_laws_coverage.specs.Judged.{StandInOrder};
 ghost use Rattle.cqf_instants_run.specs.Begun.{LeadsToLast};
-ghost use Rattle.cqf_instants_run.specs.Coverage.{AreJudged, IsJudged, used_behind, used_in};
+ghost use Rattle.cqf_instants_run.specs.Coverage.{AreJudged, IsJudged, used_after, used_in};
 
 use crate::begun::{RowsBegun, begin, find_in_force};
 use cqf_laws_coverage::{counters_step, offers_stand_in_order, rows_follow, rows_say_the_tables};
 use cqf_model::{Offer, Reason, Row};
 use cqf_topology::{Domain, begins_at};
-use cqf_units::{Cycle, Memory, cycle_of};
+use cqf_units::{Cycle, Memory, Octets, counted, cycle_of};
 use std::alloc::Global;
 use std::collections::BTreeMap;
 
@@ -35,14 +35,14 @@ pub(crate) struct Used {
 
 /// Returns the octets used of a row in a cycle after an offer that it covers, given the octets used before. Returns the first reason
 /// against the offer if the row doesn't cover it.
-fn used_behind(
+fn used_after(
     domain: &Domain,
     row: &Row,
     cycle: Cycle,
     used: u32,
     offer: &Offer,
 ) -> Result<u32, Reason>
-    ensures { result ≡ used_behind domain.now row.now cycle.0 used offer.now }
+    ensures { result ≡ used_after domain.now row.now cycle.0 used offer.now }
 {
     if !row.live(cycle) {
         return Err(Reason::Withdrawn);
@@ -50,9 +50,10 @@ fn used_behind(
     if !begins_at(domain, row, offer.bridge) {
         return Err(Reason::OtherBridge);
     }
+    let octets = counted(Octets(domain.overhead()), Octets(offer.octets));
     let (most, asked) = (
-        u64::from(row.reserved_behind(None, u64::from(cycle.0))),
-        u64::from(used) + u64::from(offer.octets),
+        u64::from(row.reserved_after(None, u64::from(cycle.0))),
+        u64::from(used) + u64::from(octets.0),
     );
     if asked > most {
         return Err(Reason::Octets);
@@ -84,18 +85,18 @@ fn judge(
     requires counters { length used.old.items ≡ length begun.now.rows.now }
     ensures { IsJudged domain.now begun.now.rows.now begun.now.count cycle.0 offer.now used.old.items used.new.items result }
 {
-    let Some(place) = find_in_force(begun, &offer.stream, cycle) else {
+    let Some(index) = find_in_force(begun, &offer.stream, cycle) else {
         return EdgeVerdict::Dropped(Reason::Unknown);
     };
-    let before = octets_in(&used[place], cycle);
-    match used_behind(domain, &begun.rows[place], cycle, before, offer) {
+    let before = octets_in(&used[index], cycle);
+    match used_after(domain, &begun.rows[index], cycle, before, offer) {
         Err(reason) => EdgeVerdict::Dropped(reason),
         Ok(octets) => {
-            used[place] = Used {
+            used[index] = Used {
                 cycle: cycle.0,
                 octets,
             };
-            EdgeVerdict::Covered(place)
+            EdgeVerdict::Covered(index)
         }
     }
 }
@@ -110,10 +111,11 @@ fn no_use(alloc: Global, rows: usize) -> Result<Vec<Used>, Memory>
     }; rows]?)
 }
 
-/// Returns the verdict on each offer of a domain, by the rows that were ever granted in the domain, in order of number. The row of the
-/// offer's name that is held in the offer's cycle covers the offer if it is live, begins at the offer's bridge, and has enough octets left
-/// after the covered offers before it in this cycle. Else the offer is dropped for the first of these reasons. The verdict on an offer says
-/// nothing if the history hasn't closed the offer's cycle. The time grows with the rows and the offers.
+/// Returns the verdict on each offer of a domain, by the rows that were ever granted in the domain, in order of number. The offers are in
+/// order of instant. The row of the offer's name that is held in the offer's cycle covers the offer if it is live, begins at the offer's
+/// bridge, and has enough octets left after the covered offers before it in this cycle. Else the offer is dropped for the first of these
+/// reasons. The verdict on an offer says nothing if the history hasn't closed the offer's cycle. The time grows with the rows and the
+/// offers.
 ///
 /// # Errors
 /// Returns `Memory` if an allocation fails.

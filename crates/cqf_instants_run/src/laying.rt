@@ -30,9 +30,9 @@ fn lay_stream(
     branches: &mut Vec<LaidHop>,
 ) -> Result<Group, Memory>
     requires links { All (λ hop. hop.link < 4096) row.now.tree.items }
-    requires places { length groups.old.items ≡ 4096 }
+    requires indices { length groups.old.items ≡ 4096 }
     requires room { length branches.old.items + 40400 < 2 ^ 32 }
-    ensures places { IfOk result (λ _. length groups.new.items ≡ 4096) }
+    ensures indices { IfOk result (λ _. length groups.new.items ≡ 4096) }
     ensures lays { IfOk result (λ group. LaysStream cycles row.now branches.old.items branches.new.items group) }
 {
     if is_live_below(row, cycles) {
@@ -57,11 +57,11 @@ pub fn lay_streams(
     requires links { HaveLowLinks rows.now }
     ensures { IfOk result (λ laid. AreLaid cycles rows.now (length rows.now) laid.0.items laid.1.items) }
 {
-    let mut behind = no_groups(alloc)?;
+    let mut following = no_groups(alloc)?;
     let mut branches = Vec::new(alloc);
     let mut groups = Vec::with_capacity(alloc, rows.len())?;
     for row in rows {
-        let group = lay_stream(row, cycles, &mut behind, &mut branches)?;
+        let group = lay_stream(row, cycles, &mut following, &mut branches)?;
         groups.push(group)?;
     }
     Ok((branches, groups))

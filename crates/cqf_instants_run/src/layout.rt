@@ -26,8 +26,9 @@ fn links_of(alloc: Global, domain: &Domain) -> Result<Vec<Link>, Memory>
 }
 
 /// Lays out a run over the first `cycles` cycles of a domain, all closed by a legal history. The rows are the streams that the history ever
-/// granted; their trees are laid. The offers are in order of instant; they are entered by their verdicts. The starts of the run are
-/// computed from the result, and background frames change none of them. The time grows with the hops of the rows and with the offers.
+/// granted; their trees are laid. There are at most 16,777,215 offers, in order of instant; they are entered by their verdicts. The starts
+/// of the run are computed from the result, and background frames change none of them. The time grows with the hops of the rows and with
+/// the offers.
 ///
 /// # Errors
 /// Returns `Memory` if an allocation fails.

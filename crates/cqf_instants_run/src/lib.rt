@@ -7,7 +7,7 @@
 //!   `lay_streams` lays the trees of the streams that are live in the run, one after the other, and `enter_offers` lists each offer with the
 //!   position of its first hops. [`pass_of_history`] makes a pass from the basis. The pass returns the starts cycle by cycle and allocates no
 //!   memory. [`starts_of_history`] collects them in one list.
-//! - **Sums by link**, from the offers alone. [`columns_of`] returns how many frames each link starts in the cycles of a run, and how many
+//! - **Sums by link**, from only the offers. [`columns_of`] returns how many frames each link starts in the cycles of a run, and how many
 //!   octets in each cycle. A covered offer leaves by each link of its stream's tree, as many cycles after its own as the link's hop number.
 //! - **Background frames.** [`background_of_history`] returns the background list of a run's book. For each link with background frames, a
 //!   port is given these frames, and the link's streams' frames, each arriving at the instant at which it starts. The background frames that
@@ -53,8 +53,8 @@ mod laying;
 mod layout;
 mod parts;
 mod passes;
+mod reporting;
 mod taping;
-mod telling;
 
 pub use background::background_of_history;
 pub use counted::columns_of;

@@ -21,7 +21,8 @@ pub fn book_of_parts(starts: Vec<Started>, background: Vec<Started>, drops: Vec<
     }
 }
 
-/// Returns the same for a run without background frames: the book with these starts and these drops of edge bridges.
+/// Returns the book of a run without background frames, with these starts of streams' frames and these drops. If they are those of each
+/// legal run of a history, it is the one book of the history, and all guarantees for a run's book hold for it.
 pub fn book_by_instants(alloc: Global, starts: Vec<Started>, drops: Vec<Dropped>) -> Book
     ensures parts { contents_of result ≡ record { starts = starts.items; background = []; drops = drops.items } }
     ensures book { AreQuietBookOfHistory starts.items drops.items (contents_of result) }

@@ -22,8 +22,8 @@ use std::alloc::Global;
 
 /// Returns a pass over the first `cycles` cycles of a domain, all closed by a legal history. The pass returns the starts of the streams'
 /// frames cycle by cycle, each cycle by link, then instant: those of each legal network of the run, with any background frames. The rows
-/// are the streams that the history ever granted, the offers are in order of instant, and the verdicts are those of the offers. The pass
-/// has all the memory that it will need. The time grows with the hops of the rows and with the offers.
+/// are the streams that the history ever granted, there are at most 16,777,215 offers, in order of instant, and the verdicts are those of
+/// the offers. The pass has all the memory that it will need. The time grows with the hops of the rows and with the offers.
 ///
 /// # Errors
 /// Returns `Memory` if an allocation fails.
@@ -45,8 +45,8 @@ pub fn pass_of_history(
     Pass::new(alloc, basis)
 }
 
-/// Returns the starts of such a pass in all cycles, by cycle, then link, then instant. The time grows with the hops of the rows, with the
-/// offers and with the starts.
+/// Returns the starts that the pass of [`pass_of_history`] yields in all cycles, for the same arguments: by cycle, then link, then instant.
+/// There are at most 16,777,215 offers. The time grows with the hops of the rows, with the offers and with the starts.
 ///
 /// # Errors
 /// Returns `Memory` if an allocation fails.

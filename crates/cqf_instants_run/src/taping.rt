@@ -10,7 +10,7 @@ ghost use Rattle.cqf_instants_run.specs.Taping.{BacksTheTraces, SomeTracedRun, T
 use crate::feeding::{class_of_cycle, feed_frames};
 use crate::frames::frames_before;
 use crate::law::port_starts_the_background;
-use crate::telling::{is_low, starts_of_port};
+use crate::reporting::{is_low, starts_of_port};
 use cqf_model::{Arrival, Background};
 use cqf_topology::Domain;
 use cqf_trace::{Mark, Trace};
@@ -88,16 +88,17 @@ fn keep_on_each(
         AreTaken (fed (slice_index_or (lists_of lists.items) l []) (map (arrival_of_mark domain.now) (starts_at traces.old l))) }
     ensures { OnOk result (TakeBackground domain.now end.0 (λ l. slice_index_or (lists_of lists.items) l []) traces.old traces.new) }
 {
-    let mut place = 0;
+    let mut index = 0;
     for frames in lists {
-        keep_on(alloc, domain, end, frames, &mut traces[place])?;
-        place += 1;
+        keep_on(alloc, domain, end, frames, &mut traces[index])?;
+        index += 1;
     }
     Ok(())
 }
 
-/// Adds to the traces of a run's links, which are in order of link number, the starts of background frames until the run's end. The streams'
-/// frames on the traces stay. The starts are those of each legal network of a run in which streams' frames start as on the traces.
+/// Adds to the traces of a run's links, which are in order of link number, the starts of background frames until the run's end. There are
+/// at most 16,777,215 background frames. The streams' frames on the traces stay. The starts are those of each legal network of a run in
+/// which streams' frames start as on the traces.
 ///
 /// The time grows with n log n for n background frames, since these are sorted, and with the starts of all links that have background
 /// frames.

@@ -24,13 +24,13 @@ pub sum_by-chunk : {X : Type 0} (f : X → ℕ) (xs : List X) (done n : ℕ) →
 sum_by-chunk f xs done n = ap (sum_by f) (take-add done n xs) ∙ sum_by-append f (take done xs) (chunk done n xs)
 
 -- the sum of eight numbers of 32 bits is small
-pub chunk_small : (values : List ℕ) (place : ℕ) → place + 8 ≤ length values → ((k : ℕ) → Fits w32 (get_or values k 0)) →
-    sum_l (chunk place 8 values) ≤ 8 * (2 ^ 32 - 1)
-chunk_small values place inside fits =
-    let lanes = below_from_Fits w32 (chunk place 8 values) (chunk-fits w32 place 8 values fits) in
-    let bound = sum_bound (2 ^ 32 - 1) (chunk place 8 values) (Each1-weaker (λ x. x < 2 ^ 32) (λ x. x ≤ 2 ^ 32 - 1) (λ a small. omega arith)
-    (chunk place 8 values) lanes) in
-    omega (arith, bound, length-chunk place 8 values inside)
+pub chunk_small : (values : List ℕ) (index : ℕ) → index + 8 ≤ length values → ((k : ℕ) → Fits w32 (get_or values k 0)) →
+    sum_l (chunk index 8 values) ≤ 8 * (2 ^ 32 - 1)
+chunk_small values index inside fits =
+    let lanes = below_from_Fits w32 (chunk index 8 values) (chunk-fits w32 index 8 values fits) in
+    let bound = sum_bound (2 ^ 32 - 1) (chunk index 8 values) (Each1-weaker (λ x. x < 2 ^ 32) (λ x. x ≤ 2 ^ 32 - 1) (λ a small. omega arith)
+    (chunk index 8 values) lanes) in
+    omega (arith, bound, length-chunk index 8 values inside)
 
 -- eight more values, summed lane by lane
 pub sum_eight_more : (values lanes more : List ℕ) (done : ℕ) → length lanes ≡ length more → more ≡ chunk done 8 values → sum_l lanes
@@ -40,7 +40,7 @@ sum_eight_more values lanes more done long is so_far =
 
 -- the sum of the part before an index and that of the rest add up to the whole sum
 pub sum_rest : (values : List ℕ) (done front rest : ℕ) → front ≡ sum (take done values) → rest ≡ sum (drop done values) → front + rest ≡ sum values
-sum_rest values done front rest before behind = ap₂ (λ m n. m + n) before behind ∙ sum_by-take-drop (λ x. x) values done
+sum_rest values done front rest before following = ap₂ (λ m n. m + n) before following ∙ sum_by-take-drop (λ x. x) values done
 
 -- an upper bound of a sum of numbers of 32 bits
 pub sum_short : (values : List ℕ) → ((k : ℕ) → Fits w32 (get_or values k 0)) → sum values ≤ length values * (2 ^ 32 - 1)
@@ -50,12 +50,12 @@ sum_short values fits = sum_by-le (λ x. x) (2 ^ 32 - 1) values (All-from_get_or
 -- the sum of the lanes and of what remains after the last full vector
 pub sum_of_all : (values lanes : List ℕ) (done rest : ℕ) → sum_l lanes ≡ sum (take done values) → rest
     ≡ sum (take (length values - done) (drop done values)) → fold_l (λ a b. a + b) 0 lanes + rest ≡ sum values
-sum_of_all values lanes done rest before behind =
+sum_of_all values lanes done rest before following =
     let folded : fold_l (λ a b. a + b) 0 lanes ≡ sum (take done values) = fold-sum 0 lanes ∙ omega (arith, before) in
-    sum_rest values done _ rest folded (behind ∙ ap sum (take_rest values done))
+    sum_rest values done _ rest folded (following ∙ ap sum (take_rest values done))
 
 -- that sum fits 64 bits
 pub sum_of_all_fits : (values lanes : List ℕ) (done rest : ℕ) → length values < 2 ^ 32 → ((k : ℕ) → Fits w32 (get_or values k 0)) →
     sum_l lanes ≡ sum (take done values) → rest ≡ sum (take (length values - done) (drop done values)) → Fits w64 (fold_l (λ a b. a + b) 0 lanes + rest)
-sum_of_all_fits values lanes done rest few fits before behind =
-    record { fits = omega (arith, sum_of_all values lanes done rest before behind, sum_short values fits) }
+sum_of_all_fits values lanes done rest few fits before following =
+    record { fits = omega (arith, sum_of_all values lanes done rest before following, sum_short values fits) }

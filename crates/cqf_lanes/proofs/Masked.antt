@@ -13,7 +13,7 @@ use Rattle.cqf_lanes.proofs.Chunks.{sum_of_lanes, sum_of_vector, sum_short, sum_
 
 -- what one index adds to the sum
 abbrev pub masked_cost : ℕ → ℕ × ℕ → ℕ
-masked_cost bit place = cond (has_bit place.1 bit) place.0 0
+masked_cost bit index = cond (has_bit index.1 bit) index.0 0
 
 -- a choice, with its test negated
 turned : (b : Bool) (cost : ℕ) → cond b 0 cost ≡ cond (not b) cost 0
@@ -84,33 +84,33 @@ length-zip (cost ∷ costs) [] long = absurd (omega arith)
 length-zip (cost ∷ costs) (mask ∷ masks) long = ap suc (length-zip costs masks (omega arith))
 
 -- the element at an index of two zipped lists
-get_or-zip : (place : ℕ) (costs masks : List ℕ) → length costs ≡ length masks → get_or (zip costs masks) place (0, 0)
-    ≡ (get_or costs place 0, get_or masks place 0)
-get_or-zip place [] [] long = refl
-get_or-zip place [] (mask ∷ masks) long = absurd (omega arith)
-get_or-zip place (cost ∷ costs) [] long = absurd (omega arith)
+get_or-zip : (index : ℕ) (costs masks : List ℕ) → length costs ≡ length masks → get_or (zip costs masks) index (0, 0)
+    ≡ (get_or costs index 0, get_or masks index 0)
+get_or-zip index [] [] long = refl
+get_or-zip index [] (mask ∷ masks) long = absurd (omega arith)
+get_or-zip index (cost ∷ costs) [] long = absurd (omega arith)
 get_or-zip zero (cost ∷ costs) (mask ∷ masks) long = refl
-get_or-zip (suc place) (cost ∷ costs) (mask ∷ masks) long = get_or-zip place costs masks (omega arith)
+get_or-zip (suc index) (cost ∷ costs) (mask ∷ masks) long = get_or-zip index costs masks (omega arith)
 
 -- a chunk of two zipped lists
 pub chunk-zip : (n done : ℕ) (costs masks : List ℕ) → zip (chunk done n costs) (chunk done n masks) ≡ chunk done n (zip costs masks)
 chunk-zip n done costs masks = take-zip n (drop done costs) (drop done masks) ∙ ap (take n) (drop-zip done costs masks)
 
 -- one more index adds its cost, or nothing
-pub masked_more : (bit : ℕ) (costs masks : List ℕ) (place total after : ℕ) → length costs ≡ length masks → place < length costs → total
-    ≡ sum_by (masked_cost bit) (take place (zip costs masks)) → after ≡ total + cond (has_bit (get_or masks place 0) bit) (get_or costs place 0) 0
-    → after ≡ sum_by (masked_cost bit) (take (place + 1) (zip costs masks))
-masked_more bit costs masks place total after long inside so_far more =
-    let here : get_or (zip costs masks) place (0, 0) ≡ (get_or costs place 0, get_or masks place 0) = get_or-zip place costs masks long in
-    let step = sum_by_more (masked_cost bit) (zip costs masks) place (0, 0) (omega (arith, length-zip costs masks long)) in
-    more ∙ ap (λ n. n + cond (has_bit (get_or masks place 0) bit) (get_or costs place 0) 0) so_far
-    ∙ sym (step ∙ ap (λ x. sum_by (masked_cost bit) (take place (zip costs masks)) + masked_cost bit x) here)
+pub masked_more : (bit : ℕ) (costs masks : List ℕ) (index total after : ℕ) → length costs ≡ length masks → index < length costs → total
+    ≡ sum_by (masked_cost bit) (take index (zip costs masks)) → after ≡ total + cond (has_bit (get_or masks index 0) bit) (get_or costs index 0) 0
+    → after ≡ sum_by (masked_cost bit) (take (index + 1) (zip costs masks))
+masked_more bit costs masks index total after long inside so_far more =
+    let here : get_or (zip costs masks) index (0, 0) ≡ (get_or costs index 0, get_or masks index 0) = get_or-zip index costs masks long in
+    let step = sum_by_more (masked_cost bit) (zip costs masks) index (0, 0) (omega (arith, length-zip costs masks long)) in
+    more ∙ ap (λ n. n + cond (has_bit (get_or masks index 0) bit) (get_or costs index 0) 0) so_far
+    ∙ sym (step ∙ ap (λ x. sum_by (masked_cost bit) (take index (zip costs masks)) + masked_cost bit x) here)
 
 -- all indices
-pub masked_all : (bit : ℕ) (costs masks : List ℕ) (place total : ℕ) → length costs ≡ length masks → length costs ≤ place → total
-    ≡ sum_by (masked_cost bit) (take place (zip costs masks)) → total ≡ masked_total bit costs masks
-masked_all bit costs masks place total long past so_far =
-    so_far ∙ ap (sum_by (masked_cost bit)) (take_all place (zip costs masks) (omega (arith, length-zip costs masks long)))
+pub masked_all : (bit : ℕ) (costs masks : List ℕ) (index total : ℕ) → length costs ≡ length masks → length costs ≤ index → total
+    ≡ sum_by (masked_cost bit) (take index (zip costs masks)) → total ≡ masked_total bit costs masks
+masked_all bit costs masks index total long past so_far =
+    so_far ∙ ap (sum_by (masked_cost bit)) (take_all index (zip costs masks) (omega (arith, length-zip costs masks long)))
 
 -- the length of a chunk's terms
 pub length-masked_chunk : (bit n done : ℕ) (costs masks : List ℕ) → length costs ≡ length masks → done + n ≤ length costs →
@@ -132,42 +132,42 @@ masked_eight_more bit costs masks lanes more done long is so_far =
 -- the sum of the part before an index and that of the rest add up to the whole sum
 pub masked_rest : (bit : ℕ) (costs masks : List ℕ) (done front rest : ℕ) → front ≡ sum_by (masked_cost bit) (take done (zip costs masks)) →
     rest ≡ masked_total bit (drop done costs) (drop done masks) → front + rest ≡ masked_total bit costs masks
-masked_rest bit costs masks done front rest before behind =
-    ap₂ (λ m n. m + n) before (behind ∙ ap (sum_by (masked_cost bit)) (drop-zip done costs masks)) ∙ sum_by-take-drop (masked_cost bit) (zip costs masks) done
+masked_rest bit costs masks done front rest before following =
+    ap₂ (λ m n. m + n) before (following ∙ ap (sum_by (masked_cost bit)) (drop-zip done costs masks)) ∙ sum_by-take-drop (masked_cost bit) (zip costs masks) done
 
 -- the sum of the lanes and of what remains after the last full vector
 pub masked_of_all : (bit : ℕ) (costs masks lanes : List ℕ) (done rest : ℕ) → sum_l lanes ≡ sum_by (masked_cost bit) (take done (zip costs masks))
     → rest ≡ masked_total bit (take (length costs - done) (drop done costs)) (take (length masks - done) (drop done masks)) →
     fold_l (λ a b. a + b) 0 lanes + rest ≡ masked_total bit costs masks
-masked_of_all bit costs masks lanes done rest before behind =
+masked_of_all bit costs masks lanes done rest before following =
     let folded : fold_l (λ a b. a + b) 0 lanes ≡ sum_by (masked_cost bit) (take done (zip costs masks)) = fold-sum 0 lanes ∙ omega (arith, before) in
-    masked_rest bit costs masks done _ rest folded (behind ∙ ap₂ (masked_total bit) (take_rest costs done) (take_rest masks done))
+    masked_rest bit costs masks done _ rest folded (following ∙ ap₂ (masked_total bit) (take_rest costs done) (take_rest masks done))
 
 -- that sum fits 64 bits
 pub masked_of_all_fits : (bit : ℕ) (costs masks lanes : List ℕ) (done rest : ℕ) → length costs < 2 ^ 32 → ((k : ℕ) → Fits w32 (get_or costs k 0))
     → sum_l lanes ≡ sum_by (masked_cost bit) (take done (zip costs masks)) → rest
     ≡ masked_total bit (take (length costs - done) (drop done costs)) (take (length masks - done) (drop done masks)) →
     Fits w64 (fold_l (λ a b. a + b) 0 lanes + rest)
-masked_of_all_fits bit costs masks lanes done rest few fits before behind =
-    let whole = masked_of_all bit costs masks lanes done rest before behind in
+masked_of_all_fits bit costs masks lanes done rest few fits before following =
+    let whole = masked_of_all bit costs masks lanes done rest before following in
     let lanes_of_all = sum_of_lanes (masked_cost bit) (zip costs masks) in
     record { fits = omega (arith, whole, lanes_of_all, masked_sum_le bit costs masks, sum_of_vector costs, sum_short costs fits) }
 
-module _ (bit place : ℕ) (costs masks loaded : List ℕ) (low : bit < 64) (inside : place + 8 ≤ length costs) (long : length costs ≡ length masks)
-    (is : loaded ≡ chunk place 8 costs) where
+module _ (bit index : ℕ) (costs masks loaded : List ℕ) (low : bit < 64) (inside : index + 8 ≤ length costs) (long : length costs ≡ length masks)
+    (is : loaded ≡ chunk index 8 costs) where
   -- eight lanes of costs, with 0 for each whose mask doesn't have the bit
   abbrev pub selection : List ℕ
-  selection = sel_l (map (top 63) (zip2 (λ a b. cond (eqb a b) (2 ^ 64 - 1) 0) (zip2 bit_and (chunk place 8 masks) (replicate 8 (1 * 2 ^ bit % 2 ^ 64)))
+  selection = sel_l (map (top 63) (zip2 (λ a b. cond (eqb a b) (2 ^ 64 - 1) 0) (zip2 bit_and (chunk index 8 masks) (replicate 8 (1 * 2 ^ bit % 2 ^ 64)))
       (replicate 8 0))) (replicate 8 0) loaded
 
   -- they are the terms of the eight indices
-  pub selected_in : selection ≡ map (masked_cost bit) (zip (chunk place 8 costs) (chunk place 8 masks))
+  pub selected_in : selection ≡ map (masked_cost bit) (zip (chunk index 8 costs) (chunk index 8 masks))
   selected_in =
-      selected_lanes bit (1 * 2 ^ bit % 2 ^ 64) loaded (chunk place 8 masks) (one_shl bit 64 low) (ap length is ∙ length-chunk place 8 costs inside)
-      (length-chunk place 8 masks (omega arith))
-      ∙ ap (λ xs. map (masked_cost bit) (zip xs (chunk place 8 masks))) is
+      selected_lanes bit (1 * 2 ^ bit % 2 ^ 64) loaded (chunk index 8 masks) (one_shl bit 64 low) (ap length is ∙ length-chunk index 8 costs inside)
+      (length-chunk index 8 masks (omega arith))
+      ∙ ap (λ xs. map (masked_cost bit) (zip xs (chunk index 8 masks))) is
 
   -- and their sum is at most that of eight costs
   pub selected_small : sum_l loaded ≤ 8 * (2 ^ 32 - 1) → sum_l selection ≤ 8 * (2 ^ 32 - 1)
   selected_small small = subst (λ xs. sum_l xs ≤ 8 * (2 ^ 32 - 1)) (sym selected_in)
-      (masked_small bit (8 * (2 ^ 32 - 1)) (chunk place 8 costs) (chunk place 8 masks) (subst (λ xs. sum_l xs ≤ 8 * (2 ^ 32 - 1)) is small))
+      (masked_small bit (8 * (2 ^ 32 - 1)) (chunk index 8 costs) (chunk index 8 masks) (subst (λ xs. sum_l xs ≤ 8 * (2 ^ 32 - 1)) is small))

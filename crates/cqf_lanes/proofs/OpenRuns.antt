@@ -83,8 +83,8 @@ run_goes_on class done mask states inside opened is none k below = elim (cases_l
 -- after entries that open the class, the run continues with that of the rest
 pub run_of_rest : (class done run : ℕ) (states rest : List ℕ) → done ≤ length states → rest ≡ take (length states - done) (drop done states)
     → ((k : ℕ) → k < done → has_bit (get_or states k 0) class ≡ true) → run ≡ open_run_of class rest → done + run ≡ open_run_of class states
-run_of_rest class done run states rest inside behind opened counted =
-    let is : rest ≡ drop done states = behind ∙ take_rest states done in
+run_of_rest class done run states rest inside following opened counted =
+    let is : rest ≡ drop done states = following ∙ take_rest states done in
     let there : (k : ℕ) → get_or rest k 0 ≡ get_or states (done + k) 0 = λ k. ap (λ xs. get_or xs k 0) is ∙ get_or-drop done states k 0 in
     let long : length rest ≡ length states - done = ap length is ∙ length-drop done states in
     let counted_here : run ≡ prefix_len (λ gates. has_bit gates class) rest = counted in

@@ -4,8 +4,8 @@ ghost use Rattle.cqf_lanes.specs.Kernels.{AreEligible, IsHighest};
 
 use std::simd::prelude::*;
 
-/// Returns the mask of eligible classes, with class 7 in the highest bit: those classes whose bit is set in `gates` and
-/// that need at most what is left to them.
+/// Returns the mask of the classes whose bit is set in `gates` and that need at most what is left to them. `need` and
+/// `left` are in the same unit, by class. Bit 0 is class 0, and the highest bit is class 7.
 pub fn eligible(gates: u8, need: &[u32; 8], left: &[u32; 8]) -> u8
     ensures { AreEligible gates need.now left.now result }
 {
@@ -26,7 +26,8 @@ pub fn eligible_plain(gates: u8, need: &[u32; 8], left: &[u32; 8]) -> u8
     classes
 }
 
-/// Returns the greatest bit that is set, or `None` if the mask is 0.
+/// Returns the number of the highest bit that is set, 0 to 7, or `None` if the mask is 0. With a mask of classes, this
+/// is the class that strict priority selects (IEEE 802.1Q, 8.6.8.1).
 pub fn highest(mask: u8) -> Option<u8>
     ensures { MatchOption result (mask ≡ 0) (IsHighest mask) }
 {

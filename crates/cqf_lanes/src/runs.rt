@@ -8,7 +8,8 @@ use std::simd::prelude::*;
 /// The number of gate states that are tested at a time.
 const LANES: usize = 16;
 
-/// Returns the number of gate states, from the first on, that open the class, which is 0 to 7; class 7 has the highest bit.
+/// Returns the number of gate states at the beginning of the list that open the class. The class is 0 to 7; its bit in a state is set if
+/// its gate is open.
 pub fn open_run(states: &[u8], class: u8) -> usize
     requires { class < 8 }
     ensures { result ≡ open_run_of class states.now }
@@ -29,20 +30,20 @@ pub fn open_run_plain(states: &[u8], class: u8) -> usize
     requires { class < 8 }
     ensures { result ≡ open_run_of class states.now }
 {
-    for (place, gates) in states.iter().enumerate() {
+    for (index, gates) in states.iter().enumerate() {
         if *gates & (1 << class) == 0 {
-            return place;
+            return index;
         }
     }
     states.len()
 }
 
-/// Returns the mask of those of sixteen entries that close the class; bit 0 is the first entry's.
-fn closed_from(states: &[u8], place: usize, class: u8) -> u64
-    requires inside { place + 16 ≤ length states.now }
+/// Returns the mask of those of the sixteen gate states from `index` on that close the class. Bit 0 is the first of them.
+fn closed_from(states: &[u8], index: usize, class: u8) -> u64
+    requires inside { index + 16 ≤ length states.now }
     requires gate { class < 8 }
-    ensures { result ≡ mask_l (map (λ gates. not (has_bit gates class)) (chunk place 16 states.now)) }
+    ensures { result ≡ mask_l (map (λ gates. not (has_bit gates class)) (chunk index 16 states.now)) }
 {
-    let opened = u8x16::from_slice(&states[place..]) & u8x16::splat(1 << class);
+    let opened = u8x16::from_slice(&states[index..]) & u8x16::splat(1 << class);
     opened.simd_eq(u8x16::splat(0)).to_bitmask()
 }

@@ -35,8 +35,8 @@ pub fn octet_sum_plain(octets: &[u32]) -> u64
     total
 }
 
-/// Returns the sum of the costs at the indices whose mask has the bit, which is 0 to 63, the lowest being bit 0. The
-/// two lists have the same length, at most 4,294,967,295.
+/// Returns the sum of those costs whose mask, at the same index, has this bit set. Bits count from 0, the lowest, to
+/// 63. The two lists have the same length, at most 4,294,967,295.
 pub fn masked_sum(costs: &[u32], masks: &[u64], bit: u32) -> u64
     requires side_by_side { length costs.now ≡ length masks.now }
     requires few { length costs.now < 2 ^ 32 }
@@ -60,32 +60,33 @@ pub fn masked_sum_plain(costs: &[u32], masks: &[u64], bit: u32) -> u64
     ensures { result ≡ masked_total bit costs.now masks.now }
 {
     let mut total: u64 = 0;
-    for place in 0..costs.len() {
-        if masks[place] & (1 << bit) != 0 {
-            total += u64::from(costs[place]);
+    for index in 0..costs.len() {
+        if masks[index] & (1 << bit) != 0 {
+            total += u64::from(costs[index]);
         }
     }
     total
 }
 
-/// Returns the values at eight indices, each in a lane of 64 bits.
-fn eight_from(values: &[u32], place: usize) -> u64x8
-    requires { place + 8 ≤ length values.now }
-    ensures lanes { result ≡ chunk place 8 values.now }
+/// Returns the eight values from index `index` on, each in a lane of 64 bits.
+fn eight_from(values: &[u32], index: usize) -> u64x8
+    requires { index + 8 ≤ length values.now }
+    ensures lanes { result ≡ chunk index 8 values.now }
     ensures small { sum_l result ≤ 8 * (2 ^ 32 - 1) }
 {
-    u32x8::from_slice(&values[place..]).cast::<u64>()
+    u32x8::from_slice(&values[index..]).cast::<u64>()
 }
 
-/// Returns the costs at eight indices, each in a lane of 64 bits, with 0 for each whose mask doesn't have the bit.
-fn eight_masked(costs: &[u32], masks: &[u64], bit: u32, place: usize) -> u64x8
-    requires inside { place + 8 ≤ length costs.now }
+/// Returns the eight costs from index `index` on, each in a lane of 64 bits, with 0 for each whose mask doesn't have
+/// the bit.
+fn eight_masked(costs: &[u32], masks: &[u64], bit: u32, index: usize) -> u64x8
+    requires inside { index + 8 ≤ length costs.now }
     requires side_by_side { length costs.now ≡ length masks.now }
     requires low { bit < 64 }
-    ensures lanes { result ≡ map (λ (x : ℕ × ℕ). if has_bit x.1 bit then x.0 else 0) (zip (chunk place 8 costs.now) (chunk place 8 masks.now)) }
+    ensures lanes { result ≡ map (λ (x : ℕ × ℕ). if has_bit x.1 bit then x.0 else 0) (zip (chunk index 8 costs.now) (chunk index 8 masks.now)) }
     ensures small { sum_l result ≤ 8 * (2 ^ 32 - 1) }
 {
-    let marked = u64x8::from_slice(&masks[place..]) & u64x8::splat(1 << bit);
+    let marked = u64x8::from_slice(&masks[index..]) & u64x8::splat(1 << bit);
     let unmarked = marked.simd_eq(u64x8::splat(0));
-    unmarked.select(u64x8::splat(0), eight_from(costs, place))
+    unmarked.select(u64x8::splat(0), eight_from(costs, index))
 }

@@ -11,17 +11,17 @@ use Rattle.cqf_lists.proofs.EachBelow.{below_plus, same_below}
 use Rattle.cqf_lists.proofs.Members.{contains_at}
 use Rattle.cqf_model.specs.Domain.{Domain}
 use Rattle.cqf_model.specs.History.{Recorded, is_seal, seals}
-use Rattle.cqf_laws_history.proofs.Places.{sealed-suc}
+use Rattle.cqf_laws_history.proofs.Indices.{sealed-suc}
 use Rattle.cqf_admission.specs.Tables.{CycleTable}
 use Rattle.cqf_desk.specs.Closing.{closed_by, is_seal_by, table_closed, tables_by}
 use Rattle.cqf_laws_account.specs.Sealing.{SealsAlone, cycle_tables}
 
 -- an element after a front, by its distance from the front
-behind_front : {X : Type 0} (xs : List X) (n i place : ℕ) (x : X) → place ≡ n + i → slice_get xs place ≡ Some x → slice_get (drop n xs) i ≡ Some x
-behind_front xs zero i place x e there = let same : place ≡ i = omega (arith, e) in subst (λ (k : ℕ). slice_get xs k ≡ Some x) same there
-behind_front [] (suc n) i place x e there = absurd cc
-behind_front (y ∷ xs) (suc n) i zero x e there = absurd (omega (arith, e))
-behind_front (y ∷ xs) (suc n) i (suc place) x e there = behind_front xs n i place x (omega (arith, e)) there
+after_front : {X : Type 0} (xs : List X) (n i index : ℕ) (x : X) → index ≡ n + i → slice_get xs index ≡ Some x → slice_get (drop n xs) i ≡ Some x
+after_front xs zero i index x e there = let same : index ≡ i = omega (arith, e) in subst (λ (k : ℕ). slice_get xs k ≡ Some x) same there
+after_front [] (suc n) i index x e there = absurd cc
+after_front (y ∷ xs) (suc n) i zero x e there = absurd (omega (arith, e))
+after_front (y ∷ xs) (suc n) i (suc index) x e there = after_front xs n i index x (omega (arith, e)) there
 
 -- whether an entry is a Seal, of any seat
 abbrev pub is_any_seal : Recorded → Bool
@@ -29,14 +29,14 @@ is_any_seal e = is_seal e.act
 
 -- the table that is closed at an index if the entry there passes a test
 abbrev pub closed_where : (Recorded → Bool) → Domain → List Recorded → ℕ → List CycleTable
-closed_where test d entries place =
-    option_map_or (λ (e : Recorded). if test e then table_closed d entries place ∷ [] else []) (slice_get entries place) []
+closed_where test d entries index =
+    option_map_or (λ (e : Recorded). if test e then table_closed d entries index ∷ [] else []) (slice_get entries index) []
 
 -- if the entry is known
-closed_where_is : (test : Recorded → Bool) (d : Domain) (entries : List Recorded) (place : ℕ) (e : Recorded) → slice_get entries place ≡ Some e →
-    closed_where test d entries place ≡ (if test e then table_closed d entries place ∷ [] else [])
-closed_where_is test d entries place e there =
-    ap (λ (o : Option Recorded). option_map_or (λ (r : Recorded). if test r then table_closed d entries place ∷ [] else []) o []) there
+closed_where_is : (test : Recorded → Bool) (d : Domain) (entries : List Recorded) (index : ℕ) (e : Recorded) → slice_get entries index ≡ Some e →
+    closed_where test d entries index ≡ (if test e then table_closed d entries index ∷ [] else [])
+closed_where_is test d entries index e there =
+    ap (λ (o : Option Recorded). option_map_or (λ (r : Recorded). if test r then table_closed d entries index ∷ [] else []) o []) there
 
 -- all Seals of a front close the tables of its cycles
 all_closed : (d : Domain) (entries : List Recorded) (n : ℕ) → n ≤ length entries →
@@ -90,7 +90,7 @@ same_there : (d : Domain) (entries : List Recorded) (first number i : ℕ) → S
 same_there d entries first number i alone below =
     elim (slice_get_cases entries (first + i)).1 [
       | inl w ↦
-          let there : Contains (drop first entries) w.0 = contains_at (drop first entries) i w.0 (behind_front entries first i (first + i) w.0 refl w.2) in
+          let there : Contains (drop first entries) w.0 = contains_at (drop first entries) i w.0 (after_front entries first i (first + i) w.0 refl w.2) in
           closed_where_is (is_seal_by number) d entries (first + i) w.0 w.2
           ∙ ap (λ b. if b then table_closed d entries (first + i) ∷ [] else []) (seal_of_seat entries first number w.0 alone there)
           ∙ sym (closed_where_is is_any_seal d entries (first + i) w.0 w.2)

@@ -18,7 +18,7 @@ use Rattle.cqf_model.specs.Domain.{Domain, IsAccepted, cycle_of}
 use Rattle.cqf_model.specs.GateList.{Entry}
 use Rattle.cqf_model.specs.Network.{IsLegalNetwork, Network, comes_before}
 use Rattle.cqf_model.specs.Run.{Run}
-use Rattle.cqf_model.specs.Traffic.{Policed, policed_before}
+use Rattle.cqf_model.specs.Policing.{Policed, policed_before}
 use Rattle.cqf_model.proofs.Drops.{dropped_at}
 use Rattle.cqf_laws_cycle.specs.PageLaws.{IsSomeBook}
 use Rattle.cqf_trace.specs.declared.trace.Mark.{Mark}
@@ -26,9 +26,9 @@ use Rattle.cqf_trace.specs.declared.traces.TransmissionKind.{TransmissionKind}
 use Rattle.cqf_trace.specs.declared.traces.TransmissionKind.TheVariants.{Background, Stream}
 use Rattle.cqf_trace.specs.declared.traces.Traces.{Traces}
 use Rattle.cqf_trace.specs.Traces.{AreDropsByCycle, AreTracesOf, IsInOrder, drops_at, drops_in_cycles, is_at_bridge, is_drop_in, is_in}
-use Rattle.cqf_trace.specs.Traces.{mark_of, marks_at, marks_on, started_by, told_from, told_in_cycles, told_on}
+use Rattle.cqf_trace.specs.Traces.{mark_of, marks_at, marks_on, reported_from, reported_in_cycles, reported_on, started_by}
 use Rattle.cqf_trace.proofs.ByTwo.{of_both, of_second, pairs_of_second}
-use Rattle.cqf_laws_account.specs.Traced.{TracesTell}
+use Rattle.cqf_laws_account.specs.Traced.{TracesGive}
 use Rattle.cqf_laws_account.proofs.Ordered.{backed_in_order, sent_in_order}
 
 -- the numbers that starts and drops bear
@@ -52,8 +52,8 @@ earlier n s t some less = elim (cases_lt s t) [
 ]
 
 -- a transmission is recovered from its mark
-told_again : (d : Domain) (link : ℕ) (x : Started) → x.link ≡ link → x.cycle.0 ≡ cycle_of d x.start.0 → started_by d link (mark_of x) ≡ x
-told_again d link x of_link of_cycle i = record {
+reported_again : (d : Domain) (link : ℕ) (x : Started) → x.link ≡ link → x.cycle.0 ≡ cycle_of d x.start.0 → started_by d link (mark_of x) ≡ x
+reported_again d link x of_link of_cycle i = record {
   cycle = record { 0 = sym of_cycle i };
   link = sym of_link i;
   frame = x.frame;
@@ -62,12 +62,12 @@ told_again d link x of_link of_cycle i = record {
 }
 
 -- and so are all
-told_again_each : (d : Domain) (link : ℕ) (xs : List Started) → ((x : Started) → Contains xs x → started_by d link (mark_of x) ≡ x) →
+reported_again_each : (d : Domain) (link : ℕ) (xs : List Started) → ((x : Started) → Contains xs x → started_by d link (mark_of x) ≡ x) →
     map (started_by d link) (map mark_of xs) ≡ xs
-told_again_each d link [] same = refl
-told_again_each d link (x ∷ xs) same =
+reported_again_each d link [] same = refl
+reported_again_each d link (x ∷ xs) same =
     ap₂ (λ (y : Started) (ys : List Started). y ∷ ys) (same x (contains_here x xs))
-    (told_again_each d link xs (λ y h. same y (contains_later x xs y h)))
+    (reported_again_each d link xs (λ y h. same y (contains_later x xs y h)))
 
 -- the cycle of a transmission's instant
 abbrev cycle_then : Domain → Started → ℕ
@@ -90,23 +90,23 @@ all_starts d cycles lists = each_below (λ cycle. each_below (lists cycle) (leng
 
 module _ (d : Domain) (cycles : ℕ) (lists : ℕ → ℕ → List Started) (are : AreOfAKind d cycles lists) where
   -- a link's marks give for a cycle what the link sends in it
-  told_on_link : (cycle link : ℕ) → cycle < cycles → link < length d.links → told_on d cycle link (marks_on link (all_starts d cycles lists)) ≡ lists cycle link
-  told_on_link cycle link in_cycles in_links =
+  reported_on_link : (cycle link : ℕ) → cycle < cycles → link < length d.links → reported_on d cycle link (marks_on link (all_starts d cycles lists)) ≡ lists cycle link
+  reported_on_link cycle link in_cycles in_links =
       let on_link = filter (λ (x : Started). link_of x == link) (all_starts d cycles lists) in
       ap (map (started_by d link)) (filter-map mark_of (is_in d cycle) on_link)
       ∙ ap (λ (xs : List Started). map (started_by d link) (map mark_of xs))
       (of_both link_of cycles (length d.links) lists are.has_link (cycle_then d) are.in_cycle cycle link in_cycles in_links)
-      ∙ told_again_each d link (lists cycle link) (λ x h.
-      told_again d link x (are.has_link cycle link x h) (are.has_cycle cycle link x h ∙ sym (are.in_cycle cycle link x h)))
+      ∙ reported_again_each d link (lists cycle link) (λ x h.
+      reported_again d link x (are.has_link cycle link x h) (are.has_cycle cycle link x h ∙ sym (are.in_cycle cycle link x h)))
 
   -- so all are recovered from the links' marks
-  told_by_marks : (marks : ℕ → List Mark) → ((link : ℕ) → link < length d.links → marks link ≡ marks_on link (all_starts d cycles lists)) →
-      all_starts d cycles lists ≡ each_below (λ cycle. each_below (λ link. told_on d cycle link (marks link)) (length d.links)) cycles
-  told_by_marks marks same =
+  reported_by_marks : (marks : ℕ → List Mark) → ((link : ℕ) → link < length d.links → marks link ≡ marks_on link (all_starts d cycles lists)) →
+      all_starts d cycles lists ≡ each_below (λ cycle. each_below (λ link. reported_on d cycle link (marks link)) (length d.links)) cycles
+  reported_by_marks marks same =
       same_below (λ cycle. each_below (lists cycle) (length d.links))
-      (λ cycle. each_below (λ link. told_on d cycle link (marks link)) (length d.links)) cycles (λ cycle in_cycles.
-      same_below (lists cycle) (λ link. told_on d cycle link (marks link)) (length d.links) (λ link in_links.
-      sym (ap (told_on d cycle link) (same link in_links) ∙ told_on_link cycle link in_cycles in_links)))
+      (λ cycle. each_below (λ link. reported_on d cycle link (marks link)) (length d.links)) cycles (λ cycle in_cycles.
+      same_below (lists cycle) (λ link. reported_on d cycle link (marks link)) (length d.links) (λ link in_links.
+      sym (ap (reported_on d cycle link) (same link in_links) ∙ reported_on_link cycle link in_cycles in_links)))
 
   -- and on each link they are in order
   marks_in_order : 0 < d.cycle_time → (link : ℕ) (marks : List Mark) → link < length d.links → marks ≡ marks_on link (all_starts d cycles lists) → IsInOrder marks
@@ -120,32 +120,32 @@ module _ (d : Domain) (cycles : ℕ) (lists : ℕ → ℕ → List Started) (are
       (λ cycle in_cycles. are.ascends cycle link in_cycles in_links)
       (λ x y less. earlier d.cycle_time x.start.0 y.start.0 some less)))
 
-module _ (d : Domain) (cycles places : ℕ) (policed : ℕ → List Policed) where
+module _ (d : Domain) (cycles indices : ℕ) (policed : ℕ → List Policed) where
   -- each drop bears its cycle and its bridge
-  has_cycle : (cycle bridge : ℕ) (x : Dropped) → Contains (drops_in d places policed cycle bridge) x → cycle_of_drop x ≡ cycle
-  has_cycle cycle bridge x h = sym (ap cycle_of_drop (dropped_at d places policed cycle bridge x h).is)
+  has_cycle : (cycle bridge : ℕ) (x : Dropped) → Contains (drops_in d indices policed cycle bridge) x → cycle_of_drop x ≡ cycle
+  has_cycle cycle bridge x h = sym (ap cycle_of_drop (dropped_at d indices policed cycle bridge x h).is)
 
-  has_bridge : (cycle bridge : ℕ) (x : Dropped) → Contains (drops_in d places policed cycle bridge) x → bridge_of_drop x ≡ bridge
-  has_bridge cycle bridge x h = sym (ap bridge_of_drop (dropped_at d places policed cycle bridge x h).is)
+  has_bridge : (cycle bridge : ℕ) (x : Dropped) → Contains (drops_in d indices policed cycle bridge) x → bridge_of_drop x ≡ bridge
+  has_bridge cycle bridge x h = sym (ap bridge_of_drop (dropped_at d indices policed cycle bridge x h).is)
 
   -- drops by cycle and bridge are recovered from those of each bridge
-  told_by_bridges : (drops : ℕ → List Dropped) →
-      ((bridge : ℕ) → bridge < length d.bridges → drops bridge ≡ filter (is_at_bridge bridge) (drops_of d cycles places policed)) →
-      drops_of d cycles places policed ≡ each_below (λ cycle. each_below (λ bridge. filter (is_drop_in cycle) (drops bridge)) (length d.bridges)) cycles
-  told_by_bridges drops same =
+  reported_by_bridges : (drops : ℕ → List Dropped) →
+      ((bridge : ℕ) → bridge < length d.bridges → drops bridge ≡ filter (is_at_bridge bridge) (drops_of d cycles indices policed)) →
+      drops_of d cycles indices policed ≡ each_below (λ cycle. each_below (λ bridge. filter (is_drop_in cycle) (drops bridge)) (length d.bridges)) cycles
+  reported_by_bridges drops same =
       let bridges = length d.bridges in
-      same_below (λ cycle. each_below (drops_in d places policed cycle) bridges)
+      same_below (λ cycle. each_below (drops_in d indices policed cycle) bridges)
       (λ cycle. each_below (λ bridge. filter (is_drop_in cycle) (drops bridge)) bridges) cycles (λ cycle in_cycles.
-      same_below (drops_in d places policed cycle) (λ bridge. filter (is_drop_in cycle) (drops bridge)) bridges (λ bridge in_bridges.
+      same_below (drops_in d indices policed cycle) (λ bridge. filter (is_drop_in cycle) (drops bridge)) bridges (λ bridge in_bridges.
       sym (ap (filter (is_drop_in cycle)) (same bridge in_bridges)
-      ∙ of_both bridge_of_drop cycles bridges (drops_in d places policed) has_bridge cycle_of_drop has_cycle cycle bridge in_cycles in_bridges)))
+      ∙ of_both bridge_of_drop cycles bridges (drops_in d indices policed) has_bridge cycle_of_drop has_cycle cycle bridge in_cycles in_bridges)))
 
   -- and those of each bridge are by cycle
   drops_by_cycle : (bridge : ℕ) (drops : List Dropped) → bridge < length d.bridges →
-      drops ≡ filter (is_at_bridge bridge) (drops_of d cycles places policed) → AreDropsByCycle drops
+      drops ≡ filter (is_at_bridge bridge) (drops_of d cycles indices policed) → AreDropsByCycle drops
   drops_by_cycle bridge drops in_bridges same =
       let R : Dropped → Dropped → Type 0 = λ (a b : Dropped). a.cycle.0 ≤ b.cycle.0 in
-      let lists = drops_in d places policed in
+      let lists = drops_in d indices policed in
       subst AreDropsByCycle (sym (same ∙ of_second bridge_of_drop cycles (length d.bridges) lists has_bridge bridge in_bridges))
       (pairs_of_second cycle_of_drop cycles lists has_cycle R bridge
       (λ cycle in_cycles. pairs_members R (lists cycle bridge) (λ x y in_x in_y.
@@ -220,24 +220,24 @@ module _ (d : Domain) (cycles : ℕ) (traces : Traces) (book : Contents) (accept
   drops_are bridge inside = are.drops bridge inside ∙ ap (filter (is_at_bridge bridge)) some.is_book.are_drops
 
   -- the traces give the starts of both kinds
-  told_of_kind : (kind : TransmissionKind) → all_starts d cycles (lists_of kind) ≡ told_in_cycles d kind traces cycles
-  told_of_kind kind = told_by_marks d cycles (lists_of kind) (kinds kind) (marks_at kind traces) (marks_are kind)
+  reported_of_kind : (kind : TransmissionKind) → all_starts d cycles (lists_of kind) ≡ reported_in_cycles d kind traces cycles
+  reported_of_kind kind = reported_by_marks d cycles (lists_of kind) (kinds kind) (marks_at kind traces) (marks_are kind)
 
   -- the traces give the book
-  tells : book ≡ told_from d cycles traces
-  tells =
+  reports : book ≡ reported_from d cycles traces
+  reports =
       let b = some.is_book in
-      let starts : book.starts ≡ told_in_cycles d Stream traces cycles = b.are_starts ∙ told_of_kind Stream in
-      let background : book.background ≡ told_in_cycles d Background traces cycles = b.are_background ∙ told_of_kind Background in
+      let starts : book.starts ≡ reported_in_cycles d Stream traces cycles = b.are_starts ∙ reported_of_kind Stream in
+      let background : book.background ≡ reported_in_cycles d Background traces cycles = b.are_background ∙ reported_of_kind Background in
       let drops : book.drops ≡ drops_in_cycles d traces cycles =
-      b.are_drops ∙ told_by_bridges d cycles (length some.offers) policed (drops_at traces) drops_are in
+      b.are_drops ∙ reported_by_bridges d cycles (length some.offers) policed (drops_at traces) drops_are in
       λ i. record { starts = starts i; background = background i; drops = drops i }
 
-  pub trace_told : TracesTell d cycles traces book
-  trace_told =
+  pub trace_reported : TracesGive d cycles traces book
+  trace_reported =
       let takes : 0 < d.cycle_time = omega (arith, accepted.cycle_least) in
       record {
-        told = tells;
+        reported = reports;
         may = record {
           each_link = are.each_link;
           in_order = λ kind link inside.

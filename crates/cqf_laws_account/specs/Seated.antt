@@ -32,7 +32,7 @@ abbrev pub SeatsGiveTheHistory : Type 0
 SeatsGiveTheHistory = (d : Domain) (opening : List Recorded) (asked : List (List Act)) (cycles : ℕ) (seats : List Sitting) (entries : List Recorded) →
     IsOfSeats opening d (length asked + 1) seats entries → AreSeated asked cycles seats → IsHistoryOf d opening asked cycles entries
 
--- and the conductor has the tables of its cycles if the opening part has no Seal
+-- the conductor has the tables of its cycles if the opening part has no Seal
 abbrev pub ConductorHasTheTables : Type 0
 ConductorHasTheTables = (d : Domain) (opening : List Recorded) (asked : List (List Act)) (cycles : ℕ) (seats : List Sitting) (entries : List Recorded) →
     IsOfSeats opening d (length asked + 1) seats entries → (seated : AreSeated asked cycles seats) → AsksForNoSeal asked → seals opening ≡ 0 →

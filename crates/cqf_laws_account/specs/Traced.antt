@@ -8,7 +8,7 @@ use Rattle.cqf_model.specs.History.{Recorded}
 use Rattle.cqf_model.specs.HistoryBook.{IsBookOfHistory}
 use Rattle.cqf_laws_cycle.specs.PageLaws.{IsSomeBook}
 use Rattle.cqf_trace.specs.declared.traces.Traces.{Traces}
-use Rattle.cqf_trace.specs.Traces.{AreTracesOf, MayBeTold, told_from}
+use Rattle.cqf_trace.specs.Traces.{AreTracesOf, MayBeReported, reported_from}
 
 -- the one-thread book of a history over the first `cycles` cycles, and its traces
 pub record HasTheTraces (d : Domain) (entries : List Recorded) (offers : List Offer) (background : List Background) (cycles : ℕ)
@@ -18,10 +18,10 @@ pub record HasTheTraces (d : Domain) (entries : List Recorded) (offers : List Of
   pub traces_of : AreTracesOf d traces book
 
 -- the traces of a book determine it, without sorting
-pub record TracesTell (d : Domain) (cycles : ℕ) (traces : Traces) (book : Contents) : Type 0 where
-  pub told : book ≡ told_from d cycles traces
-  pub may : MayBeTold d traces
+pub record TracesGive (d : Domain) (cycles : ℕ) (traces : Traces) (book : Contents) : Type 0 where
+  pub reported : book ≡ reported_from d cycles traces
+  pub may : MayBeReported d traces
 
-abbrev pub TracesTellTheBook : Type 0
-TracesTellTheBook = (d : Domain) (cycles : ℕ) (traces : Traces) (book : Contents) → IsAccepted d →
-    IsSomeBook d cycles book → AreTracesOf d traces book → TracesTell d cycles traces book
+abbrev pub TracesGiveTheBook : Type 0
+TracesGiveTheBook = (d : Domain) (cycles : ℕ) (traces : Traces) (book : Contents) → IsAccepted d →
+    IsSomeBook d cycles book → AreTracesOf d traces book → TracesGive d cycles traces book

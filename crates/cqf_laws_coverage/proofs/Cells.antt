@@ -9,7 +9,7 @@ use Rattle.cqf_model.specs.declared.frames.Started.{Started}
 use Rattle.cqf_model.specs.Book.{starts_of}
 use Rattle.cqf_model.specs.Domain.{cycle_of}
 use Rattle.cqf_model.specs.Run.{Run}
-use Rattle.cqf_model.specs.Traffic.{Carried}
+use Rattle.cqf_model.specs.Policing.{Carried}
 use Rattle.cqf_model.specs.Promise.{wire_in_cycle}
 use Rattle.cqf_laws_shift.proofs.Apart.{AreApart}
 use Rattle.cqf_laws_coverage.specs.InOneCycle.{octets_summed}

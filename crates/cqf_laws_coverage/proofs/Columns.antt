@@ -8,7 +8,7 @@ use Rattle.cqf_lists.proofs.Sums.{sum_member, sum_none, sum_plus}
 use Rattle.cqf_model.specs.declared.frames.Started.{Started}
 use Rattle.cqf_model.specs.OnLinks.{octets_on}
 use Rattle.cqf_laws_coverage.specs.InOneCycle.{IsMost, most_on, octets_summed}
-use Rattle.cqf_laws_coverage.specs.Counted.{ColumnsTell}
+use Rattle.cqf_laws_coverage.specs.Counted.{ColumnsReport}
 use Rattle.cqf_laws_coverage.proofs.InOneCycle.{most_is_most, most_is_one}
 use Rattle.cqf_laws_coverage.proofs.Counts.{second_fails, second_passes}
 use Rattle.cqf_laws_coverage.proofs.Matched.{sum_same}
@@ -82,8 +82,8 @@ module _ (starts : List Started) (link : ℕ) where
   summed [] first each = sym (sum_none (from first) starts (λ s c. elim (cases_lt s.cycle.0 first) [
     | inl early ↦ second_fails (s.link == link) (nat_le first s.cycle.0) s.octets (lt-leb first s.cycle.0 early)
     | inr late ↦ (let own : within s.cycle.0 s ≤ octets_summed link s.cycle.0 starts = sum_member (within s.cycle.0) starts s c in
-        let place : first + (s.cycle.0 - first) ≡ s.cycle.0 = omega (arith, late) in
-        let none : 0 ≡ octets_summed link s.cycle.0 starts = each (s.cycle.0 - first) ∙ ap (λ (c : ℕ). octets_summed link c starts) place in
+        let index : first + (s.cycle.0 - first) ≡ s.cycle.0 = omega (arith, late) in
+        let none : 0 ≡ octets_summed link s.cycle.0 starts = each (s.cycle.0 - first) ∙ ap (λ (c : ℕ). octets_summed link c starts) index in
         let here = second_passes (s.link == link) (s.cycle.0 == s.cycle.0) s.octets (eq-eqb s.cycle.0 s.cycle.0 refl) in
         let begun = second_passes (s.link == link) (nat_le first s.cycle.0) s.octets (le-leb first s.cycle.0 late) in
         omega (arith, own, none, here, begun))
@@ -119,8 +119,8 @@ module _ (starts : List Started) (link : ℕ) where
   }
 
 -- the law
-pub columns_tell : ColumnsTell
-columns_tell starts link column each = record {
+pub columns_report : ColumnsReport
+columns_report starts link column each = record {
   octets = summed starts link column 0 (λ k. each k ∙ (let e : k ≡ 0 + k = omega arith in ap (λ (c : ℕ). octets_summed link c starts) e))
       ∙ all_count starts link;
   most = most_is_one link starts (fold max 0 column) (most_on link starts) (greatest starts link column each) (most_is_most link starts);

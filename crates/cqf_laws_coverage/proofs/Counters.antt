@@ -1,4 +1,5 @@
 -- An offer changes only the counter of the row in force.
+use Rattle.cqf_units.specs.Timing.{counted_of}
 use Rattle.cqf_model.specs.Table.{reserved_in}
 use Rattle.std.proofs.Common.{◌≡◌, ℕ, ◌+◌, Bool, true, false, Some, sym, ap, ◌∙◌, refl, inl, inr, ◌==◌, ◌&&◌, nat_le, if◌then◌else◌, eq-eqb}
 use Rattle.std.proofs.lemmas.Bool.{and_from, and_parts, cases_Bool}
@@ -30,8 +31,8 @@ pub counter_of_the_row : CounterOfTheRow
 counter_of_the_row d entries x row used found =
     let cycle = offer_cycle d x in
     let member = find_member (λ (r : Row). is_text r.name x.offer.stream && is_held r cycle) (streams_of d entries) row found in
-    by_tests (offer_cycle d x == cycle) (is_text row.name x.offer.stream) (begins_at d row x.offer.bridge) (nat_le (used + x.offer.octets) (reserved_in row 0 cycle))
-    used (used + x.offer.octets) (eq-eqb cycle cycle refl) (and_parts (is_text row.name x.offer.stream) (is_held row cycle) member.1).0
+    by_tests (offer_cycle d x == cycle) (is_text row.name x.offer.stream) (begins_at d row x.offer.bridge) (nat_le (used + counted_of d.overhead x.offer.octets) (reserved_in row 0 cycle))
+    used (used + counted_of d.overhead x.offer.octets) (eq-eqb cycle cycle refl) (and_parts (is_text row.name x.offer.stream) (is_held row cycle) member.1).0
 
 -- and the step of another row
 pub counters_of_others : OneIsInForce → CountersOfOthers
@@ -41,7 +42,7 @@ counters_of_others one d entries x other used legal in_run among held differ =
     let test : Row → Bool = λ (r : Row). is_text r.name x.offer.stream && is_held r cycle in
     elim (cases_Bool (is_text other.name x.offer.stream)) [
       | inr f ↦ not_named (offer_cycle d x == cycle) (is_text other.name x.offer.stream) (begins_at d other x.offer.bridge)
-          (nat_le (used + x.offer.octets) (reserved_in other 0 cycle)) used (used + x.offer.octets) f
+          (nat_le (used + counted_of d.overhead x.offer.octets) (reserved_in other 0 cycle)) used (used + counted_of d.overhead x.offer.octets) f
       | inl t ↦
           let passes = and_from (is_text other.name x.offer.stream) (is_held other cycle) t held in
           let found = find_some test rows other among passes in

@@ -9,7 +9,7 @@ use Rattle.cqf_model.specs.declared.frames.Started.{Started}
 use Rattle.cqf_model.specs.History.{table_at}
 use Rattle.cqf_model.specs.HistoryBook.{run_of_history}
 use Rattle.cqf_model.specs.Run.{Run}
-use Rattle.cqf_model.specs.Traffic.{Verdict}
+use Rattle.cqf_model.specs.Policing.{Verdict}
 use Rattle.cqf_laws_history.specs.HistoryLaws.{TablesAreOrderly}
 use Rattle.cqf_laws_coverage.specs.Counted.{AreCountedHops, HistoryIsCounted, IsCounted, StartsAreHops, counts_frames, counts_in, counts_octets}
 use Rattle.cqf_laws_coverage.proofs.Matched.{sum_same}
@@ -51,12 +51,12 @@ module _ (run : Run) (verdict : Offered → Verdict) (starts : List Started) (ho
 
 -- the law
 pub history_is_counted : StartsAreHops → TablesAreOrderly → HistoryIsCounted
-history_is_counted are_hops orderly d entries offers background cycles book verdict link accepted legal offered behind is decided =
+history_is_counted are_hops orderly d entries offers background cycles book verdict link accepted legal offered following is decided =
     let run = run_of_history d entries offers background cycles in
     let one = is.is_book in
     subst (λ (n : ℕ). IsCounted d n offers verdict book.starts link) (length-singles (table_at d entries) cycles)
     (is_counted run verdict book.starts
-    (are_hops run book verdict accepted (orderly d entries cycles legal is.sealed) offered behind one decided)
+    (are_hops run book verdict accepted (orderly d entries cycles legal is.sealed) offered following one decided)
     (λ s c.
     let b = of_batch run one.net.carried (length run.tables) s (subst (λ (xs : List Started). Contains xs s) one.are_starts c) in
     omega (arith, b.in_run, ap (λ (z : Started). z.cycle.0) b.of.is))

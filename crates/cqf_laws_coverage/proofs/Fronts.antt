@@ -1,4 +1,5 @@
 -- If offers are in order of instant, the offers before an offer precede it in the list.
+use Rattle.cqf_units.specs.Timing.{counted_of}
 use Rattle.cqf_model.specs.Table.{reserved_in}
 use Rattle.std.proofs.Common.{◌≡◌, ℕ, suc, ◌+◌, ◌-◌, ◌<◌, ◌≤◌, ◌∷◌, [], ◌++◌, List, Bool, false, inl, inr, sym, ap, ap₂, ◌∙◌, subst, arith, refl}
 use Rattle.std.proofs.Common.{AllPairs, Contains, filter, fold, length, get_or, take, ◌==◌, ◌&&◌, append-nil, ne_eqb, nat_le, if◌then◌else◌}
@@ -23,7 +24,7 @@ use Rattle.cqf_model.specs.declared.topology.Row.{Row}
 use Rattle.cqf_model.specs.Domain.{Domain, is_text}
 use Rattle.cqf_model.specs.Shift.{offer_cycle, offers_at, offers_before, take_octets}
 use Rattle.cqf_model.specs.Table.{begins_at}
-use Rattle.cqf_model.specs.Traffic.{numbered}
+use Rattle.cqf_model.specs.Policing.{numbered}
 use Rattle.cqf_laws_shift.proofs.Decided.{smaller_before}
 use Rattle.cqf_laws_coverage.specs.Judged.{CountersBegin, CountersGoOn, OffersBeforeStandBefore, StandInOrder}
 
@@ -34,20 +35,20 @@ the_offered x = record { frame = x.0; offer = x.1 }
 -- the numbered offers are in order too
 numbered_in_order : (offers : List Offer) → StandInOrder offers → AllPairs (λ (a b : Offered). a.offer.at.0 ≤ b.offer.at.0) (numbered offers)
 numbered_in_order offers ordered i j e l inside =
-    pairs_map (λ (a b : Offered). a.offer.at.0 ≤ b.offer.at.0) the_offered (enumerate_from 1 offers) places i j e l inside
+    pairs_map (λ (a b : Offered). a.offer.at.0 ≤ b.offer.at.0) the_offered (enumerate_from 1 offers) indices i j e l inside
   where
     -- by index
-    places : AllPairs (λ (a b : ℕ × Offer). a.1.at.0 ≤ b.1.at.0) (enumerate_from 1 offers)
-    places i j e l inside =
+    indices : AllPairs (λ (a b : ℕ × Offer). a.1.at.0 ≤ b.1.at.0) (enumerate_from 1 offers)
+    indices i j e l inside =
         let j_in : j < length offers = omega (arith, inside, length-enumerate_from 1 offers) in
         let at_i = ap (λ (z : ℕ × Offer). z.1.at.0) (get_or-enumerate_from 1 offers i e (omega (arith, l, j_in))) in
         let at_j = ap (λ (z : ℕ × Offer). z.1.at.0) (get_or-enumerate_from 1 offers j e j_in) in
         omega (arith, at_i, at_j, ordered i j e.1 l j_in)
 
 -- an offer's number is its position, from 1
-number_is_place : (offers : List Offer) (x : Offered) (before after : List Offered) → numbered offers ≡ before ++ (x ∷ after) → length before < length offers →
+number_is_index : (offers : List Offer) (x : Offered) (before after : List Offered) → numbered offers ≡ before ++ (x ∷ after) → length before < length offers →
     x.frame ≡ 1 + length before
-number_is_place offers x before after parts inside =
+number_is_index offers x before after parts inside =
     let d : ℕ × Offer = (x.frame, x.offer) in
     let k = length before in
     ap (λ (z : Offered). z.frame) (sym (ap (λ (zs : List Offered). get_or zs k x) parts ∙ get_or-append_seam before x after x))
@@ -91,8 +92,8 @@ module _ (offers : List Offer) (x : Offered) (ordered : StandInOrder offers) (in
   ascends = subst (AllPairs not_later) split.2 (numbered_in_order offers ordered)
 
   -- what follows it is no earlier
-  behind : (y : Offered) → Contains (x ∷ second) y → t ≤ y.offer.at.0
-  behind y c = elim (contains_cases x second y c) [
+  following : (y : Offered) → Contains (x ∷ second) y → t ≤ y.offer.at.0
+  following y c = elim (contains_cases x second y c) [
     | inl e ↦ omega (arith, ap (λ (z : Offered). z.offer.at.0) e)
     | inr h ↦ pairs_head not_later x second y (pairs_second not_later first (x ∷ second) ascends) h
   ]
@@ -103,7 +104,7 @@ module _ (offers : List Offer) (x : Offered) (ordered : StandInOrder offers) (in
       ap (filter (at s)) split.2
       ∙ filter-append (at s) first (x ∷ second)
       ∙ ap (λ (ys : List Offered). filter (at s) first ++ ys)
-      (filter_none (at s) (x ∷ second) (λ y c. ne_eqb y.offer.at.0 s (λ e. omega (arith, e, l, behind y c))))
+      (filter_none (at s) (x ∷ second) (λ y c. ne_eqb y.offer.at.0 s (λ e. omega (arith, e, l, following y c))))
       ∙ append-nil (filter (at s) first))
 
   -- they are in order of instant
@@ -124,7 +125,7 @@ module _ (offers : List Offer) (x : Offered) (ordered : StandInOrder offers) (in
 
   -- there are as many as its number says
   frame_is : x.frame ≡ 1 + length first
-  frame_is = number_is_place offers x first second split.2
+  frame_is = number_is_index offers x first second split.2
       (omega (arith, ap (λ (zs : List Offered). length zs) split.2, length-append first (x ∷ second), numbered_length offers))
 
   pub stand_before : offers_before offers x ≡ take (x.frame - 1) (numbered offers)
@@ -138,19 +139,19 @@ offers_before_stand_before offers x ordered inside = stand_before offers x order
 
 -- one more offer is one more step
 pub counters_go_on : CountersGoOn
-counters_go_on d row cycle place offers x is =
+counters_go_on d row cycle index offers x is =
     let xs = numbered offers in
     let step = take_octets d row cycle in
-    let more = (take_at_read xs place x (slice_get_within xs place x is)).1 in
-    let last : get_or xs place x ≡ x = get_or_from_slice_get xs place x x is in
-    ap (λ (zs : List Offered). fold step 0 zs) (more ∙ ap (λ (z : Offered). take place xs ++ z ∷ []) last)
-    ∙ fold-append step 0 (take place xs) (x ∷ [])
+    let more = (take_at_read xs index x (slice_get_within xs index x is)).1 in
+    let last : get_or xs index x ≡ x = get_or_from_slice_get xs index x x is in
+    ap (λ (zs : List Offered). fold step 0 zs) (more ∙ ap (λ (z : Offered). take index xs ++ z ∷ []) last)
+    ∙ fold-append step 0 (take index xs) (x ∷ [])
 
 -- an offer of another cycle takes nothing
 takes_none : (d : Domain) (row : Row) (cycle taken : ℕ) (y : Offered) → (offer_cycle d y == cycle) ≡ false → take_octets d row cycle taken y ≡ taken
 takes_none d row cycle taken y e =
-    ap (λ (b : Bool). if (b && is_text row.name y.offer.stream && begins_at d row y.offer.bridge) && nat_le (taken + y.offer.octets) (reserved_in row 0 cycle)
-    then taken + y.offer.octets else taken) e
+    ap (λ (b : Bool). if (b && is_text row.name y.offer.stream && begins_at d row y.offer.bridge) && nat_le (taken + counted_of d.overhead y.offer.octets) (reserved_in row 0 cycle)
+    then taken + counted_of d.overhead y.offer.octets else taken) e
 
 -- nor do several
 take_none : (d : Domain) (row : Row) (cycle taken : ℕ) (xs : List Offered) → ((y : Offered) → Contains xs y → offer_cycle d y < cycle) →
@@ -163,4 +164,4 @@ take_none d row cycle taken (x ∷ xs) early =
 
 -- so nothing is taken before the first offer of a cycle
 pub counters_begin : CountersBegin
-counters_begin d row cycle place offers early = take_none d row cycle 0 (take place (numbered offers)) early
+counters_begin d row cycle index offers early = take_none d row cycle 0 (take index (numbered offers)) early

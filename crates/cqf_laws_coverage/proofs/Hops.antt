@@ -15,7 +15,7 @@ use Rattle.cqf_model.specs.Domain.{Domain, end_of}
 use Rattle.cqf_model.specs.Run.{Run}
 use Rattle.cqf_model.specs.Shift.{InShift, IsCovered, offer_cycle}
 use Rattle.cqf_model.specs.Table.{IsTree}
-use Rattle.cqf_model.specs.Traffic.{Carried, Verdict, Queued, DroppedFor, LacksRow, ExceedsGate, numbered}
+use Rattle.cqf_model.specs.Policing.{Carried, Verdict, Queued, DroppedFor, LacksRow, ExceedsGate, numbered}
 use Rattle.cqf_model.specs.Promise.{IsDecided}
 use Rattle.cqf_laws_shift.specs.Alone.{IsRunAlone}
 use Rattle.cqf_laws_shift.specs.Books.{BookSaysTheShift}
@@ -23,7 +23,7 @@ use Rattle.cqf_laws_shift.specs.Run.{RunBesideIsRunAlone}
 use Rattle.cqf_laws_shift.proofs.Came.{numbers_ascend}
 use Rattle.cqf_laws_shift.proofs.CycleLaws.{CycleLaws}
 use Rattle.cqf_laws_shift.proofs.Decided.{covered_judged, judged, uncovered_judged}
-use Rattle.cqf_laws_shift.proofs.Ways.{covered_tree}
+use Rattle.cqf_laws_shift.proofs.Paths.{covered_tree}
 use Rattle.cqf_laws_coverage.specs.Counted.{AreDecided, StartsAreHops, hops_of, sum_of_hops}
 use Rattle.cqf_laws_shift.proofs.Apart.{AreApart, starts_apart}
 use Rattle.cqf_laws_coverage.proofs.Matched.{pairs_flat, sum_le_own}
@@ -91,7 +91,7 @@ module _ (laws : CycleLaws) (run : Run) (carried : Carried) (alone : IsRunAlone 
   of_start s = counts s.link s.cycle.0 s.octets
 
   abbrev of_hop : Offered × Hop → ℕ
-  of_hop y = counts y.1.link (offer_cycle run.domain y.0 + y.1.depth) y.0.offer.octets
+  of_hop y = counts y.1.link (offer_cycle run.domain y.0 + y.1.hop_number) y.0.offer.octets
 
   -- what all hops of an offer count
   abbrev of_offer : Offered → ℕ
@@ -130,8 +130,8 @@ module _ (laws : CycleLaws) (run : Run) (carried : Carried) (alone : IsRunAlone 
       let member = contains_flat with_hops offers x (x, hop) kept (contains_map (λ (hop : Hop). (x, hop)) (hops_of (verdict x)) hop among) in
       let matched = and_from (s.frame == x.frame) (s.link == hop.link) (eq-eqb s.frame x.frame shift.is_frame)
       (eq-eqb s.link hop.link (sym shift.is_hop.is_link)) in
-      let cycle : s.cycle.0 ≡ offer_cycle run.domain x + hop.depth = omega (arith, shift.is_cycle, shift.is_hop.is_depth) in
-      let value = same_counts s.link hop.link s.cycle.0 (offer_cycle run.domain x + hop.depth) s.octets x.offer.octets (sym shift.is_hop.is_link) cycle
+      let cycle : s.cycle.0 ≡ offer_cycle run.domain x + hop.hop_number = omega (arith, shift.is_cycle, shift.is_hop.is_hop_number) in
+      let value = same_counts s.link hop.link s.cycle.0 (offer_cycle run.domain x + hop.hop_number) s.octets x.offer.octets (sym shift.is_hop.is_link) cycle
       (octets s c x shift.covered.offered shift.is_frame) in
       ((x, hop), member, matched, le_of_eq value)
 
@@ -147,25 +147,25 @@ module _ (laws : CycleLaws) (run : Run) (carried : Carried) (alone : IsRunAlone 
       of_pair : (x : Offered) (hop : Hop) → Contains offers x → Contains (hops_of (verdict x)) hop → 0 < of_hop (x, hop) →
           (s : Started) × Contains starts s × (match s (x, hop) ≡ true) × (of_hop (x, hop) ≤ of_start s)
       of_pair x hop kept among some =
-          let place = is_early x kept in
-          let row = hop_of_row run x (verdict x) hop (decided x place.0 place.1) among in
-          let cycle = offer_cycle run.domain x + hop.depth in
+          let index = is_early x kept in
+          let row = hop_of_row run x (verdict x) hop (decided x index.0 index.1) among in
+          let cycle = offer_cycle run.domain x + hop.hop_number in
           elim (cases_lt cycle (length run.tables)) [
             | inl within ↦
                 let shift : InShift run (length run.tables) x.frame hop.link cycle = record {
                   x = x;
                   row = row.row;
-                  depth = hop.depth;
+                  hop_number = hop.hop_number;
                   covered = row.covered;
                   is_frame = refl;
-                  is_hop = record { hop = hop; of_tree = row.of_tree; is_depth = refl; is_link = refl };
+                  is_hop = record { hop = hop; of_tree = row.of_tree; is_hop_number = refl; is_link = refl };
                   is_cycle = refl;
                   within_run = within;
                 } in
                 let s = each x.frame hop.link cycle shift in
                 let matched = and_from (s.0.frame == x.frame) (s.0.link == hop.link) (eq-eqb s.0.frame x.frame s.2) (eq-eqb s.0.link hop.link s.3) in
                 let value = same_counts hop.link s.0.link cycle s.0.cycle.0 x.offer.octets s.0.octets (sym s.3) (sym s.4)
-                (sym (octets s.0 s.1 x place.0 s.2)) in
+                (sym (octets s.0 s.1 x index.0 s.2)) in
                 (s.0, s.1, matched, le_of_eq value)
             | inr past ↦ absurd (omega (arith, some, none_later hop.link cycle x.offer.octets past))
           ]
@@ -184,11 +184,11 @@ module _ (laws : CycleLaws) (run : Run) (carried : Carried) (alone : IsRunAlone 
   hops_apart : AllPairs HopsApart pairs
   hops_apart =
       pairs_flat HopsApart with_hops offers
-      (λ x c. let place = is_early x c in
+      (λ x c. let index = is_early x c in
       pairs_map HopsApart (λ (hop : Hop). (x, hop)) (hops_of (verdict x))
       (pairs_weaker (λ (a b : Hop). a.link ≡ b.link → ⊥) (λ (a b : Hop). HopsApart (x, a) (x, b)) (hops_of (verdict x))
       (λ a b ca cb apart frames links. apart links)
-      (verdict_links run x (verdict x) (λ row covered. covered_tree laws run carried alone x row covered) (decided x place.0 place.1))))
+      (verdict_links run x (verdict x) (λ row covered. covered_tree laws run carried alone x row covered) (decided x index.0 index.1))))
       (pairs_weaker (λ (a b : Offered). a.frame < b.frame)
       (λ (x z : Offered). (a b : Offered × Hop) → Contains (with_hops x) a → Contains (with_hops z) b → HopsApart a b) offers
       (λ x z cx cz less a b ca cb frames links.
@@ -221,7 +221,7 @@ module _ (laws : CycleLaws) (run : Run) (carried : Carried) (alone : IsRunAlone 
   later_none x past =
       let from = ltb-false (offer_cycle run.domain x) (length run.tables) past in
       sum_none (λ (hop : Hop). of_hop (x, hop)) (hops_of (verdict x))
-      (λ hop c. none_later hop.link (offer_cycle run.domain x + hop.depth) x.offer.octets (omega (arith, from)))
+      (λ hop c. none_later hop.link (offer_cycle run.domain x + hop.hop_number) x.offer.octets (omega (arith, from)))
 
   pairs_count : sum_by of_hop pairs ≡ sum_of_hops run.domain verdict counts (numbered run.offers)
   pairs_count =

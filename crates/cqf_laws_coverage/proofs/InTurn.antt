@@ -12,7 +12,7 @@ use Rattle.cqf_model.specs.Domain.{Domain, cycle_of}
 use Rattle.cqf_model.specs.Network.{Network, comes_before, sent_of}
 use Rattle.cqf_model.specs.Port.{Transmission}
 use Rattle.cqf_model.specs.Run.{Run}
-use Rattle.cqf_model.specs.Traffic.{Carried}
+use Rattle.cqf_model.specs.Policing.{Carried}
 use Rattle.cqf_model.proofs.Sending.{sent_in_run, sent_of_once, sent_of_when}
 use Rattle.cqf_laws_shift.specs.Run.{IsLegalRun}
 
@@ -35,11 +35,11 @@ run_in_turn run net legal = record {
   before_end = λ l x c. sent_in_run run _ (length run.tables) net legal.legal l x c;
 }
 
-module _ (d : Domain) (cycles : ℕ) (carried : Carried) (some : 0 < d.cycle_time) (turn : IsInTurn d cycles carried) where
+module _ (d : Domain) (cycles : ℕ) (carried : Carried) (some : 0 < d.cycle_time) (in_turn : IsInTurn d cycles carried) where
   -- what a link carries is the sequence of its batches
   pub batches : (l : ℕ) → l < length d.links → carried l ≡ each_below (batch d carried l) cycles
   batches l is_link = by_key (λ (x : Sent). cycle_of d x.start.0) cycles (carried l) ascends
-      (λ x c. cycle_below d.cycle_time x.start.0 cycles (turn.before_end l x c))
+      (λ x c. cycle_below d.cycle_time x.start.0 cycles (in_turn.before_end l x c))
     where
       -- its cycles ascend
       ascends : IsNonDecreasingBy (λ (x : Sent). cycle_of d x.start.0) (carried l)
@@ -47,7 +47,7 @@ module _ (d : Domain) (cycles : ℕ) (carried : Carried) (some : 0 < d.cycle_tim
           cycles_ordered d.cycle_time (get_or (carried l) i z).start.0 (get_or (carried l) j z).start.0 some (elim (cases_order i j) [
             | inl e ↦ omega (arith, ap (λ k. (get_or (carried l) k z).start.0) e)
             | inr o ↦ elim o [
-              | inl less ↦ omega (arith, turn.in_order l is_link i j z less inside)
+              | inl less ↦ omega (arith, in_turn.in_order l is_link i j z less inside)
               | inr more ↦ absurd (omega (arith, more, le))
             ]
           ])

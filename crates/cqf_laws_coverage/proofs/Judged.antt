@@ -1,4 +1,5 @@
 -- Four tests by the row in force and its counter decide on an offer what the definitions say.
+use Rattle.cqf_units.specs.Timing.{counted_of}
 use Rattle.cqf_model.specs.Table.{reserved_in}
 use Rattle.std.proofs.Common.{◌≡◌, ℕ, ◌+◌, ◌<◌, ◌≤◌, [], List, Bool, not, Option, Some, None, option_map, ap, ap₂, ◌∙◌, subst, arith, refl, Contains, nat_le}
 use Rattle.std.proofs.Common.{if◌then◌else◌}
@@ -14,7 +15,7 @@ use Rattle.cqf_model.specs.HistoryBook.{run_of_history}
 use Rattle.cqf_model.specs.Run.{Run}
 use Rattle.cqf_model.specs.Shift.{asked_with, offer_cycle, row_for, taken_by}
 use Rattle.cqf_model.specs.Table.{begins_at, row_named}
-use Rattle.cqf_model.specs.Traffic.{Queued, DroppedFor, edge_verdict, numbered}
+use Rattle.cqf_model.specs.Policing.{Queued, DroppedFor, edge_verdict, numbered}
 use Rattle.cqf_model.specs.Promise.{IsDecided}
 use Rattle.cqf_laws_shift.proofs.Decided.{is_decided, judged}
 use Rattle.cqf_laws_coverage.specs.Counted.{HistoryIsCounted}
@@ -52,7 +53,7 @@ module _ (found : RowsAreFound) (as_live : AsLive) (before : OffersBeforeStandBe
       else (if not enough then DroppedFor Octets
       else Queued (as_of cycle row))))
       (as_live row cycle)
-      (ap (λ (so_far : List Offered). nat_le (taken_by d row cycle so_far + x.offer.octets) (reserved_in row 0 cycle)) (before offers x ordered inside))
+      (ap (λ (so_far : List Offered). nat_le (taken_by d row cycle so_far + counted_of d.overhead x.offer.octets) (reserved_in row 0 cycle)) (before offers x ordered inside))
 
   pub is_judged : judged run x ≡ judged_of d entries offers x
   is_judged =
@@ -66,6 +67,6 @@ offers_are_judged found as_live before d entries offers background cycles x seal
 
 -- so a book is counted by these verdicts
 pub report_is_counted : HistoryIsCounted → OffersAreJudged → ReportIsCounted
-report_is_counted counted are_judged d entries offers background cycles book link accepted legal offered behind ordered is =
-    counted d entries offers background cycles book (judged_of d entries offers) link accepted legal offered behind is (λ x inside in_run.
+report_is_counted counted are_judged d entries offers background cycles book link accepted legal offered following ordered is =
+    counted d entries offers background cycles book (judged_of d entries offers) link accepted legal offered following is (λ x inside in_run.
     are_judged d entries offers background cycles x is.sealed ordered inside (omega (arith, in_run, length-singles (table_at d entries) cycles)))

@@ -10,7 +10,7 @@ pub mod Fronts
 pub mod Counters
 pub mod Judged
 pub mod Cells
-pub mod Told
+pub mod Reported
 pub mod There
 pub mod Single
 pub mod InTurn

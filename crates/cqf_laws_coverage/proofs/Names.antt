@@ -13,14 +13,14 @@ use Rattle.cqf_lists.proofs.EachBelow.{contains_from_below}
 use Rattle.cqf_lists.proofs.Fronts.{each_front}
 use Rattle.cqf_lists.proofs.Members.{contains_at}
 use Rattle.cqf_lists.proofs.Pairs.{pairs_below, pairs_from_map, pairs_map, pairs_members, pairs_of_kept}
-use Rattle.cqf_lists.proofs.Places.{nil_from_none}
+use Rattle.cqf_lists.proofs.Indices.{nil_from_none}
 use Rattle.cqf_model.specs.declared.topology.Row.{Row}
 use Rattle.cqf_model.specs.Domain.{Domain}
 use Rattle.cqf_model.specs.History.{IsLegalHistory, Recorded, held_in, next_number, seals, streams_of}
 use Rattle.cqf_model.specs.Table.{is_held, residence}
 use Rattle.cqf_model.proofs.Residence.{residence_some}
 use Rattle.cqf_laws_history.specs.StateLaws.{HeldAreSound}
-use Rattle.cqf_laws_history.proofs.Places.{admitted_at, admitted_before, sealed_before, sealed_more, with_end, withdrawn_at, withdrawn_before}
+use Rattle.cqf_laws_history.proofs.Indices.{admitted_at, admitted_before, sealed_before, sealed_more, with_end, withdrawn_at, withdrawn_before}
 use Rattle.cqf_laws_history.proofs.Sound.{Sound, sound}
 use Rattle.cqf_laws_coverage.specs.Rows.{EndsBefore, OneIsInForce, RowsOfANameFollow, RowsStandAsTheyBegin}
 use Rattle.cqf_laws_coverage.proofs.Rows.{all_streams, effect_of_admitted, effect_of_withdrawn}

@@ -14,17 +14,17 @@ use Rattle.cqf_lists.proofs.Filters.{filter-map, filter_alike}
 use Rattle.cqf_lists.proofs.Fronts.{each_front}
 use Rattle.cqf_lists.proofs.Members.{contains_at, contains_cases, contains_from_map, contains_none}
 use Rattle.cqf_lists.proofs.Pairs.{pairs_from_map, pairs_of_kept}
-use Rattle.cqf_lists.proofs.Places.{first_stays, nil_from_none}
+use Rattle.cqf_lists.proofs.Indices.{first_stays, nil_from_none}
 use Rattle.cqf_model.specs.declared.history.Reply.{Reply}
 use Rattle.cqf_model.specs.declared.history.Reply.TheVariants.{Accepted, Sealed, Refused as RefusedFor}
 use Rattle.cqf_model.specs.declared.topology.Row.{Row}
 use Rattle.cqf_model.specs.Domain.{Domain, is_text}
-use Rattle.cqf_model.specs.History.{Act, Admits, Recorded, Seals, Withdraws, held_in, is_seal, seal_places, seals, stream_by, streams_of, table_at, tables_of}
+use Rattle.cqf_model.specs.History.{Act, Admits, Recorded, Seals, Withdraws, held_in, is_seal, seal_indices, seals, stream_by, streams_of, table_at, tables_of}
 use Rattle.cqf_model.specs.History.{withdrawal_by}
 use Rattle.cqf_model.specs.Table.{is_held, residence, row_named, table_of}
 use Rattle.cqf_laws_history.specs.HistoryLaws.{TablesAreOrderly}
-use Rattle.cqf_laws_history.proofs.Places.{SealAt, admitted_at, admitted_before, entry_at, seal_at, sealed-suc, sealed_before, sealed_more, streams_front}
-use Rattle.cqf_laws_history.proofs.Places.{with_end, withdrawn_at, withdrawn_before}
+use Rattle.cqf_laws_history.proofs.Indices.{SealAt, admitted_at, admitted_before, entry_at, seal_at, sealed-suc, sealed_before, sealed_more, streams_front}
+use Rattle.cqf_laws_history.proofs.Indices.{with_end, withdrawn_at, withdrawn_before}
 use Rattle.cqf_laws_coverage.specs.Rows.{AsLive, OneIsInForce, RowsAreFound, RowsSayTheTables, as_of, end_as_of}
 use Rattle.cqf_laws_coverage.proofs.Found.{find-filter, find-map, map-join}
 
@@ -110,72 +110,72 @@ all_streams d entries =
 
 module _ (d : Domain) (entries : List Recorded) (cycle : ℕ) (closed : cycle < seals entries) where
   -- the index of the Seal that closes the cycle
-  abbrev place : ℕ
-  place = get_or (seal_places entries) cycle (length entries)
+  abbrev index : ℕ
+  index = get_or (seal_indices entries) cycle (length entries)
 
-  seal : SealAt entries cycle place
+  seal : SealAt entries cycle index
   seal = seal_at entries cycle closed
 
-  within : place ≤ length entries
+  within : index ≤ length entries
   within = omega (arith, seal.inside)
 
   -- after the Seal one more cycle is closed
-  one_more : sealed_before entries (suc place) ≡ cycle + 1
-  one_more = sealed-suc entries place seal.entry seal.is ∙ ap (λ (b : Bool). sealed_before entries place + cond b 1 0) seal.seal
+  one_more : sealed_before entries (suc index) ≡ cycle + 1
+  one_more = sealed-suc entries index seal.entry seal.is ∙ ap (λ (b : Bool). sealed_before entries index + cond b 1 0) seal.seal
       ∙ ap (λ (c : ℕ). c + 1) seal.before
 
   -- an entry after it that is no Seal takes effect later
-  later : (k : ℕ) → place ≤ k → k < length entries → (e : Recorded) → slice_get entries k ≡ Some e → is_seal e.act ≡ false →
+  later : (k : ℕ) → index ≤ k → k < length entries → (e : Recorded) → slice_get entries k ≡ Some e → is_seal e.act ≡ false →
       cycle < sealed_before entries k
-  later k behind inside e is no_seal =
-      let apart : place ≢ k = λ q. both_ways (is_seal e.act) no_seal
+  later k following inside e is no_seal =
+      let apart : index ≢ k = λ q. both_ways (is_seal e.act) no_seal
       (ap (λ (y : Recorded). is_seal y.act) (same_Some e seal.entry (sym is ∙ ap (slice_get entries) (sym q) ∙ seal.is)) ∙ seal.seal) in
-      omega (arith, one_more, sealed_more entries (suc place) k (omega (arith, apart, behind)) (omega (arith, inside)))
+      omega (arith, one_more, sealed_more entries (suc index) k (omega (arith, apart, following)) (omega (arith, inside)))
 
   -- a withdrawal after it takes effect later
   withdrawn_when : (k number : ℕ) → k < length entries → (x : Cycle) → Contains (withdrawn_at entries number k) x →
-      (x.0 ≡ sealed_before entries k) × (place ≤ k → cycle < x.0)
+      (x.0 ≡ sealed_before entries k) × (index ≤ k → cycle < x.0)
   withdrawn_when k number inside x h =
       let made = effect_of_withdrawn entries k number inside x h in
-      (made.3, λ behind. omega (arith, made.3, later k behind inside made.0 made.1 made.2))
+      (made.3, λ following. omega (arith, made.3, later k following inside made.0 made.1 made.2))
 
   -- and so does an admission after it
-  admitted_later : (k : ℕ) → place ≤ k → k < length entries → (x : Row) → Contains (admitted_at d entries k) x → cycle < x.admitted.0
-  admitted_later k behind inside x h =
+  admitted_later : (k : ℕ) → index ≤ k → k < length entries → (x : Row) → Contains (admitted_at d entries k) x → cycle < x.admitted.0
+  admitted_later k following inside x h =
       let made = effect_of_admitted d entries k inside x h in
-      omega (arith, made.3, later k behind inside made.0 made.1 made.2)
+      omega (arith, made.3, later k following inside made.0 made.1 made.2)
 
   -- as of the cycle, the withdrawal of a number by all entries is that before the Seal
-  ends : (number : ℕ) → end_as_of cycle (withdrawn_before entries (length entries) number) ≡ withdrawn_before entries place number
-  ends number = by_front (withdrawn_before entries place number) refl
+  ends : (number : ℕ) → end_as_of cycle (withdrawn_before entries (length entries) number) ≡ withdrawn_before entries index number
+  ends number = by_front (withdrawn_before entries index number) refl
     where
       -- the withdrawals before the Seal, and those after it
       front : List Cycle
-      front = each_below (withdrawn_at entries number) place
+      front = each_below (withdrawn_at entries number) index
 
       by_all : (o : Option Cycle) → withdrawn_before entries (length entries) number ≡ o → ((x : Cycle) → o ≡ Some x → cycle < x.0) →
           end_as_of cycle (withdrawn_before entries (length entries) number) ≡ None
       by_all None f late = ap (end_as_of cycle) f
       by_all (Some x) f late = ap (end_as_of cycle) f ∙ ap (λ (b : Bool). if b then None else Some x) (lt-ltb cycle x.0 (late x refl))
 
-      by_front : (o : Option Cycle) → withdrawn_before entries place number ≡ o →
-          end_as_of cycle (withdrawn_before entries (length entries) number) ≡ withdrawn_before entries place number
+      by_front : (o : Option Cycle) → withdrawn_before entries index number ≡ o →
+          end_as_of cycle (withdrawn_before entries (length entries) number) ≡ withdrawn_before entries index number
       by_front (Some y) f =
-          let more = each_front (withdrawn_at entries number) place (length entries) within in
+          let more = each_front (withdrawn_at entries number) index (length entries) within in
           let stayed : withdrawn_before entries (length entries) number ≡ Some y =
           ap (λ (xs : List Cycle). slice_get xs 0) more.is ∙ first_stays front more.rest y f in
-          let w = contains_from_below (withdrawn_at entries number) place y (contains_at front 0 y f) in
+          let w = contains_from_below (withdrawn_at entries number) index y (contains_at front 0 y f) in
           let early : y.0 ≤ cycle =
           omega (
             arith,
             (withdrawn_when w.0 number (omega (arith, w.1, within)) y w.2).0,
-            sealed_more entries w.0 place (omega (arith, w.1))
+            sealed_more entries w.0 index (omega (arith, w.1))
                 within,
             seal.before,
           ) in
           ap (end_as_of cycle) stayed ∙ ap (λ (b : Bool). if b then None else Some y) (le-ltb cycle y.0 early) ∙ sym f
       by_front None f =
-          let more = each_front (withdrawn_at entries number) place (length entries) within in
+          let more = each_front (withdrawn_at entries number) index (length entries) within in
           let is : each_below (withdrawn_at entries number) (length entries) ≡ more.rest =
           more.is ∙ ap (λ (xs : List Cycle). xs ++ more.rest) (nil_from_none front f) in
           by_all (withdrawn_before entries (length entries) number) refl (λ x e.
@@ -184,20 +184,20 @@ module _ (d : Domain) (entries : List Recorded) (cycle : ℕ) (closed : cycle < 
           ∙ sym f
 
   -- so as of the cycle, a stream with its end by all entries is the one with its end before the Seal
-  stream_as_of : (row : Row) → as_of cycle (with_end (withdrawn_before entries (length entries)) row) ≡ with_end (withdrawn_before entries place) row
+  stream_as_of : (row : Row) → as_of cycle (with_end (withdrawn_before entries (length entries)) row) ≡ with_end (withdrawn_before entries index) row
   stream_as_of row =
       ap (λ (o : Option Cycle). let made : Row =
-      record { no = row.no; name = row.name; octets = row.octets; pace = row.pace; tree = row.tree; admitted = row.admitted; withdrawn = o } in made) (ends row.no)
+      record { no = row.no; name = row.name; octets = row.octets; overhead = row.overhead; pace = row.pace; tree = row.tree; admitted = row.admitted; withdrawn = o } in made) (ends row.no)
 
   -- whether a row is held in the cycle
   abbrev held : Row → Bool
   held row = is_held row cycle
 
   -- what is held in the cycle was admitted before the Seal
-  held_front : held_in d entries cycle ≡ filter held (map (with_end (withdrawn_before entries (length entries))) (admitted_before d entries place))
+  held_front : held_in d entries cycle ≡ filter held (map (with_end (withdrawn_before entries (length entries))) (admitted_before d entries index))
   held_front =
       let w = withdrawn_before entries (length entries) in
-      let more = each_front (admitted_at d entries) place (length entries) within in
+      let more = each_front (admitted_at d entries) index (length entries) within in
       let none : filter held (map (with_end w) more.rest) ≡ [] =
       filter_none held (map (with_end w) more.rest) (λ row h.
       let made = contains_from_map (with_end w) more.rest row h in
@@ -206,18 +206,18 @@ module _ (d : Domain) (entries : List Recorded) (cycle : ℕ) (closed : cycle < 
       omega (arith, admitted_later late.0 late.1 late.2 made.0 late.3, ap (λ (r : Row). r.admitted.0) made.2) in
       and_left (nat_le row.admitted.0 cycle) (option_map_or (λ (x : Cycle). nat_lt cycle (x.0 + residence row)) row.withdrawn true)
       (lt-leb row.admitted.0 cycle begins)) in
-      ap (filter held) (all_streams d entries ∙ ap (map (with_end w)) more.is ∙ map-append (with_end w) (admitted_before d entries place) more.rest)
-      ∙ filter-append held (map (with_end w) (admitted_before d entries place)) (map (with_end w) more.rest)
-      ∙ ap (λ (xs : List Row). filter held (map (with_end w) (admitted_before d entries place)) ++ xs) none
-      ∙ append-nil (filter held (map (with_end w) (admitted_before d entries place)))
+      ap (filter held) (all_streams d entries ∙ ap (map (with_end w)) more.is ∙ map-append (with_end w) (admitted_before d entries index) more.rest)
+      ∙ filter-append held (map (with_end w) (admitted_before d entries index)) (map (with_end w) more.rest)
+      ∙ ap (λ (xs : List Row). filter held (map (with_end w) (admitted_before d entries index)) ++ xs) none
+      ∙ append-nil (filter held (map (with_end w) (admitted_before d entries index)))
 
   -- the table
   pub rows_say : table_at d entries cycle ≡ map (as_of cycle) (held_in d entries cycle)
   rows_say =
       let w = withdrawn_before entries (length entries) in
-      let rows = map (with_end w) (admitted_before d entries place) in
-      ap (filter held) (streams_front entries place within d)
-      ∙ ap (filter held) (sym (map-join (as_of cycle) (with_end w) (with_end (withdrawn_before entries place)) (admitted_before d entries place) stream_as_of))
+      let rows = map (with_end w) (admitted_before d entries index) in
+      ap (filter held) (streams_front entries index within d)
+      ∙ ap (filter held) (sym (map-join (as_of cycle) (with_end w) (with_end (withdrawn_before entries index)) (admitted_before d entries index) stream_as_of))
       ∙ filter-map (as_of cycle) held rows
       ∙ ap (map (as_of cycle)) (filter_alike (λ (row : Row). held (as_of cycle row)) held rows (λ row h. as_held row cycle))
       ∙ ap (map (as_of cycle)) (sym held_front)

@@ -13,7 +13,7 @@ use Rattle.cqf_model.specs.OnLinks.{frames_on, octets_on}
 use Rattle.cqf_model.specs.Run.{AreBackground, AreOffers, Run}
 use Rattle.cqf_model.specs.Shift.{offer_cycle}
 use Rattle.cqf_model.specs.Table.{AreOrderly}
-use Rattle.cqf_model.specs.Traffic.{Verdict, Queued, DroppedFor, LacksRow, ExceedsGate, numbered}
+use Rattle.cqf_model.specs.Policing.{Verdict, Queued, DroppedFor, LacksRow, ExceedsGate, numbered}
 use Rattle.cqf_model.specs.Promise.{IsDecided}
 use Rattle.cqf_laws_coverage.specs.InOneCycle.{most_on, octets_summed}
 
@@ -32,7 +32,7 @@ AreDecided run verdict = (x : Offered) → Contains (numbered run.offers) x → 
 -- octets
 abbrev pub sum_of_hops : Domain → (Offered → Verdict) → (ℕ → ℕ → ℕ → ℕ) → List Offered → ℕ
 sum_of_hops d verdict counts offers =
-    sum_by (λ (x : Offered). sum_by (λ (hop : Hop). counts hop.link (offer_cycle d x + hop.depth) x.offer.octets) (hops_of (verdict x))) offers
+    sum_by (λ (x : Offered). sum_by (λ (hop : Hop). counts hop.link (offer_cycle d x + hop.hop_number) x.offer.octets) (hops_of (verdict x))) offers
 
 -- the octets that leave by a link in a cycle; the frames that leave by it in the first cycles; and the octets of these frames
 abbrev pub counts_in : ℕ → ℕ → ℕ → ℕ → ℕ → ℕ
@@ -55,14 +55,14 @@ StartsAreHops = (run : Run) (book : Contents) (verdict : Offered → Verdict) �
     AreOffers run.domain run.offers → AreBackground run.domain run.background → IsOneThreadBook run book → AreDecided run verdict →
     AreCountedHops run verdict book.starts
 
--- this holds for a link's sums over the first cycles
+-- a link's sums over the first cycles are those of the covered offers' hops
 pub record IsCounted (d : Domain) (cycles : ℕ) (offers : List Offer) (verdict : Offered → Verdict) (starts : List Started) (link : ℕ) : Type 0 where
   pub frames : frames_on link starts ≡ sum_of_hops d verdict (counts_frames link cycles) (numbered offers)
   pub octets : octets_on link starts ≡ sum_of_hops d verdict (counts_octets link cycles) (numbered offers)
   pub column : (cycle : ℕ) → cycle < cycles → octets_summed link cycle starts ≡ sum_of_hops d verdict (counts_in link cycle) (numbered offers)
   pub later : (cycle : ℕ) → cycles ≤ cycle → octets_summed link cycle starts ≡ 0
 
--- and for a one-thread book of a history
+-- the sums of a one-thread book of a history are those of the covered offers' hops
 abbrev pub HistoryIsCounted : Type 0
 HistoryIsCounted =
     (d : Domain) (entries : List Recorded) (offers : List Offer) (background : List Background) (cycles : ℕ) (book : Contents)
@@ -71,10 +71,10 @@ HistoryIsCounted =
     IsCounted d cycles offers verdict book.starts link
 
 -- a list of a link's octets in each cycle gives its octets in all and the most in one cycle
-pub record TellsCount (starts : List Started) (link : ℕ) (column : List ℕ) : Type 0 where
+pub record ReportsCount (starts : List Started) (link : ℕ) (column : List ℕ) : Type 0 where
   pub octets : sum column ≡ octets_on link starts
   pub most : fold max 0 column ≡ most_on link starts
 
-abbrev pub ColumnsTell : Type 0
-ColumnsTell = (starts : List Started) (link : ℕ) (column : List ℕ) → ((cycle : ℕ) → slice_index_or column cycle 0 ≡ octets_summed link cycle starts) →
-    TellsCount starts link column
+abbrev pub ColumnsReport : Type 0
+ColumnsReport = (starts : List Started) (link : ℕ) (column : List ℕ) → ((cycle : ℕ) → slice_index_or column cycle 0 ≡ octets_summed link cycle starts) →
+    ReportsCount starts link column

@@ -3,4 +3,4 @@ pub mod Counted
 pub mod Rows
 pub mod Judged
 pub mod Columns
-pub mod Told
+pub mod Reported

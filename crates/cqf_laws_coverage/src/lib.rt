@@ -10,7 +10,7 @@
 //! ```
 #![tactic(auto)]
 
-ghost use Rattle.cqf_laws_coverage.specs.Counted.{ColumnsTell, HistoryIsCounted, StartsAreHops};
+ghost use Rattle.cqf_laws_coverage.specs.Counted.{ColumnsReport, HistoryIsCounted, StartsAreHops};
 ghost use Rattle.cqf_laws_coverage.specs.InOneCycle.{MostIsTheGreatest};
 ghost use Rattle.cqf_laws_coverage.specs.Rows.{AsLive, OneIsInForce, RowsAreFound, RowsOfANameFollow, RowsSayTheTables, RowsStandAsTheyBegin};
 ghost use Rattle.cqf_laws_coverage.specs.Judged.{
@@ -22,7 +22,7 @@ ghost use Rattle.cqf_laws_coverage.specs.Judged.{
   OffersBeforeStandBefore,
   ReportIsCounted,
 };
-ghost use Rattle.cqf_laws_coverage.specs.Told.{BookOfHistoryIsThere, CellsFit};
+ghost use Rattle.cqf_laws_coverage.specs.Reported.{BookOfHistoryIsThere, CellsFit};
 
 mod column;
 
@@ -57,8 +57,8 @@ pub fn most_is_the_greatest()
 {}
 
 /// Proves that a list of a link's octets in each cycle gives its octets in all, and the most in one cycle.
-pub fn columns_tell()
-    ensures { ColumnsTell }
+pub fn columns_report()
+    ensures { ColumnsReport }
 {}
 
 /// Proves that the rows that a history ever accepted determine the table of each cycle that the history closes, and the row of each

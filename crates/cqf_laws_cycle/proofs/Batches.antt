@@ -20,7 +20,7 @@ use Rattle.cqf_model.specs.GateList.{Entry}
 use Rattle.cqf_model.specs.Network.{IsLegalNetwork, Network, QueuedFrame, Sends, arrivals_of, comes_before, no_frame, sent_of}
 use Rattle.cqf_model.specs.Port.{Transmission, class_of, no_arrival, octets_of}
 use Rattle.cqf_model.specs.Run.{Run}
-use Rattle.cqf_model.specs.Traffic.{Carried, Received, offered_at, received_at, relayed_at, sent_received, whole_at}
+use Rattle.cqf_model.specs.Policing.{Carried, Received, offered_at, received_at, relayed_at, sent_received, whole_at}
 use Rattle.cqf_model.proofs.Legal.{ends_later}
 use Rattle.cqf_model.proofs.Links.{delay_within, guard_within, octet_positive}
 use Rattle.cqf_model.proofs.Sending.{sent_of_octets, sent_of_once, sent_of_when}
@@ -28,11 +28,11 @@ use Rattle.cqf_laws_cycle.specs.Compiled.{PortListSends}
 use Rattle.cqf_laws_cycle.specs.BridgeCycle.{IsCompiledNetwork, received_in}
 
 -- a transmission has the octets of the frame that was queued
-octets_sent : (queued : List QueuedFrame) (place : ℕ) → place < length (arrivals_of queued) →
-    octets_of (arrivals_of queued) place ≡ (slice_index_or queued place no_frame).arrival.octets
-octets_sent queued place l =
+octets_sent : (queued : List QueuedFrame) (index : ℕ) → index < length (arrivals_of queued) →
+    octets_of (arrivals_of queued) index ≡ (slice_index_or queued index no_frame).arrival.octets
+octets_sent queued index l =
     ap (λ (x : Arrival). x.octets)
-    (get_or-map (λ (x : QueuedFrame). x.arrival) queued place no_frame no_arrival (omega (arith, l, length-map queued (λ (x : QueuedFrame). x.arrival))))
+    (get_or-map (λ (x : QueuedFrame). x.arrival) queued index no_frame no_arrival (omega (arith, l, length-map queued (λ (x : QueuedFrame). x.arrival))))
 
 module _ (run : Run) (cycles : ℕ) (net : Network) (compiled : IsCompiledNetwork run cycles net) (sends : PortListSends) where
   -- what a link of the domain sends arrives fully in its own cycle
@@ -43,21 +43,21 @@ module _ (run : Run) (cycles : ℕ) (net : Network) (compiled : IsCompiledNetwor
       let queued = comes_before run net.carried m cycles in
       let s = compiled.legal.sends m in_links in
       let w = contains_from_flat (sent_of queued) s.starts sent (subst (λ (xs : List Sent). Contains xs sent) s.are_sent h) in
-      let place = w.0.0 in
+      let index = w.0.0 in
       let start = w.0.1 in
-      let octets = octets_of (arrivals_of queued) place in
+      let octets = octets_of (arrivals_of queued) index in
       let octet_time = octet_time_of d m in
       let cycle = cycle_of d start in
       let some : 0 < d.cycle_time = omega (arith, compiled.accepted.guard_short) in
       let same_start : start ≡ sent.start.0 = sym (sent_of_when queued w.0 sent w.2) in
-      let same_octets : octets ≡ sent.octets = octets_sent queued place (s.legal.first place start w.1).waits.inside
+      let same_octets : octets ≡ sent.octets = octets_sent queued index (s.legal.first index start w.1).waits.inside
       ∙ sym (sent_of_octets queued w.0 sent w.2) in
       let same_time : time_of (octets + 8) octet_time ≡ time_of (sent.octets + 8) octet_time = ap (λ (n : ℕ). time_of (n + 8) octet_time) same_octets in
       let delay = delay_within d m compiled.accepted in_links in
       let ended = ((sends d.cycle_time (guard_of d m) cycle start (ending_of start octets octet_time)
-      (class_of (arrivals_of queued) place) (omega (arith, delay)) (guard_within d m compiled.accepted)
+      (class_of (arrivals_of queued) index) (omega (arith, delay)) (guard_within d m compiled.accepted)
       (cycle_from d.cycle_time start, cycle_upto d.cycle_time start some) (ends_later start octets octet_time (octet_positive d m in_links))).0
-      (s.legal.eligible place start w.1)).1 in
+      (s.legal.eligible index start w.1)).1 in
       cycle_is d.cycle_time cycle (whole_at d m sent) (omega (arith, cycle_from d.cycle_time start, same_start))
       (omega (arith, ended, same_start, same_time, delay, guard_within d m compiled.accepted))
       ∙ ap (cycle_of d) same_start

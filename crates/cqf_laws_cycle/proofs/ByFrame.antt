@@ -15,22 +15,22 @@ use Rattle.cqf_model.specs.declared.frames.Offered.{Offered}
 use Rattle.cqf_model.specs.declared.frames.Reason.{Reason}
 use Rattle.cqf_model.specs.declared.frames.Sent.{Sent}
 use Rattle.cqf_model.specs.declared.topology.Row.{Row}
-use Rattle.cqf_model.specs.Book.{drop_by, drops_in, is_of_place}
+use Rattle.cqf_model.specs.Book.{drop_by, drops_in, is_of_index}
 use Rattle.cqf_model.specs.Domain.{cycle_of, enters}
 use Rattle.cqf_model.specs.Run.{Run}
 use Rattle.cqf_model.specs.Table.{row_of, table_of}
-use Rattle.cqf_model.specs.Traffic.{Carried, DroppedFor, Policed, Received, Relayed, is_offered_at, numbered}
-use Rattle.cqf_model.specs.Traffic.{offer_received, offered_at, police, police_all, received_at, relayed_at, sent_received, verdict_by, whole_at, within_gate}
+use Rattle.cqf_model.specs.Policing.{Carried, DroppedFor, Policed, Received, Relayed, is_offered_at, numbered}
+use Rattle.cqf_model.specs.Policing.{offer_received, offered_at, police, police_all, received_at, relayed_at, sent_received, verdict_by, whole_at, within_gate}
 use Rattle.cqf_model.proofs.Drops.{dropped_for}
-use Rattle.cqf_model.proofs.Policing.{behind_those_before, inside_drops_none, police_member}
+use Rattle.cqf_model.proofs.Policing.{after_those_before, inside_drops_none, police_member}
 use Rattle.cqf_laws_cycle.specs.BridgeCycle.{policed_in, received_in}
 use Rattle.cqf_laws_cycle.specs.Gathered.{IsInOrderOf, dropped_of}
 use Rattle.cqf_laws_cycle.proofs.Continued.{policed_when}
 
 -- an offer's frame number is its position, from 1
-pub record IsNumbered (places frame : ℕ) : Type 0 where
+pub record IsNumbered (indices frame : ℕ) : Type 0 where
   pub from_1 : 1 ≤ frame
-  pub within : frame ≤ places
+  pub within : frame ≤ indices
 
 -- this holds for each offer
 offered_numbered : (offers : List Offer) (x : Offered) → Contains (numbered offers) x → IsNumbered (length offers) x.frame
@@ -39,9 +39,9 @@ offered_numbered offers x h =
     let w = contains_from_map (λ (y : ℕ × Offer). number y) all x h in
     let k = w.1 in
     let inside : k.0 < length offers = omega (arith, k.1, length-enumerate_from 1 offers) in
-    let place : 1 + k.0 ≡ w.0.0 = ap (λ (y : ℕ × Offer). y.0) (sym (get_or-enumerate_from 1 offers k.0 w.0 inside) ∙ k.2) in
+    let index : 1 + k.0 ≡ w.0.0 = ap (λ (y : ℕ × Offer). y.0) (sym (get_or-enumerate_from 1 offers k.0 w.0 inside) ∙ k.2) in
     let frame : w.0.0 ≡ x.frame = ap (λ (y : Offered). y.frame) w.2 in
-    record { from_1 = omega (arith, frame, place); within = omega (arith, frame, place, inside) }
+    record { from_1 = omega (arith, frame, index); within = omega (arith, frame, index, inside) }
   where
     -- an offer with its number
     number : ℕ × Offer → Offered
@@ -63,11 +63,11 @@ module _ (run : Run) (carried : Carried) where
       let whole = λ (sent : Sent). whole_at d m sent == t in
       let k = contains_if (enters d m bridge) (map (sent_received d m) (filter whole (carried m))) x h in
       let w = contains_from_map (sent_received d m) (filter whole (carried m)) x k in
-      let way : x.way ≡ Relayed m w.0.stream = sym (ap (λ (y : Received). y.way) w.2) in
+      let ingress : x.ingress ≡ Relayed m w.0.stream = sym (ap (λ (y : Received). y.ingress) w.2) in
       let table = table_of run.tables (cycle_of d x.at) in
       let passes : Row → Bool = λ row. within_gate d earlier row x in
       let inside : verdict_by d table bridge (cycle_of d x.at) passes (Relayed m w.0.stream) ≡ DroppedFor reason =
-      sym (ap (verdict_by d table bridge (cycle_of d x.at) passes) way) ∙ e in
+      sym (ap (verdict_by d table bridge (cycle_of d x.at) passes) ingress) ∙ e in
       inside_drops_none d bridge m passes (row_of table w.0.stream) reason inside
 
   -- so what is dropped was offered
@@ -103,7 +103,7 @@ module _ (run : Run) (carried : Carried) where
         let w = contains_from_flat (λ (p : Policed). drop_by cycle bridge p.received p.verdict) policed drop h in
         let p = w.0 in
         let f = dropped_for cycle bridge p.received p.verdict drop w.2 in
-        let r = behind_those_before d run.tables bridge (earlier bridge) (received_in run carried bridge cycle) p w.1 in
+        let r = after_those_before d run.tables bridge (earlier bridge) (received_in run carried bridge cycle) p w.1 in
         let before = earlier bridge ++ police_all d run.tables bridge (earlier bridge) r.before in
         let same : r.x ≡ p.received = sym (ap (λ (q : Policed). q.received) r.is) in
         let verdict : (police d run.tables bridge before p.received).verdict ≡ DroppedFor f.0 =
@@ -113,14 +113,14 @@ module _ (run : Run) (carried : Carried) where
         (dropped_numbered bridge (cycle * d.cycle_time + k.0) before p.received f.0 k.2 verdict)
 
     -- the drops of a frame are those of its offer
-    drops_of_frame : (place : ℕ) →
-        filter (λ (x : Dropped). x.frame == place + 1) dropped ≡ dropped_of cycle bridge (filter (is_of_place run.domain cycle place) policed)
-    drops_of_frame place =
-        filter_made (λ (p : Policed). drop_by cycle bridge p.received p.verdict) (is_of_place run.domain cycle place)
-        (λ (x : Dropped). x.frame == place + 1) policed (λ p drop h k.
+    drops_of_frame : (index : ℕ) →
+        filter (λ (x : Dropped). x.frame == index + 1) dropped ≡ dropped_of cycle bridge (filter (is_of_index run.domain cycle index) policed)
+    drops_of_frame index =
+        filter_made (λ (p : Policed). drop_by cycle bridge p.received p.verdict) (is_of_index run.domain cycle index)
+        (λ (x : Dropped). x.frame == index + 1) policed (λ p drop h k.
         let f = dropped_for cycle bridge p.received p.verdict drop k in
-        sym (ap (λ (y : Dropped). y.frame == place + 1) f.2)
-        ∙ sym (ap (λ (b : Bool). b && (p.received.frame == place + 1))
+        sym (ap (λ (y : Dropped). y.frame == index + 1) f.2)
+        ∙ sym (ap (λ (b : Bool). b && (p.received.frame == index + 1))
         (eq-eqb (cycle_of run.domain p.received.at) cycle (policed_when run carried bridge cycle (earlier bridge) p h))))
 
     module _ (sorted : List Dropped) (is : IsInOrderOf (λ (x : Dropped). x.frame) dropped sorted) where
@@ -134,13 +134,13 @@ module _ (run : Run) (carried : Carried) where
       -- so sorted by frame, the drops are those of the page
       pub by_frame : sorted ≡ drops_in run.domain (length run.offers) (λ b. policed_in run carried b cycle (earlier b)) cycle bridge
       by_frame =
-          let places = length run.offers in
+          let indices = length run.offers in
           let by = λ (t : ℕ). filter (λ (x : Dropped). x.frame == t) sorted in
           let none_0 : by 0 ≡ [] =
           filter_none (λ (x : Dropped). x.frame == 0) sorted (λ x h. ne_eqb x.frame 0 (λ e. omega (arith, e, (was_dropped x h).from_1))) in
-          by_key (λ (x : Dropped). x.frame) (1 + places) sorted is.in_order (λ x h. omega (arith, (was_dropped x h).within))
-          ∙ below_plus by 1 places
-          ∙ ap (λ (xs : List Dropped). xs ++ each_below (λ place. by (1 + place)) places) none_0
-          ∙ same_below (λ place. by (1 + place)) (λ place. dropped_of cycle bridge (filter (is_of_place run.domain cycle place) policed)) places (λ place l.
-          let e : 1 + place ≡ place + 1 = omega arith in
-          ap by e ∙ is.stable (place + 1) ∙ drops_of_frame place)
+          by_key (λ (x : Dropped). x.frame) (1 + indices) sorted is.in_order (λ x h. omega (arith, (was_dropped x h).within))
+          ∙ below_plus by 1 indices
+          ∙ ap (λ (xs : List Dropped). xs ++ each_below (λ index. by (1 + index)) indices) none_0
+          ∙ same_below (λ index. by (1 + index)) (λ index. dropped_of cycle bridge (filter (is_of_index run.domain cycle index) policed)) indices (λ index l.
+          let e : 1 + index ≡ index + 1 = omega arith in
+          ap by e ∙ is.stable (index + 1) ∙ drops_of_frame index)

@@ -25,8 +25,8 @@ use Rattle.cqf_model.specs.declared.topology.Node.{Node}
 use Rattle.cqf_model.specs.declared.topology.Node.TheVariants.{Bridge, Station}
 use Rattle.cqf_model.specs.Domain.{Domain, end_of, enters, node_is}
 use Rattle.cqf_model.specs.Run.{Run}
-use Rattle.cqf_model.specs.Traffic.{Carried, Received, is_offered_at, numbered, offer_received, received_at, received_before, relayed_at}
-use Rattle.cqf_model.specs.Traffic.{sent_received, whole_at}
+use Rattle.cqf_model.specs.Policing.{Carried, Received, is_offered_at, numbered, offer_received, received_at, received_before, relayed_at}
+use Rattle.cqf_model.specs.Policing.{sent_received, whole_at}
 use Rattle.cqf_laws_cycle.specs.ArrivalLaws.{BridgesReceiveWhatComes, Came, CameBefore, Comes, IsSourceBefore, OfLink, OfOffers, Source}
 
 -- ---- a bridge
@@ -79,8 +79,8 @@ links_before : (a b : Source) (l m i j : ℕ) → a ≡ OfLink l i → b ≡ OfL
 links_before a b l m i j ea eb h = subst (λ (s : Source). IsSourceBefore s b) (sym ea) (subst (λ (s : Source). IsSourceBefore (OfLink l i) s) (sym eb) h)
 
 -- the links precede the offers
-offers_behind : (a b : Source) (l i j : ℕ) → a ≡ OfLink l i → b ≡ OfOffers j → IsSourceBefore a b
-offers_behind a b l i j ea eb = subst (λ (s : Source). IsSourceBefore s b) (sym ea) (subst (λ (s : Source). IsSourceBefore (OfLink l i) s) (sym eb) tt)
+offers_after : (a b : Source) (l i j : ℕ) → a ≡ OfLink l i → b ≡ OfOffers j → IsSourceBefore a b
+offers_after a b l i j ea eb = subst (λ (s : Source). IsSourceBefore s b) (sym ea) (subst (λ (s : Source). IsSourceBefore (OfLink l i) s) (sym eb) tt)
 
 -- no source is before itself
 not_itself : (s : Source) → IsSourceBefore s s → ⊥
@@ -149,8 +149,8 @@ module _ (run : Run) (carried : Carried) (bridge : ℕ) where
   -- and it is a link's frame
   record IsOfLink (t m : ℕ) (c : Came) : Type 0 where
     comes_at : ComesAt t c
-    place : ℕ
-    is : c.source ≡ OfLink m place
+    index : ℕ
+    is : c.source ≡ OfLink m index
 
   -- what a link brings at an instant is such
   from_link : (t m : ℕ) (c : Came) → Contains (brought_at t m) c → IsOfLink t m c
@@ -160,29 +160,29 @@ module _ (run : Run) (carried : Carried) (bridge : ℕ) where
       let e = contains_from_map (brought m) (filter (is_whole t m) all) c w.1 in
       let f = contains_from_filter (is_whole t m) all e.0 e.1 in
       let a = enum_at 0 (carried m) e.0 f.0 in
-      let place : e.0.0 ≡ a.0 = omega (arith, a.1) in
+      let index : e.0.0 ≡ a.0 = omega (arith, a.1) in
       subst (λ (x : Came). IsOfLink t m x) e.2 (record {
         comes_at = record {
           comes = record {
             sent = e.0.1;
-            is_carried = ap (λ (k : ℕ). slice_get (carried m) k) place ∙ a.2;
+            is_carried = ap (λ (k : ℕ). slice_get (carried m) k) index ∙ a.2;
             ends_here = ends_there run.domain m bridge w.0;
             instant = refl;
             octets = refl;
             frame = refl;
-            way = refl;
+            ingress = refl;
           };
           instant = eqb-true (whole_at run.domain m e.0.1) t f.1;
         };
-        place = e.0.0;
+        index = e.0.0;
         is = refl;
       })
 
   -- it is an offer
   record IsOfOffers (t : ℕ) (c : Came) : Type 0 where
     comes_at : ComesAt t c
-    place : ℕ
-    is : c.source ≡ OfOffers place
+    index : ℕ
+    is : c.source ≡ OfOffers index
 
   -- the offers at an instant are such
   from_offers : (t : ℕ) (c : Came) → Contains (offers_at t) c → IsOfOffers t c
@@ -191,21 +191,21 @@ module _ (run : Run) (carried : Carried) (bridge : ℕ) where
       let f = contains_from_filter (is_offered_at bridge t) (numbered run.offers) e.0 e.1 in
       let g = and_parts (e.0.offer.bridge == bridge) (e.0.offer.at.0 == t) f.1 in
       let n = offer_at run.offers e.0 f.0 in
-      let place : e.0.frame - 1 ≡ n.place = omega (arith, n.numbered) in
+      let index : e.0.frame - 1 ≡ n.index = omega (arith, n.numbered) in
       subst (λ (x : Came). IsOfOffers t x) e.2 (record {
         comes_at = record {
           comes = record {
             offer = e.0.offer;
-            is_there = ap (λ (k : ℕ). slice_get run.offers k) place ∙ n.is_there;
+            is_there = ap (λ (k : ℕ). slice_get run.offers k) index ∙ n.is_there;
             offered_here = eqb-true e.0.offer.bridge bridge g.0;
             instant = refl;
             octets = refl;
             frame = omega (arith, n.numbered);
-            way = refl;
+            ingress = refl;
           };
           instant = eqb-true e.0.offer.at.0 t g.1;
         };
-        place = e.0.frame - 1;
+        index = e.0.frame - 1;
         is = refl;
       })
 
@@ -227,34 +227,34 @@ module _ (run : Run) (carried : Carried) (bridge : ℕ) where
 
   -- and each frame that arrives is in the list
   to_instant : (source : Source) (x : Received) → Comes run carried bridge source x → Contains (at_instant x.at) (record { source = source; received = x })
-  to_instant (OfLink m place) x b =
+  to_instant (OfLink m index) x b =
       let links = length run.domain.links in
       let all = enumerate_from 0 (carried m) in
       let e = ends_in run.domain m bridge b.ends_here in
-      let there = enum_there 0 place place (carried m) b.sent (omega arith) b.is_carried in
-      let kept = contains_filter (is_whole x.at m) all (place, b.sent) there (eq-eqb (whole_at run.domain m b.sent) x.at (sym b.instant)) in
-      let c = contains_map (brought m) (filter (is_whole x.at m) all) (place, b.sent) kept in
+      let there = enum_there 0 index index (carried m) b.sent (omega arith) b.is_carried in
+      let kept = contains_filter (is_whole x.at m) all (index, b.sent) there (eq-eqb (whole_at run.domain m b.sent) x.at (sym b.instant)) in
+      let c = contains_map (brought m) (filter (is_whole x.at m) all) (index, b.sent) kept in
       let same : sent_received run.domain m b.sent ≡ x =
-      λ i. record { at = sym b.instant i; octets = sym b.octets i; frame = sym b.frame i; way = sym b.way i } in
-      let made = if_contains (enters run.domain m bridge) (map (brought m) (filter (is_whole x.at m) all)) (brought m (place, b.sent)) e.enters_it c in
-      Contains-append_left (each_below (brought_at x.at) links) (offers_at x.at) (record { source = OfLink m place; received = x })
-      (contains_below (brought_at x.at) links m (record { source = OfLink m place; received = x }) e.inside
-      (subst (λ (y : Received). Contains (brought_at x.at m) (record { source = OfLink m place; received = y })) same made))
-  to_instant (OfOffers place) x o =
+      λ i. record { at = sym b.instant i; octets = sym b.octets i; frame = sym b.frame i; ingress = sym b.ingress i } in
+      let made = if_contains (enters run.domain m bridge) (map (brought m) (filter (is_whole x.at m) all)) (brought m (index, b.sent)) e.enters_it c in
+      Contains-append_left (each_below (brought_at x.at) links) (offers_at x.at) (record { source = OfLink m index; received = x })
+      (contains_below (brought_at x.at) links m (record { source = OfLink m index; received = x }) e.inside
+      (subst (λ (y : Received). Contains (brought_at x.at m) (record { source = OfLink m index; received = y })) same made))
+  to_instant (OfOffers index) x o =
       let links = length run.domain.links in
       let mine = is_offered_at bridge x.at in
-      let there = numbered_there as_offered run.offers place o.offer o.is_there in
-      let numbered_offer : Offered = record { frame = place + 1; offer = o.offer } in
+      let there = numbered_there as_offered run.offers index o.offer o.is_there in
+      let numbered_offer : Offered = record { frame = index + 1; offer = o.offer } in
       let kept = contains_filter mine (numbered run.offers) numbered_offer there
       (and_from (o.offer.bridge == bridge) (o.offer.at.0 == x.at) (eq-eqb o.offer.bridge bridge o.offered_here) (eq-eqb o.offer.at.0 x.at (sym o.instant))) in
       let c = contains_map offered_as (filter mine (numbered run.offers)) numbered_offer kept in
-      let back : place + 1 - 1 ≡ place = omega arith in
-      let same : offered_as numbered_offer ≡ record { source = OfOffers place; received = x } =
+      let back : index + 1 - 1 ≡ index = omega arith in
+      let same : offered_as numbered_offer ≡ record { source = OfOffers index; received = x } =
       λ i. record {
         source = OfOffers (back i);
-        received = record { at = sym o.instant i; octets = sym o.octets i; frame = sym o.frame i; way = sym o.way i };
+        received = record { at = sym o.instant i; octets = sym o.octets i; frame = sym o.frame i; ingress = sym o.ingress i };
       } in
-      Contains-append_right (each_below (brought_at x.at) links) (offers_at x.at) (record { source = OfOffers place; received = x })
+      Contains-append_right (each_below (brought_at x.at) links) (offers_at x.at) (record { source = OfOffers index; received = x })
       (subst (λ (y : Came). Contains (offers_at x.at) y) same c)
 
   -- ---- in order
@@ -299,13 +299,13 @@ module _ (run : Run) (carried : Carried) (bridge : ℕ) where
       (pairs_below CameBefore (brought_at t) links (λ m l. link_pairs t m) (λ j k x y l inside cx cy.
       let a = from_link t j x cx in
       let b = from_link t k y cy in
-      inr (a.comes_at.instant ∙ sym b.comes_at.instant, links_before x.source y.source j k a.place b.place a.is b.is (inl l))))
+      inr (a.comes_at.instant ∙ sym b.comes_at.instant, links_before x.source y.source j k a.index b.index a.is b.is (inl l))))
       (offer_pairs t)
       (λ x y cx cy.
       let w = contains_from_below (brought_at t) links x cx in
       let a = from_link t w.0 x w.2 in
       let b = from_offers t y cy in
-      inr (a.comes_at.instant ∙ sym b.comes_at.instant, offers_behind x.source y.source w.0 a.place b.place a.is b.is))
+      inr (a.comes_at.instant ∙ sym b.comes_at.instant, offers_after x.source y.source w.0 a.index b.index a.is b.is))
 
   -- and all before an instant
   pub until_pairs : (end : ℕ) → AllPairs CameBefore (until end)
@@ -315,10 +315,10 @@ module _ (run : Run) (carried : Carried) (bridge : ℕ) where
 
   -- a source has one frame
   one_instant : (source : Source) (x y : Received) → Comes run carried bridge source x → Comes run carried bridge source y → x.at ≡ y.at
-  one_instant (OfLink m place) x y a b =
+  one_instant (OfLink m index) x y a b =
       let same : a.sent ≡ b.sent = same_Some a.sent b.sent (sym a.is_carried ∙ b.is_carried) in
       a.instant ∙ ap (λ (sent : Sent). whole_at run.domain m sent) same ∙ sym b.instant
-  one_instant (OfOffers place) x y a b =
+  one_instant (OfOffers index) x y a b =
       let same : a.offer ≡ b.offer = same_Some a.offer b.offer (sym a.is_there ∙ b.is_there) in
       a.instant ∙ ap (λ (offer : Offer). offer.at.0) same ∙ sym b.instant
 

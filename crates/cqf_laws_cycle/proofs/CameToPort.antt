@@ -13,7 +13,7 @@ use Rattle.cqf_lists.specs.Lists.{each_below}
 use Rattle.cqf_lists.proofs.EachBelow.{contains_below, contains_from_below, map_below, same_below}
 use Rattle.cqf_lists.proofs.Filters.{filter-map}
 use Rattle.cqf_lists.proofs.Made.{contains_if_there, if_contains, pairs_of_flat}
-use Rattle.cqf_lists.proofs.Places.{slice_get_front, slice_get_parts}
+use Rattle.cqf_lists.proofs.Indices.{slice_get_front, slice_get_parts}
 use Rattle.cqf_lists.proofs.Members.{any_member, contains_at, contains_flat, contains_from_flat, contains_one, member_any}
 use Rattle.cqf_lists.proofs.Members.{contains_filter, contains_from_filter, contains_from_map, contains_here, contains_map, contains_none}
 use Rattle.cqf_lists.proofs.Numbered.{StandsAt, enum_at, enum_pairs, enum_there, numbered_at, numbered_pairs, numbered_there}
@@ -29,15 +29,15 @@ use Rattle.cqf_model.specs.Domain.{Domain, bridge_of, cycle_of}
 use Rattle.cqf_model.specs.Network.{QueuedFrame, backed_at, backed_frame, backed_in, comes_before, comes_in, is_backed_at, numbered_background, queued_by}
 use Rattle.cqf_model.specs.Network.{queued_frame, queued_in, queued_to}
 use Rattle.cqf_model.specs.StreamGate.{gate_class}
-use Rattle.cqf_model.specs.Table.{depth_behind, goes_to}
-use Rattle.cqf_model.specs.Traffic.{DroppedFor, ExceedsGate, LacksRow, Policed, Queued, Verdict, came_by, gate_behind, police, police_all, policed_before}
+use Rattle.cqf_model.specs.Table.{goes_to, hop_number_after}
+use Rattle.cqf_model.specs.Policing.{DroppedFor, ExceedsGate, LacksRow, Policed, Queued, Verdict, came_by, gate_list_after, police, police_all, policed_before}
 use Rattle.cqf_model.proofs.Coming.{policed_front}
 use Rattle.cqf_laws_cycle.proofs.GateLists.{gate_gives}
 use Rattle.cqf_laws_cycle.specs.ArrivalLaws.{AreOfOneKind, CameToPort, ComesOfBackground, ComesThroughBridge, ComesToPort, IsOriginBefore}
 use Rattle.cqf_laws_cycle.specs.ArrivalLaws.{OfBackground, OfBridge}
 use Rattle.cqf_laws_cycle.specs.ArrivalLaws.{Origin, PortsGetWhatComes, StandsBefore, VerdictsAreOnWhatComes, came_at}
 use Rattle.cqf_model.specs.Run.{Run}
-use Rattle.cqf_model.specs.Traffic.{Carried, Received, received_before}
+use Rattle.cqf_model.specs.Policing.{Carried, Received, received_before}
 use Rattle.cqf_laws_cycle.specs.ArrivalLaws.{Came, CameBefore}
 use Rattle.cqf_laws_cycle.proofs.CameToBridge.{until, until_is, until_pairs}
 
@@ -76,26 +76,26 @@ abbrev as_backed : ℕ × Background → Backed
 as_backed e = record { frame = e.0; background = e.1 }
 
 -- is at its number's position
-backed_at_place : (background : List Background) (x : Backed) → Contains (numbered_background background) x →
+backed_at_index : (background : List Background) (x : Backed) → Contains (numbered_background background) x →
     StandsAt (λ (y : Backed). y.frame) (λ (y : Backed). y.background) background x
-backed_at_place background = numbered_at as_backed (λ (y : Backed). y.frame) (λ (y : Backed). y.background) (λ e. refl) (λ e. refl) background
+backed_at_index background = numbered_at as_backed (λ (y : Backed). y.frame) (λ (y : Backed). y.background) (λ e. refl) (λ e. refl) background
 
 -- why a frame is queued to a port
 record IsQueuedFor (d : Domain) (l : ℕ) (x : Received) (verdict : Verdict) (q : QueuedFrame) : Type 0 where
   row : Row
   with_row : verdict ≡ Queued row
-  by_link : Contains (goes_to row (came_by x.way)) l
+  by_link : Contains (goes_to row (came_by x.ingress)) l
   is : queued_frame d x row ≡ q
 
 -- a queued frame is queued for such a reason
 queued_for : (d : Domain) (l : ℕ) (x : Received) (verdict : Verdict) (q : QueuedFrame) → Contains (queued_by d l x verdict) q → IsQueuedFor d l x verdict q
 queued_for d l x (Queued row) q c =
-    let w = contains_if_there (list_any (λ next. next == l) (goes_to row (came_by x.way))) (queued_frame d x row ∷ []) q c in
-    let m = any_member (λ next. next == l) (goes_to row (came_by x.way)) w.0 in
+    let w = contains_if_there (list_any (λ next. next == l) (goes_to row (came_by x.ingress))) (queued_frame d x row ∷ []) q c in
+    let m = any_member (λ next. next == l) (goes_to row (came_by x.ingress)) w.0 in
     record {
       row = row;
       with_row = refl;
-      by_link = subst (λ (k : ℕ). Contains (goes_to row (came_by x.way)) k) (eqb-true m.0 l m.2) m.1;
+      by_link = subst (λ (k : ℕ). Contains (goes_to row (came_by x.ingress)) k) (eqb-true m.0 l m.2) m.1;
       is = contains_one (queued_frame d x row) q w.1;
     }
 queued_for d l x (DroppedFor reason) q c = absurd (contains_none q c)
@@ -103,16 +103,16 @@ queued_for d l x LacksRow q c = absurd (contains_none q c)
 queued_for d l x ExceedsGate q c = absurd (contains_none q c)
 
 -- and a frame that goes on by the link is queued
-is_queued : (d : Domain) (l : ℕ) (x : Received) (verdict : Verdict) (row : Row) → verdict ≡ Queued row → Contains (goes_to row (came_by x.way)) l →
+is_queued : (d : Domain) (l : ℕ) (x : Received) (verdict : Verdict) (row : Row) → verdict ≡ Queued row → Contains (goes_to row (came_by x.ingress)) l →
     Contains (queued_by d l x verdict) (queued_frame d x row)
 is_queued d l x verdict row e c = subst (λ (v : Verdict). Contains (queued_by d l x v) (queued_frame d x row)) (sym e)
-    (if_contains (list_any (λ next. next == l) (goes_to row (came_by x.way))) (queued_frame d x row ∷ []) (queued_frame d x row)
-    (member_any (λ next. next == l) (goes_to row (came_by x.way)) l c (eq-eqb l l refl)) (contains_here (queued_frame d x row) []))
+    (if_contains (list_any (λ next. next == l) (goes_to row (came_by x.ingress))) (queued_frame d x row ∷ []) (queued_frame d x row)
+    (member_any (λ next. next == l) (goes_to row (came_by x.ingress)) l c (eq-eqb l l refl)) (contains_here (queued_frame d x row) []))
 
 -- it is queued once
 queued_pairs : {Y : Type 0} (R : Y → Y → Type 0) (make : QueuedFrame → Y) (d : Domain) (l : ℕ) (x : Received) (verdict : Verdict) →
     AllPairs R (map make (queued_by d l x verdict))
-queued_pairs R make d l x (Queued row) = by_test (list_any (λ next. next == l) (goes_to row (came_by x.way)))
+queued_pairs R make d l x (Queued row) = by_test (list_any (λ next. next == l) (goes_to row (came_by x.ingress)))
   where
     -- one frame or none has no pairs
     by_test : (b : Bool) → AllPairs R (map make (cond b (queued_frame d x row ∷ []) []))
@@ -179,7 +179,7 @@ module _ (run : Run) (carried : Carried) (l : ℕ) where
 
   -- what is queued for a frame that the bridge received, with its index
   abbrev through : ℕ → QueuedFrame → CameToPort
-  through place q = record { origin = OfBridge place; queued = q }
+  through index q = record { origin = OfBridge index; queued = q }
 
   -- what is queued for one policed frame
   abbrev gone : ℕ × Policed → List CameToPort
@@ -245,9 +245,9 @@ module _ (run : Run) (carried : Carried) (l : ℕ) where
 
   -- a background frame of the port's link at an instant
   record IsBackedCame (t : ℕ) (c : CameToPort) : Type 0 where
-    place : ℕ
-    is : c.origin ≡ OfBackground place
-    comes : ComesOfBackground run l place c.queued
+    index : ℕ
+    is : c.origin ≡ OfBackground index
+    comes : ComesOfBackground run l index c.queued
     instant : came_at c ≡ t
 
   -- a background frame in the list is such
@@ -257,14 +257,14 @@ module _ (run : Run) (carried : Carried) (l : ℕ) where
       let e = contains_from_map backed_as (filter (is_backed_at l t) all) c h in
       let f = contains_from_filter (is_backed_at l t) all e.0 e.1 in
       let g = and_parts (e.0.background.link == l) (e.0.background.at.0 == t) f.1 in
-      let n = backed_at_place run.background e.0 f.0 in
-      let place : e.0.frame - 1 ≡ n.place = omega (arith, n.numbered) in
+      let n = backed_at_index run.background e.0 f.0 in
+      let index : e.0.frame - 1 ≡ n.index = omega (arith, n.numbered) in
       subst (λ (x : CameToPort). IsBackedCame t x) e.2 (record {
-        place = e.0.frame - 1;
+        index = e.0.frame - 1;
         is = refl;
         comes = record {
           background = e.0.background;
-          is_there = ap (λ (k : ℕ). slice_get run.background k) place ∙ n.is_there;
+          is_there = ap (λ (k : ℕ). slice_get run.background k) index ∙ n.is_there;
           on_link = eqb-true e.0.background.link l g.0;
           instant = refl;
           class = refl;
@@ -277,9 +277,9 @@ module _ (run : Run) (carried : Carried) (l : ℕ) where
 
   -- a background frame in a cycle
   record IsBackedIn (cycle : ℕ) (c : CameToPort) : Type 0 where
-    place : ℕ
-    is : c.origin ≡ OfBackground place
-    comes : ComesOfBackground run l place c.queued
+    index : ℕ
+    is : c.origin ≡ OfBackground index
+    comes : ComesOfBackground run l index c.queued
     from : cycle * run.domain.cycle_time ≤ came_at c
     before : came_at c < cycle * run.domain.cycle_time + run.domain.cycle_time
 
@@ -289,14 +289,14 @@ module _ (run : Run) (carried : Carried) (l : ℕ) where
       let first = cycle * run.domain.cycle_time in
       let w = contains_from_below (λ offset. backed_came (first + offset)) run.domain.cycle_time c h in
       let b = from_backed (first + w.0) c w.2 in
-      record { place = b.place; is = b.is; comes = b.comes; from = omega (arith, b.instant); before = omega (arith, b.instant, w.1) }
+      record { index = b.index; is = b.is; comes = b.comes; from = omega (arith, b.instant); before = omega (arith, b.instant, w.1) }
 
   -- a frame that went on in a cycle, by its index among those that the bridge received up to the end of the cycle
   record IsGoneIn (cycle : ℕ) (c : CameToPort) : Type 0 where
-    place : ℕ
+    index : ℕ
     policed : Policed
-    is : c.origin ≡ OfBridge place
-    received : slice_get (policed_upto cycle) place ≡ Some policed
+    is : c.origin ≡ OfBridge index
+    received : slice_get (policed_upto cycle) index ≡ Some policed
     queued : IsQueuedFor run.domain l policed.received policed.verdict c.queued
     of_cycle : cycle_of run.domain (came_at c) ≡ cycle
 
@@ -308,12 +308,12 @@ module _ (run : Run) (carried : Carried) (l : ℕ) where
       let w = contains_from_flat gone all c f.0 in
       let m = contains_from_map (through w.0.0) (queued_by run.domain l w.0.1.received w.0.1.verdict) c w.2 in
       let a = enum_at 0 (policed_upto cycle) w.0 w.1 in
-      let place : w.0.0 ≡ a.0 = omega (arith, a.1) in
+      let index : w.0.0 ≡ a.0 = omega (arith, a.1) in
       record {
-        place = w.0.0;
+        index = w.0.0;
         policed = w.0.1;
         is = sym (ap (λ (x : CameToPort). x.origin) m.2);
-        received = ap (λ (k : ℕ). slice_get (policed_upto cycle) k) place ∙ a.2;
+        received = ap (λ (k : ℕ). slice_get (policed_upto cycle) k) index ∙ a.2;
         queued = subst (λ (q : QueuedFrame). IsQueuedFor run.domain l w.0.1.received w.0.1.verdict q) (ap (λ (x : CameToPort). x.queued) m.2)
             (queued_for run.domain l w.0.1.received w.0.1.verdict m.0 m.1);
         of_cycle = eqb-true (cycle_of run.domain (came_at c)) cycle f.1;
@@ -321,41 +321,41 @@ module _ (run : Run) (carried : Carried) (l : ℕ) where
 
   module _ (some : 0 < run.domain.cycle_time) (cycles : ℕ) where
     -- an index among those up to the end of a cycle is the same among all
-    in_all : (cycle place : ℕ) (policed : Policed) → cycle < cycles → slice_get (policed_upto cycle) place ≡ Some policed →
-        slice_get (policed_before run carried (bridge_of run.domain l) (cycles * run.domain.cycle_time)) place ≡ Some policed
-    in_all cycle place policed inside e =
+    in_all : (cycle index : ℕ) (policed : Policed) → cycle < cycles → slice_get (policed_upto cycle) index ≡ Some policed →
+        slice_get (policed_before run carried (bridge_of run.domain l) (cycles * run.domain.cycle_time)) index ≡ Some policed
+    in_all cycle index policed inside e =
         let time = run.domain.cycle_time in
         let f = policed_front run carried (bridge_of run.domain l) ((cycle + 1) * time) (cycles * time) (cycle_within time cycles cycle inside) in
-        ap (λ (ps : List Policed). slice_get ps place) f.is
-        ∙ slice_get_front (policed_upto cycle) f.rest place (slice_get_within (policed_upto cycle) place policed e) ∙ e
+        ap (λ (ps : List Policed). slice_get ps index) f.is
+        ∙ slice_get_front (policed_upto cycle) f.rest index (slice_get_within (policed_upto cycle) index policed e) ∙ e
 
     -- and conversely, if the frame arrives by then
-    in_front : (cycle place : ℕ) (policed : Policed) → cycle < cycles → policed.received.at < (cycle + 1) * run.domain.cycle_time →
-        slice_get (policed_before run carried (bridge_of run.domain l) (cycles * run.domain.cycle_time)) place ≡ Some policed →
-        slice_get (policed_upto cycle) place ≡ Some policed
-    in_front cycle place policed inside early e =
+    in_front : (cycle index : ℕ) (policed : Policed) → cycle < cycles → policed.received.at < (cycle + 1) * run.domain.cycle_time →
+        slice_get (policed_before run carried (bridge_of run.domain l) (cycles * run.domain.cycle_time)) index ≡ Some policed →
+        slice_get (policed_upto cycle) index ≡ Some policed
+    in_front cycle index policed inside early e =
         let time = run.domain.cycle_time in
         let f = policed_front run carried (bridge_of run.domain l) ((cycle + 1) * time) (cycles * time) (cycle_within time cycles cycle inside) in
-        let there : slice_get (policed_upto cycle ++ f.rest) place ≡ Some policed = sym (ap (λ (ps : List Policed). slice_get ps place) f.is) ∙ e in
-        elim (slice_get_parts (policed_upto cycle) f.rest place policed there) [
+        let there : slice_get (policed_upto cycle ++ f.rest) index ≡ Some policed = sym (ap (λ (ps : List Policed). slice_get ps index) f.is) ∙ e in
+        elim (slice_get_parts (policed_upto cycle) f.rest index policed there) [
           | inl h ↦ h
           | inr h ↦ absurd (omega (arith, (f.late policed (contains_at f.rest h.0 policed h.2)).0, early))
         ]
 
     -- a frame that went on comes through the bridge
     comes_through : (cycle : ℕ) (c : CameToPort) → cycle < cycles → (g : IsGoneIn cycle c) →
-        ComesThroughBridge run carried l (cycles * run.domain.cycle_time) g.place c.queued
+        ComesThroughBridge run carried l (cycles * run.domain.cycle_time) g.index c.queued
     comes_through cycle c inside g =
         let x = g.policed.received in
         let row = g.queued.row in
         record {
           policed = g.policed;
-          is_received = in_all cycle g.place g.policed inside g.received;
+          is_received = in_all cycle g.index g.policed inside g.received;
           row = row;
           with_row = g.queued.with_row;
           by_link = g.queued.by_link;
           instant = sym (ap (λ (q : QueuedFrame). q.arrival.at.0) g.queued.is);
-          class = sym (ap (λ (q : QueuedFrame). q.arrival.class) g.queued.is) ∙ gate_gives run.domain.cycle_time row.octets row.pace (depth_behind row (came_by x.way)) x.at some;
+          class = sym (ap (λ (q : QueuedFrame). q.arrival.class) g.queued.is) ∙ gate_gives run.domain.cycle_time row.octets row.pace (hop_number_after row (came_by x.ingress)) x.at some;
           octets = sym (ap (λ (q : QueuedFrame). q.arrival.octets) g.queued.is);
           frame = sym (ap (λ (q : QueuedFrame). q.arrival.frame) g.queued.is);
           of_stream = sym (ap (λ (q : QueuedFrame). q.stream) g.queued.is);
@@ -388,9 +388,9 @@ module _ (run : Run) (carried : Carried) (l : ℕ) where
         (r.0, omega (arith, cycle_upto time (came_at c) some, whole, cycle_within time cycles w.0 w.1))
 
     -- and each such frame is in the list
-    to_background : (place : ℕ) (q : QueuedFrame) → ComesOfBackground run l place q → q.arrival.at.0 < cycles * run.domain.cycle_time →
-        Contains (backed_cycle (cycle_of run.domain q.arrival.at.0)) (record { origin = OfBackground place; queued = q })
-    to_background place q b early =
+    to_background : (index : ℕ) (q : QueuedFrame) → ComesOfBackground run l index q → q.arrival.at.0 < cycles * run.domain.cycle_time →
+        Contains (backed_cycle (cycle_of run.domain q.arrival.at.0)) (record { origin = OfBackground index; queued = q })
+    to_background index q b early =
         let time = run.domain.cycle_time in
         let t = q.arrival.at.0 in
         let first = cycle_of run.domain t * time in
@@ -399,14 +399,14 @@ module _ (run : Run) (carried : Carried) (l : ℕ) where
         let there_then : first + offset ≡ t = omega (arith, from) in
         let mine = is_backed_at l (first + offset) in
         let all = numbered_background run.background in
-        let there = numbered_there as_backed run.background place b.background b.is_there in
-        let x : Backed = record { frame = place + 1; background = b.background } in
+        let there = numbered_there as_backed run.background index b.background b.is_there in
+        let x : Backed = record { frame = index + 1; background = b.background } in
         let when : b.background.at.0 ≡ first + offset = sym (ap (λ (a : Nanos). a.0) b.instant) ∙ sym there_then in
         let kept = contains_filter mine all x there
         (and_from (b.background.link == l) (b.background.at.0 == first + offset)
         (eq-eqb b.background.link l b.on_link) (eq-eqb b.background.at.0 (first + offset) when)) in
-        let back : place + 1 - 1 ≡ place = omega arith in
-        let same : backed_as x ≡ record { origin = OfBackground place; queued = q } =
+        let back : index + 1 - 1 ≡ index = omega arith in
+        let same : backed_as x ≡ record { origin = OfBackground index; queued = q } =
         λ i. record {
           origin = OfBackground (back i);
           queued = record {
@@ -414,26 +414,26 @@ module _ (run : Run) (carried : Carried) (l : ℕ) where
             stream = sym b.of_no_stream i;
           };
         } in
-        contains_below (λ k. backed_came (first + k)) time offset (record { origin = OfBackground place; queued = q })
+        contains_below (λ k. backed_came (first + k)) time offset (record { origin = OfBackground index; queued = q })
         (omega (arith, cycle_upto time t some, from))
         (subst (λ (y : CameToPort). Contains (backed_came (first + offset)) y) same (contains_map backed_as (filter mine all) x kept))
 
     -- a frame that comes through the bridge is among those of its cycle
-    to_gone : (place : ℕ) (q : QueuedFrame) → ComesThroughBridge run carried l (cycles * run.domain.cycle_time) place q →
+    to_gone : (index : ℕ) (q : QueuedFrame) → ComesThroughBridge run carried l (cycles * run.domain.cycle_time) index q →
         q.arrival.at.0 < cycles * run.domain.cycle_time →
-        Contains (gone_in (cycle_of run.domain q.arrival.at.0)) (record { origin = OfBridge place; queued = q })
-    to_gone place q g early =
+        Contains (gone_in (cycle_of run.domain q.arrival.at.0)) (record { origin = OfBridge index; queued = q })
+    to_gone index q g early =
         let time = run.domain.cycle_time in
         let t = q.arrival.at.0 in
         let x = g.policed.received in
         let cycle = cycle_of run.domain t in
         let next : (cycle + 1) * time ≡ cycle * time + time = omega arith in
-        let received = in_front cycle place g.policed (of_cycles time cycles t some early)
+        let received = in_front cycle index g.policed (of_cycles time cycles t some early)
         (omega (arith, cycle_upto time t some, g.instant, next)) g.is_received in
         let all = enumerate_from 0 (policed_upto cycle) in
-        let there = enum_there 0 place place (policed_upto cycle) g.policed (omega arith) received in
-        let class : gate_class (gate_behind run.domain g.row (came_by x.way)) x.at ≡ q.arrival.class =
-        gate_gives time g.row.octets g.row.pace (depth_behind g.row (came_by x.way)) x.at some ∙ sym g.class in
+        let there = enum_there 0 index index (policed_upto cycle) g.policed (omega arith) received in
+        let class : gate_class (gate_list_after run.domain g.row (came_by x.ingress)) x.at ≡ q.arrival.class =
+        gate_gives time g.row.octets g.row.pace (hop_number_after g.row (came_by x.ingress)) x.at some ∙ sym g.class in
         let same : queued_frame run.domain x g.row ≡ q =
         λ i. record {
           arrival = record { at = record { 0 = sym g.instant i }; class = class i; octets = sym g.octets i; frame = sym g.frame i };
@@ -441,23 +441,23 @@ module _ (run : Run) (carried : Carried) (l : ℕ) where
         } in
         let queued = subst (λ (y : QueuedFrame). Contains (queued_by run.domain l x g.policed.verdict) y) same
         (is_queued run.domain l x g.policed.verdict g.row g.with_row g.by_link) in
-        let made = contains_map (through place) (queued_by run.domain l x g.policed.verdict) q queued in
-        contains_filter (is_of cycle) (flat_map gone all) (through place q) (contains_flat gone all (place, g.policed) (through place q) there made)
+        let made = contains_map (through index) (queued_by run.domain l x g.policed.verdict) q queued in
+        contains_filter (is_of cycle) (flat_map gone all) (through index q) (contains_flat gone all (index, g.policed) (through index q) there made)
         (eq-eqb cycle cycle refl)
 
     -- so each is among those of the first cycles
     to_upto : (origin : Origin) (q : QueuedFrame) → ComesToPort run carried l (cycles * run.domain.cycle_time) origin q →
         q.arrival.at.0 < cycles * run.domain.cycle_time → Contains (upto cycles) (record { origin = origin; queued = q })
-    to_upto (OfBackground place) q b early =
-        let c : CameToPort = record { origin = OfBackground place; queued = q } in
+    to_upto (OfBackground index) q b early =
+        let c : CameToPort = record { origin = OfBackground index; queued = q } in
         let cycle = cycle_of run.domain q.arrival.at.0 in
         contains_below in_cycle cycles cycle c (of_cycles run.domain.cycle_time cycles q.arrival.at.0 some early)
-        (Contains-append_left (backed_cycle cycle) (gone_in cycle) c (to_background place q b early))
-    to_upto (OfBridge place) q g early =
-        let c : CameToPort = record { origin = OfBridge place; queued = q } in
+        (Contains-append_left (backed_cycle cycle) (gone_in cycle) c (to_background index q b early))
+    to_upto (OfBridge index) q g early =
+        let c : CameToPort = record { origin = OfBridge index; queued = q } in
         let cycle = cycle_of run.domain q.arrival.at.0 in
         contains_below in_cycle cycles cycle c (of_cycles run.domain.cycle_time cycles q.arrival.at.0 some early)
-        (Contains-append_right (backed_cycle cycle) (gone_in cycle) c (to_gone place q g early))
+        (Contains-append_right (backed_cycle cycle) (gone_in cycle) c (to_gone index q g early))
 
     -- ---- in order
 
@@ -478,7 +478,7 @@ module _ (run : Run) (carried : Carried) (l : ℕ) where
         (pairs_weaker R S (filter mine all) (λ a b ca cb less.
         let x = contains_from_filter mine all a ca in
         let y = contains_from_filter mine all b cb in
-        let n = backed_at_place run.background a x.0 in
+        let n = backed_at_index run.background a x.0 in
         let s = eqb-true a.background.at.0 (first + offset) (and_parts (a.background.link == l) (a.background.at.0 == first + offset) x.1).1 in
         let t = eqb-true b.background.at.0 (first + offset) (and_parts (b.background.link == l) (b.background.at.0 == first + offset) y.1).1 in
         inr (of_cycle offset a.background.at.0 k s ∙ sym (of_cycle offset b.background.at.0 k t), inr (s ∙ sym t, omega (arith, less, n.numbered))))
@@ -489,7 +489,7 @@ module _ (run : Run) (carried : Carried) (l : ℕ) where
         let b = from_backed (first + k) y cy in
         inr (
           of_cycle j (came_at x) (omega (arith, less, inside)) a.instant ∙ sym (of_cycle k (came_at y) inside b.instant),
-          background_before x.origin y.origin (came_at x) (came_at y) a.place b.place a.is b.is (inl (omega (arith, a.instant, b.instant, less))),
+          background_before x.origin y.origin (came_at x) (came_at y) a.index b.index a.is b.is (inl (omega (arith, a.instant, b.instant, less))),
         ))
 
     -- the streams' frames of a cycle are
@@ -515,7 +515,7 @@ module _ (run : Run) (carried : Carried) (l : ℕ) where
         let b = from_gone cycle y cy in
         inr (
           cycle_is run.domain.cycle_time cycle (came_at x) a.from a.before ∙ sym b.of_cycle,
-          background_first x.origin y.origin (came_at x) (came_at y) a.place b.place a.is b.is,
+          background_first x.origin y.origin (came_at x) (came_at y) a.index b.index a.is b.is,
         ))
 
     -- and those of the first cycles are
@@ -529,10 +529,10 @@ module _ (run : Run) (carried : Carried) (l : ℕ) where
     -- an origin has one frame
     one_of_origin : (origin : Origin) (q r : QueuedFrame) → ComesToPort run carried l (cycles * run.domain.cycle_time) origin q →
         ComesToPort run carried l (cycles * run.domain.cycle_time) origin r → q.arrival.at.0 ≡ r.arrival.at.0
-    one_of_origin (OfBackground place) q r a b =
+    one_of_origin (OfBackground index) q r a b =
         let same : a.background ≡ b.background = same_Some a.background b.background (sym a.is_there ∙ b.is_there) in
         ap (λ (t : Nanos). t.0) (a.instant ∙ ap (λ (x : Background). x.at) same ∙ sym b.instant)
-    one_of_origin (OfBridge place) q r a b =
+    one_of_origin (OfBridge index) q r a b =
         let same : a.policed ≡ b.policed = same_Some a.policed b.policed (sym a.is_received ∙ b.is_received) in
         a.instant ∙ ap (λ (p : Policed). p.received.at) same ∙ sym b.instant
 

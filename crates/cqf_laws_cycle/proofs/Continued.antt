@@ -11,11 +11,11 @@ use Rattle.cqf_lists.proofs.EachBelow.{below_plus, filter_each, filter_none, sam
 use Rattle.cqf_lists.proofs.Members.{contains_from_flat}
 use Rattle.cqf_units.proofs.Cycles.{cycle_from, takes_time}
 use Rattle.cqf_model.specs.declared.frames.Dropped.{Dropped}
-use Rattle.cqf_model.specs.Book.{drop_by, drops_in, is_of_place}
+use Rattle.cqf_model.specs.Book.{drop_by, drops_in, is_of_index}
 use Rattle.cqf_model.specs.Domain.{bridge_of, cycle_of}
 use Rattle.cqf_model.specs.Network.{QueuedFrame, backed_in, comes_before, queued_by, queued_in, queued_to}
 use Rattle.cqf_model.specs.Run.{Run}
-use Rattle.cqf_model.specs.Traffic.{Carried, Policed, police_all, policed_before, received_at, received_before}
+use Rattle.cqf_model.specs.Policing.{Carried, Policed, police_all, policed_before, received_at, received_before}
 use Rattle.cqf_model.proofs.Coming.{before_when, policed_front, queued_when}
 use Rattle.cqf_model.proofs.InCycle.{received_in_when}
 use Rattle.cqf_model.proofs.Policing.{police_member, police_more}
@@ -89,14 +89,14 @@ module _ (run : Run) (carried : Carried) where
   pub port_goes_on : (l cycle : ℕ) → comes_before run carried l (cycle + 1) ≡ waits_in run carried l cycle ++ own l cycle
   port_goes_on l cycle = waits_on l cycle ∙ ap (λ (qs : List QueuedFrame). waits_in run carried l cycle ++ qs) (queued_in_cycle l cycle)
 
-  module _ (cycles cycle bridge place : ℕ) (within_run : cycle < cycles) where
+  module _ (cycles cycle bridge index : ℕ) (within_run : cycle < cycles) where
     -- whether a frame is of the cycle and of the offer at the index
     abbrev test : Policed → Bool
-    test = is_of_place run.domain cycle place
+    test = is_of_index run.domain cycle index
 
     -- one of another cycle isn't
     fails : (p : Policed) → (cycle_of run.domain p.received.at ≡ cycle → ⊥) → test p ≡ false
-    fails p differ = and_left (cycle_of run.domain p.received.at == cycle) (p.received.frame == place + 1)
+    fails p differ = and_left (cycle_of run.domain p.received.at == cycle) (p.received.frame == index + 1)
         (ne_eqb (cycle_of run.domain p.received.at) cycle differ)
 
     -- nor is an earlier one
@@ -127,11 +127,11 @@ module _ (run : Run) (carried : Carried) where
         ∙ ap (λ (ps : List Policed). ps ++ filter test these) none_earlier
 
   -- so the drops of a cycle are among what arrives in it
-  pub drops_of_the_cycle : (cycles cycle bridge places : ℕ) → cycle < cycles →
-      drops_in run.domain places (λ b. so_far b cycles) cycle bridge ≡ drops_in run.domain places (λ b. policed_of run carried b cycle) cycle bridge
-  drops_of_the_cycle cycles cycle bridge places within_run =
+  pub drops_of_the_cycle : (cycles cycle bridge indices : ℕ) → cycle < cycles →
+      drops_in run.domain indices (λ b. so_far b cycles) cycle bridge ≡ drops_in run.domain indices (λ b. policed_of run carried b cycle) cycle bridge
+  drops_of_the_cycle cycles cycle bridge indices within_run =
       let dropped : List Policed → List Dropped = flat_map (λ (p : Policed). drop_by cycle bridge p.received p.verdict) in
       let these = policed_of run carried bridge cycle in
-      same_below (λ place. dropped (filter (is_of_place run.domain cycle place) (so_far bridge cycles)))
-      (λ place. dropped (filter (is_of_place run.domain cycle place) these)) places
-      (λ place l. ap dropped (of_the_cycle cycles cycle bridge place within_run))
+      same_below (λ index. dropped (filter (is_of_index run.domain cycle index) (so_far bridge cycles)))
+      (λ index. dropped (filter (is_of_index run.domain cycle index) these)) indices
+      (λ index l. ap dropped (of_the_cycle cycles cycle bridge index within_run))

@@ -3,7 +3,7 @@ use Rattle.std.proofs.Common.{◌≡◌, ℕ, ◌+◌, ◌-◌, ◌*◌, ◌/◌
 use Rattle.std.proofs.Common.{arith, lt-ltb, le-ltb, eq-eqb, ne_eqb, eqb-true}
 use Rattle.cqf_model.specs.declared.gates.StreamEntry.{StreamEntry}
 use Rattle.cqf_model.specs.StreamGate.{gate_cycles}
-use Rattle.cqf_model.proofs.Reservations.{gate_entry, gate_place, gate_round_at, parity_again}
+use Rattle.cqf_model.proofs.Reservations.{gate_entry, gate_index, gate_round_at, parity_again}
 use Rattle.std.proofs.Common.{Option, div-add-mod'}
 use Rattle.std.proofs.lemmas.Bool.{and_from, and_parts, agree_below, agree_below_at, cases_eq, cases_lt, false_from_ne_true, ltb-true, or_cases, or_left}
 use Rattle.std.proofs.lemmas.Bool.{or_right}
@@ -46,21 +46,21 @@ in_second w g o from upto =
     rw (e, f, h, k)
 
 -- the offset in the round of the compiled list
-place_in_round : (n g c t : ℕ) → g < n → IsIn n c t → t % round_of (port_list n g) ≡ (c % 2) * n + (t - c * n)
-place_in_round n g c t short inside =
+index_in_round : (n g c t : ℕ) → g < n → IsIn n c t → t % round_of (port_list n g) ≡ (c % 2) * n + (t - c * n)
+index_in_round n g c t short inside =
     let whole : 0 + (n - g) + g + (n - g) + g ≡ n + n = omega arith in
     ap (λ x. t % x) whole ∙ in_round n c t inside.0 inside.1
 
 -- in a cycle the states are those of its class, until the guard band begins
 pub states_sending : (n g c t : ℕ) → g < n → IsIn n c t → t < guard_from n g c → states_at (port_list n g) t ≡ (if c % 2 == 0 then 191 else 127)
 states_sending n g c t short inside early =
-    let place = place_in_round n g c t short inside in
+    let index = index_in_round n g c t short inside in
     elim (parity c) [
       | inl e ↦
-          let o : t % round_of (port_list n g) ≡ t - c * n = place ∙ even n (c % 2) (t - c * n) e in
+          let o : t % round_of (port_list n g) ≡ t - c * n = index ∙ even n (c % 2) (t - c * n) e in
           ap (λ x. states_in (port_list n g) x) o ∙ before_guard (n - g) g (t - c * n) (omega arith) ∙ rw e
       | inr e ↦
-          let o : t % round_of (port_list n g) ≡ n + (t - c * n) = place ∙ odd n (c % 2) (t - c * n) e in
+          let o : t % round_of (port_list n g) ≡ n + (t - c * n) = index ∙ odd n (c % 2) (t - c * n) e in
           ap (λ x. states_in (port_list n g) x) o ∙ before_second (n - g) g (n + (t - c * n)) (omega arith) (omega arith) ∙ rw e
     ]
   where
@@ -75,13 +75,13 @@ states_sending n g c t short inside early =
 -- in the guard band all gates are closed
 pub states_in_guard : (n g c t : ℕ) → g < n → IsIn n c t → guard_from n g c ≤ t → states_at (port_list n g) t ≡ 0
 states_in_guard n g c t short inside late =
-    let place = place_in_round n g c t short inside in
+    let index = index_in_round n g c t short inside in
     elim (parity c) [
       | inl e ↦
-          let o : t % round_of (port_list n g) ≡ t - c * n = place ∙ even n (c % 2) (t - c * n) e in
+          let o : t % round_of (port_list n g) ≡ t - c * n = index ∙ even n (c % 2) (t - c * n) e in
           ap (λ x. states_in (port_list n g) x) o ∙ in_guard (n - g) g (t - c * n) (omega arith) (omega arith)
       | inr e ↦
-          let o : t % round_of (port_list n g) ≡ n + (t - c * n) = place ∙ odd n (c % 2) (t - c * n) e in
+          let o : t % round_of (port_list n g) ≡ n + (t - c * n) = index ∙ odd n (c % 2) (t - c * n) e in
           ap (λ x. states_in (port_list n g) x) o ∙ in_second (n - g) g (n + (t - c * n)) (omega arith) (omega arith)
     ]
   where
@@ -182,9 +182,9 @@ port_list_sends_until n g c t end class some short inside more = (there, back)
 
 -- the gate gives the cycle's class
 pub gate_gives : GateGivesClass
-gate_gives n r pace depth t some =
+gate_gives n r pace hop_number t some =
     let cycle = t / n % gate_cycles pace in
-    ap (λ (z : Option StreamEntry). option_map_or (λ (entry : StreamEntry). entry.ipv) z 0) (gate_entry n r pace depth t some)
+    ap (λ (z : Option StreamEntry). option_map_or (λ (entry : StreamEntry). entry.ipv) z 0) (gate_entry n r pace hop_number t some)
     ∙ ap (λ z. 6 + z) (parity_again pace (t / n)) ∙ by_parity (t / n)
   where
     -- class 6 in even cycles and class 7 in odd ones
@@ -193,11 +193,11 @@ gate_gives n r pace depth t some =
 
 -- the gate counts by the cycle: the same round and the same index in it mean the same cycle
 pub gate_counts : GateCountsCycles
-gate_counts n r pace depth s t some =
+gate_counts n r pace hop_number s t some =
     let count = gate_cycles pace in
-    let places = ap₂ (λ x y. x == y) (gate_place n r pace depth s some) (gate_place n r pace depth t some) in
-    let rounds = ap₂ (λ x y. x == y) (gate_round_at n r pace depth s some) (gate_round_at n r pace depth t some) in
-    ap₂ (λ x y. x && y) rounds places ∙ parts count (s / n) (t / n)
+    let indices = ap₂ (λ x y. x == y) (gate_index n r pace hop_number s some) (gate_index n r pace hop_number t some) in
+    let rounds = ap₂ (λ x y. x == y) (gate_round_at n r pace hop_number s some) (gate_round_at n r pace hop_number t some) in
+    ap₂ (λ x y. x && y) rounds indices ∙ parts count (s / n) (t / n)
   where
     -- two cycles are the same exactly if their rounds and their indices in the rounds are
     parts : (m c e : ℕ) → ((c / m == e / m) && (c % m == e % m)) ≡ (c == e)

@@ -20,7 +20,7 @@ use Rattle.cqf_model.specs.declared.frames.Sent.{Sent}
 use Rattle.cqf_model.specs.Domain.{Domain, bridge_of, cycle_of, enters, leaves}
 use Rattle.cqf_model.specs.Network.{backed_at, backed_frame, backed_in, is_backed_at, numbered_background}
 use Rattle.cqf_model.specs.Run.{Run}
-use Rattle.cqf_model.specs.Traffic.{Carried, Received, is_offered_at, numbered, offer_received, offered_at, received_at, relayed_at, sent_received, whole_at}
+use Rattle.cqf_model.specs.Policing.{Carried, Received, is_offered_at, numbered, offer_received, offered_at, received_at, relayed_at, sent_received, whole_at}
 use Rattle.cqf_model.proofs.Links.{leaves_its_bridge}
 use Rattle.cqf_laws_cycle.specs.BridgeCycle.{received_in}
 use Rattle.cqf_laws_cycle.specs.Gathered.{AreWholeIn, IsInOrderOf, backed_for, gathered_in, is_backed_for, is_backed_in, is_for_link, is_offered_in}

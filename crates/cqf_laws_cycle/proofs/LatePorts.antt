@@ -155,11 +155,11 @@ module _ (n g r lag : ℕ) (late : Lags) (arrivals : List Arrival) (cycles upto 
 
   -- the streams' frames of a cycle fill the next cycle from its beginning: if those before an index start when they are due, no
   -- other start is among them
-  behind : (q s c m : ℕ) → Contains starts (q, s) → (c + 1) * n ≤ s → m ≤ length arrivals →
+  following : (q s c m : ℕ) → Contains starts (q, s) → (c + 1) * n ≤ s → m ≤ length arrivals →
       ((k : ℕ) → k < m → Streams k → cyc k ≡ c → Contains starts (k, due_at k) × (k ≡ q → ⊥)) → (c + 1) * n + late_busy late r n c (take m arrivals) ≤ s
-  behind q s c zero started from inside before = omega (arith, from)
-  behind q s c (suc m) started from inside before =
-      let so_far = behind q s c m started from (omega (arith, inside)) (λ k l. before k (omega (arith, l))) in
+  following q s c zero started from inside before = omega (arith, from)
+  following q s c (suc m) started from inside before =
+      let so_far = following q s c m started from (omega (arith, inside)) (λ k l. before k (omega (arith, l))) in
       let more = load_more m c (omega (arith, inside)) in
       elim (cases_lt (class_of arrivals m) 6) [
         | inl low ↦ unfilled n c (late_busy late r n c (take m arrivals)) (late_busy late r n c (take (suc m) arrivals)) s (omega (arith, more, background_wire m c low)) so_far
@@ -227,7 +227,7 @@ module _ (n g r lag : ℕ) (late : Lags) (arrivals : List Arrival) (cycles upto 
 
       -- what starts from the next cycle on, and isn't an earlier stream's frame, starts after those
       not_among : (q s : ℕ) → Contains starts (q, s) → (cyc p + 1) * n ≤ s → ((k : ℕ) → k < p → Streams k → k ≡ q → ⊥) → t ≤ s
-      not_among q s c from apart = behind q s (cyc p) p c from (omega (arith, inside)) (λ k l k_streams same. (before k l k_streams, apart k l k_streams))
+      not_among q s c from apart = following q s (cyc p) p c from (omega (arith, inside)) (λ k l k_streams same. (before k l k_streams, apart k l k_streams))
 
       not_before : (s : ℕ) → Contains starts (p, s) → t ≤ s
       not_before s c = not_among p s c (starts_from p s c streams) (λ k l k_streams e. omega (arith, e, l))

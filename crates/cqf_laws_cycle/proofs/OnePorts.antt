@@ -9,9 +9,9 @@ use Rattle.cqf_units.specs.Timing.{slot_of, ending_of, idle_after}
 use Rattle.cqf_model.specs.declared.ports.Arrival.{Arrival}
 use Rattle.cqf_model.specs.GateList.{port_list}
 use Rattle.cqf_model.specs.Port.{Transmission, Waits, IsFirst, IsIdle, IsEligible, no_arrival, instant_of, class_of, octets_of}
-use Rattle.cqf_model.specs.Turn.{busy, due, slot_in}
+use Rattle.cqf_model.specs.Due.{busy, due, slot_in}
 use Rattle.cqf_laws_cycle.specs.Compiled.{given_class, open_class, guard_from, IsIn, IsSentIn}
-use Rattle.cqf_laws_cycle.specs.OnePort.{PortIsOneCycleLate, BackgroundKeepsBehind, IsWithinBudget, AreSent, AreDue, KeepsBehind, StreamsAt}
+use Rattle.cqf_laws_cycle.specs.OnePort.{PortIsOneCycleLate, BackgroundYields, IsWithinBudget, AreSent, AreDue, YieldsToStreams, StreamsAt}
 use Rattle.cqf_units.proofs.Times.{slot_joins, slot_parts, slot_some}
 use Rattle.cqf_model.proofs.Legal.{ends_later}
 use Rattle.cqf_units.proofs.Cycles.{cycle_below, cycle_from, cycle_is, cycle_upto, cycles_ordered, from_next}
@@ -153,11 +153,11 @@ module _ (n g r : ℕ) (arrivals : List Arrival) (cycles upto : ℕ) (starts : L
 
   -- the streams' frames of a cycle fill the next cycle from its beginning: if those before an index start when they are due, no
   -- other start is among them
-  behind : (q s c m : ℕ) → Contains starts (q, s) → (c + 1) * n ≤ s → m ≤ length arrivals →
+  following : (q s c m : ℕ) → Contains starts (q, s) → (c + 1) * n ≤ s → m ≤ length arrivals →
       ((k : ℕ) → k < m → Streams k → cyc k ≡ c → Contains starts (k, due_at k) × (k ≡ q → ⊥)) → (c + 1) * n + busy r n c (take m arrivals) ≤ s
-  behind q s c zero started from inside before = omega (arith, from)
-  behind q s c (suc m) started from inside before =
-      let so_far = behind q s c m started from (omega (arith, inside)) (λ k l. before k (omega (arith, l))) in
+  following q s c zero started from inside before = omega (arith, from)
+  following q s c (suc m) started from inside before =
+      let so_far = following q s c m started from (omega (arith, inside)) (λ k l. before k (omega (arith, l))) in
       let more = load_more m c (omega (arith, inside)) in
       elim (cases_lt (class_of arrivals m) 6) [
         | inl low ↦ unfilled n c (busy r n c (take m arrivals)) (busy r n c (take (suc m) arrivals)) s (omega (arith, more, background_wire m c low)) so_far
@@ -225,7 +225,7 @@ module _ (n g r : ℕ) (arrivals : List Arrival) (cycles upto : ℕ) (starts : L
 
       -- what starts from the next cycle on, and isn't an earlier stream's frame, starts after those
       not_among : (q s : ℕ) → Contains starts (q, s) → (cyc p + 1) * n ≤ s → ((k : ℕ) → k < p → Streams k → k ≡ q → ⊥) → t ≤ s
-      not_among q s c from apart = behind q s (cyc p) p c from (omega (arith, inside)) (λ k l k_streams same. (before k l k_streams, apart k l k_streams))
+      not_among q s c from apart = following q s (cyc p) p c from (omega (arith, inside)) (λ k l k_streams same. (before k l k_streams, apart k l k_streams))
 
       not_before : (s : ℕ) → Contains starts (p, s) → t ≤ s
       not_before s c = not_among p s c (starts_from p s c streams) (λ k l k_streams e. omega (arith, e, l))
@@ -322,11 +322,11 @@ module _ (n g r : ℕ) (arrivals : List Arrival) (cycles upto : ℕ) (starts : L
   port_is_late = record { each = each; only = only; next = next; over = over }
 
   -- a background frame starts after each stream's frame of an earlier cycle
-  background_behind : (p s other : ℕ) → Contains starts (p, s) → class_of arrivals p < 6 → s / n ≤ upto → other < length arrivals → Streams other →
+  background_after : (p s other : ℕ) → Contains starts (p, s) → class_of arrivals p < 6 → s / n ≤ upto → other < length arrivals → Streams other →
       cyc other < s / n → due_at other + wires other ≤ s
-  background_behind p s other c low early inside streams less =
+  background_after p s other c low early inside streams less =
       let from = from_next n (cyc other) (s / n) s less (cycle_from n s) in
-      let among = behind p s (cyc other) (suc other) c from (omega (arith, inside)) each_of_cycle in
+      let among = following p s (cyc other) (suc other) c from (omega (arith, inside)) each_of_cycle in
       let total : busy r n (cyc other) (take (suc other) arrivals) ≡ busy r n (cyc other) (take other arrivals) + wires other = load_more other (cyc other) inside
       ∙ ap (λ z. busy r n (cyc other) (take other arrivals) + z) (own_wire other (cyc other) streams refl) in
       parts (busy r n (cyc other) (take other arrivals)) (busy r n (cyc other) (take (suc other) arrivals)) (wires other) total among
@@ -347,20 +347,20 @@ module _ (n g r : ℕ) (arrivals : List Arrival) (cycles upto : ℕ) (starts : L
         | inl less ↦ absurd (omega (
           arith,
           waits.not_started (due_at other) (each_by other p s c early waits.inside streams less),
-          background_behind p s other c low early waits.inside streams less,
+          background_after p s other c low early waits.inside streams less,
           slot_some (octets_of arrivals other) r port.some_octet,
         ))
         | inr more ↦ omega (arith, no_later, more)
       ]
 
   -- the four together
-  pub background_keeps : KeepsBehind n g r arrivals upto starts
-  background_keeps = record { behind = background_behind; none_waits = none_waits; sent = λ p s c low. (sent_in p s c).1; over = λ p s c low. free_by p s c }
+  pub background_keeps : YieldsToStreams n g r arrivals upto starts
+  background_keeps = record { following = background_after; none_waits = none_waits; sent = λ p s c low. (sent_in p s c).1; over = λ p s c low. free_by p s c }
 
 -- the first law
 pub port_is_one_cycle_late : PortIsOneCycleLate
 port_is_one_cycle_late n g r arrivals cycles upto starts port legal = port_is_late n g r arrivals cycles upto starts port legal
 
 -- the second law
-pub background_keeps_behind : BackgroundKeepsBehind
-background_keeps_behind n g r arrivals cycles upto starts port legal = background_keeps n g r arrivals cycles upto starts port legal
+pub background_yields : BackgroundYields
+background_yields n g r arrivals cycles upto starts port legal = background_keeps n g r arrivals cycles upto starts port legal

@@ -13,31 +13,31 @@ use Rattle.cqf_model.specs.declared.ports.Start.{Start}
 use Rattle.cqf_model.specs.Book.{Contents, backed_batch, background_in, background_of, batch, drops_in, drops_of, page_drops, page_of}
 use Rattle.cqf_model.specs.Book.{page_starts, started, started_backed, starts_in, starts_of}
 use Rattle.cqf_model.specs.Domain.{Domain, IsAccepted, bridge_of, leaves}
-use Rattle.cqf_model.specs.Traffic.{Carried, Policed, policed_before}
+use Rattle.cqf_model.specs.Policing.{Carried, Policed, policed_before}
 use Rattle.cqf_model.proofs.Drops.{dropped_at}
 use Rattle.cqf_model.proofs.Links.{bridge_within, leaves_its_bridge}
 use Rattle.cqf_laws_cycle.specs.PageLaws.{HaveTheSamePages, IsSomeBook, book_of_pages, drops_of_pages, is_on_link, on_links_of, starts_of_pages}
 
 -- each drop of a bridge in a cycle has this bridge and this cycle
-drop_of : (d : Domain) (places : ℕ) (policed : ℕ → List Policed) (cycle bridge : ℕ) (x : Dropped) → Contains (drops_in d places policed cycle bridge) x →
+drop_of : (d : Domain) (indices : ℕ) (policed : ℕ → List Policed) (cycle bridge : ℕ) (x : Dropped) → Contains (drops_in d indices policed cycle bridge) x →
     (x.cycle.0 ≡ cycle) × (x.bridge ≡ bridge)
-drop_of d places policed cycle bridge x h =
-    let from = dropped_at d places policed cycle bridge x h in
+drop_of d indices policed cycle bridge x h =
+    let from = dropped_at d indices policed cycle bridge x h in
     (sym (ap (λ (y : Dropped). y.cycle.0) from.is), sym (ap (λ (y : Dropped). y.bridge) from.is))
 
 -- the page's drops are those at the bridge in the cycle
-pub drops_on_page : (d : Domain) (cycles places : ℕ) (policed : ℕ → List Policed) (bridge cycle : ℕ) → bridge < length d.bridges → cycle < cycles →
-    page_drops bridge cycle (drops_of d cycles places policed) ≡ drops_in d places policed cycle bridge
-drops_on_page d cycles places policed bridge cycle in_bridges in_cycles =
+pub drops_on_page : (d : Domain) (cycles indices : ℕ) (policed : ℕ → List Policed) (bridge cycle : ℕ) → bridge < length d.bridges → cycle < cycles →
+    page_drops bridge cycle (drops_of d cycles indices policed) ≡ drops_in d indices policed cycle bridge
+drops_on_page d cycles indices policed bridge cycle in_bridges in_cycles =
     let test = λ (x : Dropped). (x.bridge == bridge) && (x.cycle.0 == cycle) in
-    let each = λ (c : ℕ). each_below (drops_in d places policed c) (length d.bridges) in
-    let own = λ (x : Dropped) (h : Contains (drops_in d places policed cycle bridge) x). drop_of d places policed cycle bridge x h in
+    let each = λ (c : ℕ). each_below (drops_in d indices policed c) (length d.bridges) in
+    let own = λ (x : Dropped) (h : Contains (drops_in d indices policed cycle bridge) x). drop_of d indices policed cycle bridge x h in
     filter_one test each cycles cycle in_cycles (λ c x differ h.
-    let w = contains_from_below (drops_in d places policed c) (length d.bridges) x h in
-    and_right (x.bridge == bridge) (x.cycle.0 == cycle) (ne_eqb x.cycle.0 cycle (λ same. differ (sym (drop_of d places policed c w.0 x w.2).0 ∙ same))))
-    ∙ filter_one test (drops_in d places policed cycle) (length d.bridges) bridge in_bridges (λ b x differ h.
-    and_left (x.bridge == bridge) (x.cycle.0 == cycle) (ne_eqb x.bridge bridge (λ same. differ (sym (drop_of d places policed cycle b x h).1 ∙ same))))
-    ∙ filter_each test (drops_in d places policed cycle bridge) (λ x h.
+    let w = contains_from_below (drops_in d indices policed c) (length d.bridges) x h in
+    and_right (x.bridge == bridge) (x.cycle.0 == cycle) (ne_eqb x.cycle.0 cycle (λ same. differ (sym (drop_of d indices policed c w.0 x w.2).0 ∙ same))))
+    ∙ filter_one test (drops_in d indices policed cycle) (length d.bridges) bridge in_bridges (λ b x differ h.
+    and_left (x.bridge == bridge) (x.cycle.0 == cycle) (ne_eqb x.bridge bridge (λ same. differ (sym (drop_of d indices policed cycle b x h).1 ∙ same))))
+    ∙ filter_each test (drops_in d indices policed cycle bridge) (λ x h.
     and_from (x.bridge == bridge) (x.cycle.0 == cycle) (eq-eqb x.bridge bridge (own x h).1) (eq-eqb x.cycle.0 cycle (own x h).0))
 
 -- what is sent of one kind in each cycle on each link, and the book's record of it, which has its cycle and its link
@@ -125,15 +125,15 @@ background_on_page d cycles backed =
     starts_on_page started_backed (λ cycle link x. refl) (λ cycle link x. refl) d (λ cycle link. backed_batch d backed link cycle) cycles
 
 -- the drops are those of all pages
-drops_are_pages : (d : Domain) (cycles places : ℕ) (policed : ℕ → List Policed) →
-    drops_of d cycles places policed ≡ drops_of_pages d cycles (λ bridge cycle. page_drops bridge cycle (drops_of d cycles places policed))
-drops_are_pages d cycles places policed =
-    let drops = drops_of d cycles places policed in
+drops_are_pages : (d : Domain) (cycles indices : ℕ) (policed : ℕ → List Policed) →
+    drops_of d cycles indices policed ≡ drops_of_pages d cycles (λ bridge cycle. page_drops bridge cycle (drops_of d cycles indices policed))
+drops_are_pages d cycles indices policed =
+    let drops = drops_of d cycles indices policed in
     let bridges = length d.bridges in
-    same_below (λ cycle. each_below (drops_in d places policed cycle) bridges) (λ cycle. each_below (λ bridge. page_drops bridge cycle drops) bridges) cycles
+    same_below (λ cycle. each_below (drops_in d indices policed cycle) bridges) (λ cycle. each_below (λ bridge. page_drops bridge cycle drops) bridges) cycles
     (λ cycle in_cycles.
-    same_below (drops_in d places policed cycle) (λ bridge. page_drops bridge cycle drops) bridges
-    (λ bridge in_bridges. sym (drops_on_page d cycles places policed bridge cycle in_bridges in_cycles)))
+    same_below (drops_in d indices policed cycle) (λ bridge. page_drops bridge cycle drops) bridges
+    (λ bridge in_bridges. sym (drops_on_page d cycles indices policed bridge cycle in_bridges in_cycles)))
 
 -- a book is its pages
 pub book_is_pages : (d : Domain) (cycles : ℕ) (book : Contents) → IsSomeBook d cycles book →

@@ -20,8 +20,8 @@ use Rattle.cqf_model.specs.Network.{Network, QueuedFrame, Sends, arrivals_of, ba
 use Rattle.cqf_model.specs.Network.{queued_frame, queued_in, queued_to, sent_of}
 use Rattle.cqf_model.specs.Port.{AreLegal, PortRules, Transmission}
 use Rattle.cqf_model.specs.Run.{Run}
-use Rattle.cqf_model.specs.Table.{depth_behind, goes_to}
-use Rattle.cqf_model.specs.Traffic.{Carried, DroppedFor, ExceedsGate, LacksRow, Policed, Queued, Received, Verdict, came_by, policed_before}
+use Rattle.cqf_model.specs.Table.{goes_to, hop_number_after}
+use Rattle.cqf_model.specs.Policing.{Carried, DroppedFor, ExceedsGate, LacksRow, Policed, Queued, Received, Verdict, came_by, policed_before}
 use Rattle.cqf_model.proofs.Links.{guard_within, octet_positive}
 use Rattle.cqf_model.proofs.Sending.{backed_same, backed_then, sent_same, sent_then}
 use Rattle.cqf_laws_network.specs.PortLaws.{LateArrivalChangesNothing, LegalStartsAreUnique}
@@ -51,9 +51,9 @@ gives_no_open c sent =
 queued_class : GateGivesClass → (d : Domain) (l : ℕ) (x : Received) (verdict : Verdict) (q : QueuedFrame) → 0 < d.cycle_time →
     Contains (queued_by d l x verdict) q → q.arrival.class ≡ given_class (cycle_of d q.arrival.at.0)
 queued_class gives d l x (Queued row) q some h =
-    let k = contains_if (list_any (λ next. next == l) (goes_to row (came_by x.way))) (queued_frame d x row ∷ []) q h in
+    let k = contains_if (list_any (λ next. next == l) (goes_to row (came_by x.ingress))) (queued_frame d x row ∷ []) q h in
     let is = contains_one (queued_frame d x row) q k in
-    subst (λ (y : QueuedFrame). y.arrival.class ≡ given_class (cycle_of d y.arrival.at.0)) is (gives d.cycle_time row.octets row.pace (depth_behind row (came_by x.way)) x.at some)
+    subst (λ (y : QueuedFrame). y.arrival.class ≡ given_class (cycle_of d y.arrival.at.0)) is (gives d.cycle_time row.octets row.pace (hop_number_after row (came_by x.ingress)) x.at some)
 queued_class gives d l x (DroppedFor reason) q some h = absurd (contains_none q h)
 queued_class gives d l x LacksRow q some h = absurd (contains_none q h)
 queued_class gives d l x ExceedsGate q some h = absurd (contains_none q h)

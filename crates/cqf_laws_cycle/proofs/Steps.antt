@@ -19,7 +19,7 @@ use Rattle.cqf_model.specs.GateList.{Entry}
 use Rattle.cqf_model.specs.Network.{IsLegalNetwork, IsLost, Network, QueuedFrame, Sends, arrivals_of, backed_in, comes_before, compiled_lists}
 use Rattle.cqf_model.specs.Port.{AreLegal, PortRules}
 use Rattle.cqf_model.specs.Run.{Run}
-use Rattle.cqf_model.specs.Traffic.{Carried, Policed, policed_before}
+use Rattle.cqf_model.specs.Policing.{Carried, Policed, policed_before}
 use Rattle.cqf_model.proofs.Coming.{backed_in_late}
 use Rattle.cqf_model.proofs.Legal.{none_at_0}
 use Rattle.cqf_model.proofs.Sending.{backed_in_run, backed_within, sent_in_run, sent_within}

@@ -11,7 +11,7 @@ use Rattle.cqf_model.specs.Domain.{Domain, bridge_of, cycle_of, delay_of, end_of
 use Rattle.cqf_model.specs.Network.{QueuedFrame, comes_before}
 use Rattle.cqf_model.specs.Run.{Run}
 use Rattle.cqf_model.specs.Table.{goes_to}
-use Rattle.cqf_model.specs.Traffic.{AtEdge, Carried, Policed, Queued, Received, Relayed, came_by, policed_before, received_before}
+use Rattle.cqf_model.specs.Policing.{AtEdge, Carried, Policed, Queued, Received, Relayed, came_by, policed_before, received_before}
 use Rattle.cqf_laws_cycle.specs.Compiled.{given_class}
 
 -- ---- a bridge
@@ -24,29 +24,29 @@ pub data Source : Type 0 where
 
 -- a frame of a link that ends in the bridge arrives there when 8 octets of preamble and start delimiter and its own octets have
 -- been sent and the link's delay has passed: start + the time of (octets + 8) octets + delay, in nanoseconds
-pub record ComesByLink (run : Run) (carried : Carried) (bridge link place : ℕ) (x : Received) : Type 0 where
+pub record ComesByLink (run : Run) (carried : Carried) (bridge link index : ℕ) (x : Received) : Type 0 where
   pub sent : Sent
-  pub is_carried : slice_get (carried link) place ≡ Some sent
+  pub is_carried : slice_get (carried link) index ≡ Some sent
   pub ends_here : end_of run.domain link ≡ Some (Bridge bridge)
   pub instant : x.at ≡ sent.start.0 + time_of (sent.octets + 8) (octet_time_of run.domain link) + delay_of run.domain link
   pub octets : x.octets ≡ sent.octets
   pub frame : x.frame ≡ sent.frame
-  pub way : x.way ≡ Relayed link sent.stream
+  pub ingress : x.ingress ≡ Relayed link sent.stream
 
 -- an offer at the bridge arrives at its own instant. Its frame's number is its position among the offers, from 1
-pub record ComesOfOffer (run : Run) (bridge place : ℕ) (x : Received) : Type 0 where
+pub record ComesOfOffer (run : Run) (bridge index : ℕ) (x : Received) : Type 0 where
   pub offer : Offer
-  pub is_there : slice_get run.offers place ≡ Some offer
+  pub is_there : slice_get run.offers index ≡ Some offer
   pub offered_here : offer.bridge ≡ bridge
   pub instant : x.at ≡ offer.at.0
   pub octets : x.octets ≡ offer.octets
-  pub frame : x.frame ≡ place + 1
-  pub way : x.way ≡ AtEdge offer.stream
+  pub frame : x.frame ≡ index + 1
+  pub ingress : x.ingress ≡ AtEdge offer.stream
 
 -- a frame arrives at a bridge from a source
 abbrev pub Comes : Run → Carried → ℕ → Source → Received → Type 0
-Comes run carried bridge (OfLink link place) x = ComesByLink run carried bridge link place x
-Comes run carried bridge (OfOffers place) x = ComesOfOffer run bridge place x
+Comes run carried bridge (OfLink link index) x = ComesByLink run carried bridge link index x
+Comes run carried bridge (OfOffers index) x = ComesOfOffer run bridge index x
 
 -- the order of two sources at one instant: links come first, by number, the frames of one link by index; then the offers by index
 abbrev pub IsSourceBefore : Source → Source → Type 0
@@ -76,11 +76,11 @@ pub record AreAllThatCome (run : Run) (carried : Carried) (bridge end : ℕ) (re
   pub once : AllPairs (λ (a b : Came). a.source ≢ b.source) came
   pub in_order : AllPairs CameBefore came
 
--- this is what a bridge receives
+-- a bridge receives, before an instant, exactly what has arrived at it before that instant
 abbrev pub BridgesReceiveWhatComes : Type 0
 BridgesReceiveWhatComes = (run : Run) (carried : Carried) (bridge end : ℕ) → AreAllThatCome run carried bridge end (received_before run carried bridge end)
 
--- and there is one verdict on each frame, in the same order
+-- there is one verdict on each frame that a bridge receives, in the same order
 abbrev pub VerdictsAreOnWhatComes : Type 0
 VerdictsAreOnWhatComes = (run : Run) (carried : Carried) (bridge end : ℕ) →
     map (λ (p : Policed). p.received) (policed_before run carried bridge end) ≡ received_before run carried bridge end
@@ -95,24 +95,24 @@ pub data Origin : Type 0 where
 
 -- a background frame of the port's link arrives at its own instant, with its own class. Its number is its position among the
 -- background frames, from 1
-pub record ComesOfBackground (run : Run) (l place : ℕ) (q : QueuedFrame) : Type 0 where
+pub record ComesOfBackground (run : Run) (l index : ℕ) (q : QueuedFrame) : Type 0 where
   pub background : Background
-  pub is_there : slice_get run.background place ≡ Some background
+  pub is_there : slice_get run.background index ≡ Some background
   pub on_link : background.link ≡ l
   pub instant : q.arrival.at ≡ background.at
   pub class : q.arrival.class ≡ background.class
   pub octets : q.arrival.octets ≡ background.octets
-  pub frame : q.arrival.frame ≡ place + 1
+  pub frame : q.arrival.frame ≡ index + 1
   pub of_no_stream : q.stream ≡ None
 
--- a frame that its bridge received goes on with its stream's row, which leads from the way by which it came to the port's link. It
--- arrives at the port when it arrived at the bridge, with the class that the stream gates give in that cycle
-pub record ComesThroughBridge (run : Run) (carried : Carried) (l end place : ℕ) (q : QueuedFrame) : Type 0 where
+-- a frame that its bridge received goes on with its stream's row, which leads to the port's link from the link by which the frame came, or
+-- from the edge. It arrives at the port when it arrived at the bridge, with the class that the stream gates give in that cycle
+pub record ComesThroughBridge (run : Run) (carried : Carried) (l end index : ℕ) (q : QueuedFrame) : Type 0 where
   pub policed : Policed
-  pub is_received : slice_get (policed_before run carried (bridge_of run.domain l) end) place ≡ Some policed
+  pub is_received : slice_get (policed_before run carried (bridge_of run.domain l) end) index ≡ Some policed
   pub row : Row
   pub with_row : policed.verdict ≡ Queued row
-  pub by_link : Contains (goes_to row (came_by policed.received.way)) l
+  pub by_link : Contains (goes_to row (came_by policed.received.ingress)) l
   pub instant : q.arrival.at.0 ≡ policed.received.at
   pub class : q.arrival.class ≡ given_class (cycle_of run.domain policed.received.at)
   pub octets : q.arrival.octets ≡ policed.received.octets
@@ -121,8 +121,8 @@ pub record ComesThroughBridge (run : Run) (carried : Carried) (l end place : ℕ
 
 -- a frame arrives at a port from an origin, if its bridge has received frames up to the instant `end`
 abbrev pub ComesToPort : Run → Carried → ℕ → ℕ → Origin → QueuedFrame → Type 0
-ComesToPort run carried l end (OfBackground place) q = ComesOfBackground run l place q
-ComesToPort run carried l end (OfBridge place) q = ComesThroughBridge run carried l end place q
+ComesToPort run carried l end (OfBackground index) q = ComesOfBackground run l index q
+ComesToPort run carried l end (OfBridge index) q = ComesThroughBridge run carried l end index q
 
 -- a frame that has arrived at a port, with its origin
 pub record CameToPort : Type 0 where
@@ -169,7 +169,7 @@ pub record AreAllThatComeToPort (run : Run) (carried : Carried) (l cycles : ℕ)
   pub in_order : AllPairs (StandsBefore run.domain) came
   pub by_instant : AllPairs (λ (a b : CameToPort). AreOfOneKind a.origin b.origin → came_at a ≤ came_at b) came
 
--- this is what arrives at a port
+-- a port gets, in the first cycles, exactly what has arrived at it in these cycles
 abbrev pub PortsGetWhatComes : Type 0
 PortsGetWhatComes = (run : Run) (carried : Carried) (l cycles : ℕ) → 0 < run.domain.cycle_time →
     AreAllThatComeToPort run carried l cycles (comes_before run carried l cycles)

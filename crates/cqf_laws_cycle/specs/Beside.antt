@@ -6,7 +6,7 @@ use Rattle.cqf_model.specs.declared.ports.Start.{Start}
 use Rattle.cqf_model.specs.Domain.{Domain, guard_of, octet_time_of}
 use Rattle.cqf_model.specs.Network.{QueuedFrame, Sends, arrivals_of, compiled_lists}
 use Rattle.cqf_model.specs.Port.{Transmission, no_arrival}
-use Rattle.cqf_model.specs.Turn.{is_streams}
+use Rattle.cqf_model.specs.Due.{is_streams}
 use Rattle.cqf_laws_cycle.specs.OnePort.{AreSent, IsWithinBudget}
 
 -- the streams' frames of a list, in their order
@@ -14,8 +14,8 @@ abbrev pub only_streams : List Arrival → List Arrival
 only_streams arrivals = filter is_streams arrivals
 
 -- the index of an arrival among the streams' frames alone: the number of streams' frames before it
-abbrev pub place_alone : List Arrival → ℕ → ℕ
-place_alone arrivals place = length (only_streams (take place arrivals))
+abbrev pub index_alone : List Arrival → ℕ → ℕ
+index_alone arrivals index = length (only_streams (take index arrivals))
 
 -- whether a start is that of a stream's frame
 abbrev pub is_start_of_streams : List Arrival → Transmission → Bool
@@ -23,7 +23,7 @@ is_start_of_streams arrivals start = is_streams (slice_index_or arrivals start.0
 
 -- the same start, with the index among the streams' frames alone
 abbrev pub start_alone : List Arrival → Transmission → Transmission
-start_alone arrivals start = (place_alone arrivals start.0, start.1)
+start_alone arrivals start = (index_alone arrivals start.0, start.1)
 
 -- the starts of streams' frames, with these indices
 abbrev pub starts_alone : List Arrival → List Transmission → List Transmission
@@ -42,13 +42,13 @@ abbrev pub is_of_stream : QueuedFrame → Bool
 is_of_stream x = is_some x.stream
 
 -- the frame is of no stream exactly if its class is below 6
-abbrev pub IsToldByClass : QueuedFrame → Type 0
-IsToldByClass x = (x.stream ≡ None) ↔ (x.arrival.class < 6)
+abbrev pub IsReportedByClass : QueuedFrame → Type 0
+IsReportedByClass x = (x.stream ≡ None) ↔ (x.arrival.class < 6)
 
 -- so what a link sends of streams beside background frames is what it may send if only the streams' frames arrive
 abbrev pub StreamsAreSentAsAlone : Type 0
 StreamsAreSentAsAlone = (d : Domain) (cycles l : ℕ) (queued : List QueuedFrame) (sents : List Sent) (backed : List Start) →
-    All IsToldByClass queued →
+    All IsReportedByClass queued →
     IsWithinBudget d.cycle_time (guard_of d l) (octet_time_of d l) (arrivals_of queued) cycles →
     Sends d (compiled_lists d l) (cycles * d.cycle_time) l queued sents backed →
     Sends d (compiled_lists d l) (cycles * d.cycle_time) l (filter is_of_stream queued) sents []

@@ -7,7 +7,7 @@ use Rattle.cqf_model.specs.Domain.{IsAccepted, cycle_of, enters}
 use Rattle.cqf_model.specs.GateList.{Entry}
 use Rattle.cqf_model.specs.Network.{IsLegalNetwork, Network, compiled_lists}
 use Rattle.cqf_model.specs.Run.{Run}
-use Rattle.cqf_model.specs.Traffic.{Carried, Policed, Received, police_all, policed_before, received_at, whole_at}
+use Rattle.cqf_model.specs.Policing.{Carried, Policed, Received, police_all, policed_before, received_at, whole_at}
 
 -- what arrives at a bridge in a cycle, instant by instant
 abbrev pub received_in : Run → Carried → ℕ → ℕ → List Received
@@ -54,6 +54,6 @@ FramesKeepTheirOrder = (run : Run) (lists : ℕ → List Entry) (cycles m : ℕ)
 
 -- the drops of a cycle are those among the frames that arrive in it
 abbrev pub DropsAreOfTheCycle : Type 0
-DropsAreOfTheCycle = (run : Run) (carried : Carried) (cycles cycle bridge places : ℕ) → cycle < cycles →
-    drops_in run.domain places (λ b. policed_before run carried b (cycles * run.domain.cycle_time)) cycle bridge
-    ≡ drops_in run.domain places (λ b. policed_of run carried b cycle) cycle bridge
+DropsAreOfTheCycle = (run : Run) (carried : Carried) (cycles cycle bridge indices : ℕ) → cycle < cycles →
+    drops_in run.domain indices (λ b. policed_before run carried b (cycles * run.domain.cycle_time)) cycle bridge
+    ≡ drops_in run.domain indices (λ b. policed_of run carried b cycle) cycle bridge

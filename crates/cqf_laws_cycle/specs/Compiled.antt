@@ -37,13 +37,13 @@ PortListSends = (cycle_time guard cycle t end class : ℕ) → 0 < guard → gua
 
 -- the gate of a reservation gives what arrives in a cycle the class of streams that is open not in this cycle, but in the next
 abbrev pub GateGivesClass : Type 0
-GateGivesClass = (cycle_time reserved : ℕ) (pace : Pace) (depth t : ℕ) → 0 < cycle_time →
-    gate_class (stream_list cycle_time reserved pace depth) t ≡ given_class (cycle_at cycle_time t)
+GateGivesClass = (cycle_time reserved : ℕ) (pace : Pace) (hop_number t : ℕ) → 0 < cycle_time →
+    gate_class (stream_list cycle_time reserved pace hop_number) t ≡ given_class (cycle_at cycle_time t)
 
--- and it counts octets by the cycle
+-- the gate of a reservation counts octets by the cycle
 abbrev pub GateCountsCycles : Type 0
-GateCountsCycles = (cycle_time reserved : ℕ) (pace : Pace) (depth s t : ℕ) → 0 < cycle_time →
-    same_interval (stream_list cycle_time reserved pace depth) s t ≡ (cycle_at cycle_time s == cycle_at cycle_time t)
+GateCountsCycles = (cycle_time reserved : ℕ) (pace : Pace) (hop_number s t : ℕ) → 0 < cycle_time →
+    same_interval (stream_list cycle_time reserved pace hop_number) s t ≡ (cycle_at cycle_time s == cycle_at cycle_time t)
 
 -- the class that a cycle gives is the class that the next one sends
 abbrev pub ClassesAlternate : Type 0

@@ -13,7 +13,7 @@ use Rattle.cqf_model.specs.Book.{drop_by, drops_in}
 use Rattle.cqf_model.specs.Domain.{Domain, bridge_of, cycle_of, enters, leaves}
 use Rattle.cqf_model.specs.Network.{backed_frame, backed_in, numbered_background}
 use Rattle.cqf_model.specs.Run.{Run}
-use Rattle.cqf_model.specs.Traffic.{Carried, Policed, Received, is_offered_at, numbered, offer_received, sent_received, whole_at}
+use Rattle.cqf_model.specs.Policing.{Carried, Policed, Received, is_offered_at, numbered, offer_received, sent_received, whole_at}
 use Rattle.cqf_laws_cycle.specs.BridgeCycle.{policed_in, received_in}
 
 -- `sorted` is `gathered` in order of a key, by a stable sort
@@ -59,7 +59,7 @@ BackgroundStandsInOrder = (d : Domain) (background : List Background) (bridge cy
 abbrev pub is_for_link : ℕ → Backed → Bool
 is_for_link l x = x.background.link == l
 
--- and each port of the bridge gets from that list its own background frames of the cycle
+-- from the list of a bridge's background frames of a cycle, each port gets its own background frames of the cycle
 abbrev pub PortsGetTheirBackground : Type 0
 PortsGetTheirBackground = (d : Domain) (background : List Background) (l cycle : ℕ) → l < length d.links →
     map backed_frame (filter (is_for_link l) (backed_for d background (bridge_of d l) cycle)) ≡ backed_in d background l cycle

@@ -10,7 +10,7 @@ use Rattle.cqf_model.specs.declared.topology.Row.{Row}
 use Rattle.cqf_model.specs.Book.{Contents, IsBook, background_in, background_of, drops_in, drops_of, page_drops, page_of, page_starts, starts_in, starts_of}
 use Rattle.cqf_model.specs.Domain.{Domain, IsAccepted, bridge_of, leaves}
 use Rattle.cqf_model.specs.GateList.{Entry}
-use Rattle.cqf_model.specs.Traffic.{Carried, Policed}
+use Rattle.cqf_model.specs.Policing.{Carried, Policed}
 
 -- what is on the links that leave a bridge, by link
 abbrev pub on_links_of : Domain → ℕ → (ℕ → List Started) → List Started
@@ -21,15 +21,15 @@ abbrev pub PageSaysWhatItsLinksSend : Type 0
 PageSaysWhatItsLinksSend = (d : Domain) (cycles : ℕ) (carried : Carried) (bridge cycle : ℕ) → cycle < cycles →
     page_starts d bridge cycle (starts_of d cycles carried) ≡ on_links_of d bridge (starts_in d carried cycle)
 
--- and the background frames
+-- a bridge's page of a cycle lists the background frames that the bridge's own links send in it, by link
 abbrev pub PageSaysTheBackground : Type 0
 PageSaysTheBackground = (d : Domain) (cycles : ℕ) (backed : ℕ → List Start) (bridge cycle : ℕ) → cycle < cycles →
     page_starts d bridge cycle (background_of d cycles backed) ≡ on_links_of d bridge (background_in d backed cycle)
 
--- and what is dropped at the bridge in it
+-- a bridge's page of a cycle lists what is dropped at the bridge in it
 abbrev pub PageSaysWhatIsDropped : Type 0
-PageSaysWhatIsDropped = (d : Domain) (cycles places : ℕ) (policed : ℕ → List Policed) (bridge cycle : ℕ) →
-    bridge < length d.bridges → cycle < cycles → page_drops bridge cycle (drops_of d cycles places policed) ≡ drops_in d places policed cycle bridge
+PageSaysWhatIsDropped = (d : Domain) (cycles indices : ℕ) (policed : ℕ → List Policed) (bridge cycle : ℕ) →
+    bridge < length d.bridges → cycle < cycles → page_drops bridge cycle (drops_of d cycles indices policed) ≡ drops_in d indices policed cycle bridge
 
 -- whether a start is on a link
 abbrev pub is_on_link : ℕ → Started → Bool
@@ -70,7 +70,7 @@ abbrev pub HaveTheSamePages : Domain → ℕ → Contents → Contents → Type 
 HaveTheSamePages d cycles book other =
     (bridge cycle : ℕ) → bridge < length d.bridges → cycle < cycles → page_of d bridge cycle book ≡ page_of d bridge cycle other
 
--- then they are equal
+-- two books with the same pages are equal
 abbrev pub SamePagesAreOneBook : Type 0
 SamePagesAreOneBook = (d : Domain) (cycles : ℕ) (book other : Contents) → IsAccepted d →
     IsSomeBook d cycles book → IsSomeBook d cycles other → HaveTheSamePages d cycles book other → book ≡ other

@@ -8,7 +8,7 @@ use Rattle.cqf_model.specs.GateList.{IsOpen}
 use Rattle.cqf_model.specs.Network.{Network, QueuedFrame, Sends, arrivals_of, backed_in, backed_of, comes_before, compiled_lists, queued_in, queued_to, sent_of}
 use Rattle.cqf_model.specs.Port.{AreLegal, PortRules, Transmission}
 use Rattle.cqf_model.specs.Run.{Run}
-use Rattle.cqf_model.specs.Traffic.{Carried, Policed}
+use Rattle.cqf_model.specs.Policing.{Carried, Policed}
 use Rattle.cqf_laws_network.specs.NetworkLaws.{backed_before, sent_before}
 use Rattle.cqf_laws_cycle.specs.BridgeCycle.{IsCompiledNetwork, policed_of}
 
@@ -55,8 +55,8 @@ SendsWhatCameBefore = (run : Run) (cycles cycle l : ℕ) (net : Network) →
 pub record StartsInCycle (d : Domain) (l cycle : ℕ) (queued : List QueuedFrame) (before made : List Transmission) : Type 0 where
   pub legal : AreLegal (record { entries = compiled_lists d l; octet_time = octet_time_of d l }) (arrivals_of queued)
       ((cycle + 1) * d.cycle_time) (before ++ made)
-  pub sooner : (place s : ℕ) → Contains before (place, s) → s < cycle * d.cycle_time
-  pub later : (place s : ℕ) → Contains made (place, s) → cycle * d.cycle_time ≤ s
+  pub sooner : (index s : ℕ) → Contains before (index, s) → s < cycle * d.cycle_time
+  pub later : (index s : ℕ) → Contains made (index, s) → cycle * d.cycle_time ≤ s
 
 -- these transmissions send what a link sends in a cycle, of both kinds
 pub record MakesTheBatch (run : Run) (net : Network) (l cycle : ℕ) (made : List Transmission) : Type 0 where

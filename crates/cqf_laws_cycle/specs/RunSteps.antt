@@ -7,7 +7,7 @@ use Rattle.cqf_model.specs.Book.{backed_batch, batch}
 use Rattle.cqf_model.specs.GateList.{Entry}
 use Rattle.cqf_model.specs.Network.{IsLegalNetwork, IsLoss, IsLost, Network, Sends, comes_before, compiled_lists}
 use Rattle.cqf_model.specs.Run.{Run}
-use Rattle.cqf_model.specs.Traffic.{Carried, Policed, policed_before}
+use Rattle.cqf_model.specs.Policing.{Carried, Policed, policed_before}
 use Rattle.cqf_laws_network.specs.NetworkLaws.{HaveTheSameTables, IsShorter, with_tables}
 use Rattle.cqf_laws_cycle.specs.BridgeCycle.{IsCompiledNetwork, policed_of}
 use Rattle.cqf_laws_cycle.specs.PortCycle.{waits_in}
@@ -20,15 +20,15 @@ silence = record { carried = λ l. []; backed = λ l. [] }
 abbrev pub RunBegins : Type 0
 RunBegins = (run : Run) (lists : ℕ → List Entry) → IsLegalNetwork run lists 0 silence
 
--- one cycle more: up to the end of that cycle, each link sends what its gate list demands for what its port has, by what was sent
--- before, when it sends the cycle
+-- one cycle more: up to the end of that cycle, each link sends what its gate list demands for what its port has in that cycle, given what
+-- was sent before the cycle
 pub record SendsOneMore (run : Run) (cycles : ℕ) (net more : Network) : Type 0 where
   pub sends : (l : ℕ) → l < length run.domain.links →
       Sends run.domain (compiled_lists run.domain l) ((cycles + 1) * run.domain.cycle_time) l (waits_in run net.carried l cycles)
       (more.carried l) (more.backed l)
   pub no_others : (l : ℕ) → length run.domain.links ≤ l → (more.carried l ≡ []) × (more.backed l ≡ [])
 
--- then the network of the longer run is legal
+-- if a legal network goes on for one cycle more, the network of the longer run is legal
 abbrev pub RunGoesOn : Type 0
 RunGoesOn = (run : Run) (cycles : ℕ) (net more : Network) → ((l : ℕ) → guard_of run.domain l < run.domain.cycle_time) →
     IsLegalNetwork run (compiled_lists run.domain) cycles net → SendsOneMore run cycles net more →
@@ -51,7 +51,7 @@ pub record KeepsItsCycles (run : Run) (others : List (List Row)) (cycles : ℕ) 
   pub waits : (l cycle : ℕ) → cycle ≤ cycles →
       comes_before run longer.carried l cycle ≡ comes_before (with_tables run others) net.carried l cycle
 
--- this holds for each longer run with the same tables in the shorter one's cycles
+-- each longer run with the same tables in a shorter one's cycles changes nothing in these cycles
 abbrev pub LongerRunKeepsItsCycles : Type 0
 LongerRunKeepsItsCycles = (run : Run) (others : List (List Row)) (lists : ℕ → List Entry) (cycles longer : ℕ) (net more : Network) →
     IsShorter cycles longer run.tables others → IsLegalNetwork (with_tables run others) lists cycles net → IsLegalNetwork run lists longer more →

@@ -11,7 +11,7 @@
 //! - **One port.** If the streams' frames that arrive in each cycle are within the link's budget, they leave in the next cycle, in
 //!   their order, and the gap after the last frame is over when the guard band begins ([`port_is_one_cycle_late`]). The same holds
 //!   if each start lags by up to a bound ([`late_port_is_one_cycle_late`]). Background frames may arrive at any instant, with any
-//!   octets. They start after the streams' frames of earlier cycles, and end before the guard band ([`background_keeps_behind`]).
+//!   octets. They start after the streams' frames of earlier cycles, and end before the guard band ([`background_yields`]).
 //! - **Beside background frames.** So background frames change nothing for streams: the starts of the streams' frames are legal for
 //!   those frames alone ([`streams_start_as_alone`]), and what a link carries of them is what it may carry if they arrive alone
 //!   ([`streams_are_sent_as_alone`]).
@@ -55,7 +55,7 @@ pub use compiled::{
     classes_alternate, gate_counts_cycles, gate_gives_class, port_list_is_open, port_list_sends,
 };
 pub use pages::{book_is_its_pages, page_is_of_its_bridge};
-pub use port::{background_keeps_behind, late_port_is_one_cycle_late, port_is_one_cycle_late};
+pub use port::{background_yields, late_port_is_one_cycle_late, port_is_one_cycle_late};
 pub use ports::{
     closed_arrivals_change_nothing, port_goes_on, port_sends_what_came_before, queued_frames_wait,
 };

@@ -1,9 +1,9 @@
 //! A run that goes on cycle by cycle.
 ghost use Rattle.cqf_laws_cycle.specs.RunSteps.{LastTableWaits, LongerRunKeepsItsCycles, LossesAreOfCycles, RunBegins, RunGoesOn, RunIsItsCycles};
 
-/// Proves that a run of no cycles sends nothing, and that the network of a run with one more cycle is legal if in that cycle each
-/// link sends what its gate list demands for what arrived at its port before the cycle and for the background frames of the cycle
-/// (IEEE 802.1Q, Annex T).
+/// Proves that a run of no cycles sends nothing, and how a run goes on. The network of a run with one more cycle is legal if each link
+/// sends in that cycle what its gate list demands: for what arrived at its port before the cycle, and for the background frames of the
+/// cycle (IEEE 802.1Q, Annex T).
 pub fn run_goes_on()
     ensures begins { RunBegins }
     ensures goes_on { RunGoesOn }
@@ -36,8 +36,8 @@ pub fn longer_run_keeps_its_cycles()
     cqf_laws_network::the_past_alone_matters();
 }
 
-/// Proves that a bridge's verdicts on all that arrives in a run are its verdicts in the run's cycles, and that a frame is lost
-/// inside the network in a run exactly if it is lost in one of the cycles.
+/// Proves that a bridge's verdicts on all that arrives in a run are its verdicts in the run's cycles. A frame is lost inside the network in
+/// a run exactly if it is lost in one of the cycles.
 pub fn run_is_its_cycles()
     ensures cycles { RunIsItsCycles }
     ensures losses { LossesAreOfCycles }

@@ -13,7 +13,7 @@ use Rattle.cqf_model.specs.HistoryBook.{run_of_history}
 use Rattle.cqf_model.specs.Loose.{ComesWithin, IsAcceptedWith, Slack}
 use Rattle.cqf_model.specs.Network.{IsNetworkBy, Network, QueuedFrame, Sends, backed_in, comes_before, compiled_lists, queued_to}
 use Rattle.cqf_model.specs.Run.{AreBackground, AreOffers, Run, end_of_run}
-use Rattle.cqf_model.specs.Traffic.{Carried, Policed, policed_before, received_before, whole_at}
+use Rattle.cqf_model.specs.Policing.{Carried, Policed, policed_before, received_before, whole_at}
 use Rattle.cqf_model.proofs.Links.{delay_within}
 use Rattle.cqf_laws_history.specs.HistoryLaws.{TablesAreOrderly}
 use Rattle.cqf_laws_network.specs.NetworkLaws.{BookIsUnique}
@@ -126,17 +126,17 @@ module _ (redundant : InnerGatesAreRedundant) (verdicts : VerdictsAreOfOwnGates)
 
   -- the law
   pub lenient_gates_keep_the_book : TablesAreOrderly → LenientGatesKeepTheBook
-  lenient_gates_keep_the_book tables d entries offers background cycles gates book lenient accepted legal offered behind sealed =
+  lenient_gates_keep_the_book tables d entries offers background cycles gates book lenient accepted legal offered following sealed =
       let run = run_of_history d entries offers background cycles in
       let planned = planned_history tables d entries offers background cycles accepted legal offered sealed in
-      (own_book run gates lenient planned behind book, lenient_book run gates lenient planned behind book)
+      (own_book run gates lenient planned following book, lenient_book run gates lenient planned following book)
 
   -- the law
   pub accounts_hold_for_lenient_gates : TablesAreOrderly → BookIsUnique → AccountsHoldForLenientGates
-  accounts_hold_for_lenient_gates tables unique d opening offers background cycles asked entries book other gates lenient accepted offered behind account is =
+  accounts_hold_for_lenient_gates tables unique d opening offers background cycles asked entries book other gates lenient accepted offered following account is =
       let run = run_of_history d entries offers background cycles in
       let planned = planned_history tables d entries offers background cycles accepted account.history.legal offered account.sealed in
-      unique run (compiled_lists d) (length run.tables) other book (own_book run gates lenient planned behind other is) account.keeps.is_book
+      unique run (compiled_lists d) (length run.tables) other book (own_book run gates lenient planned following other is) account.keeps.is_book
 
   -- the law
   pub loose_inner_gates_are_redundant : LooseInnerGatesAreRedundant
@@ -159,8 +159,8 @@ module _ (redundant : InnerGatesAreRedundant) (verdicts : VerdictsAreOfOwnGates)
 
   -- the law
   pub edge_gates_mean_the_shift : TablesAreOrderly → LooseHistoryMeansTheShift → EdgeGatesMeanTheShift
-  edge_gates_mean_the_shift tables means d entries offers background cycles slack gates net heard lenient accepted legal offered behind sealed loose =
+  edge_gates_mean_the_shift tables means d entries offers background cycles slack gates net heard lenient accepted legal offered following sealed loose =
       let run = run_of_history d entries offers background cycles in
       let planned = planned_history tables d entries offers background cycles accepted.accepted legal offered sealed in
-      means d entries offers background cycles slack net heard accepted legal offered behind sealed
-      ((loose_inner_gates_are_redundant run slack gates net heard lenient planned behind accepted).0 loose)
+      means d entries offers background cycles slack net heard accepted legal offered following sealed
+      ((loose_inner_gates_are_redundant run slack gates net heard lenient planned following accepted).0 loose)

@@ -13,8 +13,8 @@ use Rattle.cqf_model.specs.declared.topology.Row.{Row}
 use Rattle.cqf_model.specs.Domain.{bridge_of, cycle_of, enters}
 use Rattle.cqf_model.specs.Network.{QueuedFrame, backed_in, comes_before, comes_in, queued_to}
 use Rattle.cqf_model.specs.Run.{Run}
-use Rattle.cqf_model.specs.Traffic.{Carried, Policed, Received, offered_at, police_all, policed_before, received_at, received_before, relayed_at, sent_received}
-use Rattle.cqf_model.specs.Traffic.{whole_at}
+use Rattle.cqf_model.specs.Policing.{Carried, Policed, Received, offered_at, police_all, policed_before, received_at, received_before, relayed_at, sent_received}
+use Rattle.cqf_model.specs.Policing.{whole_at}
 use Rattle.cqf_model.proofs.Coming.{before_when}
 use Rattle.cqf_model.proofs.Policing.{police_same}
 use Rattle.cqf_laws_network.specs.NetworkLaws.{carried_before, sent_before, with_tables}

@@ -18,7 +18,7 @@ use Rattle.cqf_model.specs.GateList.{IsOpen}
 use Rattle.cqf_model.specs.Network.{IsLoss, IsNetworkBy, Network, QueuedFrame, Sends, arrivals_of, backed_in, comes_before, compiled_lists, queued_to}
 use Rattle.cqf_model.specs.Promise.{MeansTheShiftAs}
 use Rattle.cqf_model.specs.Run.{AreBackground, Run, end_of_run}
-use Rattle.cqf_model.specs.Traffic.{Carried, Policed, policed_before, received_before}
+use Rattle.cqf_model.specs.Policing.{Carried, Policed, policed_before, received_before}
 use Rattle.cqf_model.proofs.Arrivals.{IsClosedUntil}
 use Rattle.cqf_model.proofs.Coming.{backed_in_late, policed_front}
 use Rattle.cqf_model.proofs.Links.{guard_within, octet_positive}

@@ -36,11 +36,11 @@ module _ (tables : List (List Row)) (count : ℕ) (some : count ≤ length table
   ]
 
   -- what a link has to carry is no more
-  load_taken : (d : Domain) (cycle l turn : ℕ) → link_cost (table_of tables cycle) l turn ≤ budget d l →
-      link_cost (table_of (take count tables) cycle) l turn ≤ budget d l
-  load_taken d cycle l turn h = elim (taken cycle) [
-    | inl e ↦ subst (λ (table : List Row). link_cost table l turn ≤ budget d l) (sym e) h
-    | inr e ↦ let none : 0 ≤ budget d l = omega arith in subst (λ (table : List Row). link_cost table l turn ≤ budget d l) (sym e) none
+  load_taken : (d : Domain) (cycle l active_cycle : ℕ) → link_cost (table_of tables cycle) l active_cycle ≤ budget d l →
+      link_cost (table_of (take count tables) cycle) l active_cycle ≤ budget d l
+  load_taken d cycle l active_cycle h = elim (taken cycle) [
+    | inl e ↦ subst (λ (table : List Row). link_cost table l active_cycle ≤ budget d l) (sym e) h
+    | inr e ↦ let none : 0 ≤ budget d l = omega arith in subst (λ (table : List Row). link_cost table l active_cycle ≤ budget d l) (sym e) none
   ]
 
   -- the tables are orderly
@@ -54,5 +54,6 @@ module _ (tables : List (List Row)) (count : ℕ) (some : count ≤ length table
         let before : later < count = omega (arith, within, count_taken) in
         let w = orderly.stays cycle later row (row_taken cycle row h) live from upto (omega (arith, before, some)) in
         (w.0, subst (λ (table : List Row). Contains table w.0) (sym (get_or-take count tables later [] before)) w.1, w.2);
-    loads = λ cycle l turn is_link. load_taken d cycle l turn (orderly.loads cycle l turn is_link);
+    loads = λ cycle l active_cycle is_link. load_taken d cycle l active_cycle (orderly.loads cycle l active_cycle is_link);
+    overheads = λ cycle row h. orderly.overheads cycle row (row_taken cycle row h);
   }

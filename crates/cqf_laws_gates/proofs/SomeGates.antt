@@ -2,10 +2,11 @@
 use Rattle.std.proofs.Common.{◌≡◌, ℕ, ◌+◌, ◌<◌, ◌≤◌, true, Option, Some, None, refl, sym, ◌∙◌, arith}
 use Rattle.std.specs.Prelude.{nat_le}
 use Rattle.std.proofs.lemmas.Bool.{le-leb, leb-true}
+use Rattle.cqf_units.specs.Timing.{counted_of}
 use Rattle.cqf_model.specs.Domain.{Domain, cycle_of}
 use Rattle.cqf_model.specs.StreamGate.{within}
-use Rattle.cqf_model.specs.Table.{depth_behind, reserved_in}
-use Rattle.cqf_model.specs.Traffic.{came_by}
+use Rattle.cqf_model.specs.Table.{hop_number_after, reserved_in}
+use Rattle.cqf_model.specs.Policing.{came_by}
 use Rattle.cqf_laws_shift.specs.Edge.{GateIsReservation, octets_before}
 use Rattle.cqf_laws_gates.specs.InnerGates.{AreLenient, HaveRoom, InnerLimits, counting_gates}
 use Rattle.cqf_laws_gates.specs.LenientLaws.{TheseAreLenient}
@@ -19,10 +20,11 @@ within_more (Some most) reserved octets room fits = le-leb octets most (omega (a
 -- gates that count to at least what the streams reserve are lenient
 counting : GateIsReservation → (d : Domain) (limit : InnerLimits) → 0 < d.cycle_time → HaveRoom limit → AreLenient d (counting_gates d limit)
 counting reservation d limit some room bridge earlier row x passed =
-    let depth = depth_behind row (came_by x.way) in
+    let hop_number = hop_number_after row (came_by x.ingress) in
     let cycle = cycle_of d x.at in
-    within_more (limit bridge row depth cycle) (reserved_in row depth cycle) (octets_before d row.no cycle earlier + x.octets)
-    (λ most e. room bridge row depth cycle most e) (sym (reservation d earlier row x some) ∙ passed)
+    within_more (limit bridge row hop_number cycle) (reserved_in row hop_number cycle)
+    (octets_before d row.no cycle earlier + counted_of d.overhead x.octets)
+    (λ most e. room bridge row hop_number cycle most e) (sym (reservation d earlier row x some) ∙ passed)
 
 -- the law
 pub these_are_lenient : GateIsReservation → TheseAreLenient

@@ -5,8 +5,8 @@ use Rattle.cqf_model.specs.declared.topology.Row.{Row}
 use Rattle.cqf_model.specs.Domain.{Domain, cycle_of}
 use Rattle.cqf_model.specs.Network.{IsLoss}
 use Rattle.cqf_model.specs.Table.{goes_on, row_of, table_of}
-use Rattle.cqf_model.specs.Traffic.{AtEdge, ExceedsGate, LacksRow, Policed, Queued, Received, Relayed, Verdict, Way, inside_verdict, police, police_all}
-use Rattle.cqf_model.specs.Traffic.{verdict_by, within_gate}
+use Rattle.cqf_model.specs.Policing.{AtEdge, ExceedsGate, Ingress, LacksRow, Policed, Queued, Received, Relayed, Verdict, inside_verdict, police, police_all}
+use Rattle.cqf_model.specs.Policing.{verdict_by, within_gate}
 use Rattle.cqf_laws_gates.specs.InnerGates.{AreLenient, InnerGates, own_gates, passes_by, police_all_by, police_by}
 
 -- of a frame that came by a link, if one test passes all that the other passes
@@ -27,9 +27,9 @@ inside_same d bridge m own other (Some r) more kept = choice (goes_on d r (Some 
 
 module _ (d : Domain) (gates : InnerGates) (tables : List (List Row)) (bridge : ℕ) where
   -- of one frame
-  verdict_same : AreLenient d gates → (table : List Row) (cycle : ℕ) (earlier : List Policed) (x : Received) (way : Way) →
-      (IsLoss (verdict_by d table bridge cycle (λ row. within_gate d earlier row x) way) → ⊥) →
-      verdict_by d table bridge cycle (passes_by d gates bridge earlier x way) way ≡ verdict_by d table bridge cycle (λ row. within_gate d earlier row x) way
+  verdict_same : AreLenient d gates → (table : List Row) (cycle : ℕ) (earlier : List Policed) (x : Received) (ingress : Ingress) →
+      (IsLoss (verdict_by d table bridge cycle (λ row. within_gate d earlier row x) ingress) → ⊥) →
+      verdict_by d table bridge cycle (passes_by d gates bridge earlier x ingress) ingress ≡ verdict_by d table bridge cycle (λ row. within_gate d earlier row x) ingress
   verdict_same lenient table cycle earlier x (AtEdge name) kept = refl
   verdict_same lenient table cycle earlier x (Relayed m number) kept =
       inside_same d bridge m (λ row. within_gate d earlier row x) (λ row. gates bridge earlier row x) (row_of table number)
@@ -47,13 +47,13 @@ module _ (d : Domain) (gates : InnerGates) (tables : List (List Row)) (bridge : 
       let by : Verdict → Policed = λ verdict. record { received = x; verdict = verdict } in
       let all = λ (q : Policed). q ∷ police_all_by d gates tables bridge (earlier ++ q ∷ []) xs in
       let same : police_by d gates tables bridge earlier x ≡ p =
-      ap by (verdict_same lenient (table_of tables cycle) cycle earlier x x.way (kept p (contains_here p rest))) in
+      ap by (verdict_same lenient (table_of tables cycle) cycle earlier x x.ingress (kept p (contains_here p rest))) in
       ap all same
       ∙ ap (λ (ps : List Policed). p ∷ ps) (police_all_same lenient (earlier ++ p ∷ []) xs (λ q h. kept q (contains_later p rest q h)))
 
 -- the streams' own gates give the model's verdict
-own_verdict : (d : Domain) (table : List Row) (bridge cycle : ℕ) (earlier : List Policed) (x : Received) (way : Way) →
-    verdict_by d table bridge cycle (passes_by d (own_gates d) bridge earlier x way) way ≡ verdict_by d table bridge cycle (λ row. within_gate d earlier row x) way
+own_verdict : (d : Domain) (table : List Row) (bridge cycle : ℕ) (earlier : List Policed) (x : Received) (ingress : Ingress) →
+    verdict_by d table bridge cycle (passes_by d (own_gates d) bridge earlier x ingress) ingress ≡ verdict_by d table bridge cycle (λ row. within_gate d earlier row x) ingress
 own_verdict d table bridge cycle earlier x (AtEdge name) = refl
 own_verdict d table bridge cycle earlier x (Relayed m number) = refl
 
@@ -66,5 +66,5 @@ own_verdicts d tables bridge earlier (x ∷ xs) =
     let p = police d tables bridge earlier x in
     let by : Verdict → Policed = λ verdict. record { received = x; verdict = verdict } in
     let all = λ (q : Policed). q ∷ police_all_by d (own_gates d) tables bridge (earlier ++ q ∷ []) xs in
-    let same : police_by d (own_gates d) tables bridge earlier x ≡ p = ap by (own_verdict d (table_of tables cycle) bridge cycle earlier x x.way) in
+    let same : police_by d (own_gates d) tables bridge earlier x ≡ p = ap by (own_verdict d (table_of tables cycle) bridge cycle earlier x x.ingress) in
     ap all same ∙ ap (λ (ps : List Policed). p ∷ ps) (own_verdicts d tables bridge (earlier ++ p ∷ []) xs)

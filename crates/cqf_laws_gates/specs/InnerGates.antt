@@ -1,9 +1,10 @@
 -- Networks with other stream gates at inner bridges. A bridge is inner for a frame that came by a link. There, a lenient gate lets pass
--- all that the stream's own gate lets pass, and perhaps more: a gate may be missing, count to a larger number, or be updated late. At the
+-- all that the stream's own gate lets pass, and perhaps more: a gate may be missing, count to a larger number, or be closed late. At the
 -- edge, where frames are offered, each stream has its own gate. What a frame's class is, and by which ports it goes on, is as in the model:
--- the definitions below repeat those of `Traffic`, `Network`, `Book` and `Loose` of the model with the inner gates as a parameter.
+-- the definitions below repeat those of `Policing`, `Network`, `Book` and `Loose` of the model with the inner gates as a parameter.
 use Rattle.std.specs.Prelude.{ℕ, ◌≡◌, ◌+◌, ◌*◌, ◌<◌, ◌≤◌, ◌++◌, List, [], ◌∷◌, Bool, true, ◌==◌, Option, Some, Contains, filter, length, map}
 use Rattle.cqf_lists.specs.Lists.{each_below}
+use Rattle.cqf_units.specs.Timing.{counted_of}
 use Rattle.cqf_model.specs.declared.frames.Sent.{Sent}
 use Rattle.cqf_model.specs.declared.topology.Row.{Row}
 use Rattle.cqf_model.specs.Book.{Contents, background_of, drops_of, starts_of}
@@ -12,8 +13,8 @@ use Rattle.cqf_model.specs.Loose.{ComesWithin, Slack}
 use Rattle.cqf_model.specs.Network.{Network, QueuedFrame, Sends, backed_in, compiled_lists, queued_to}
 use Rattle.cqf_model.specs.Run.{Run, end_of_run}
 use Rattle.cqf_model.specs.StreamGate.{within}
-use Rattle.cqf_model.specs.Table.{depth_behind, reserved_in, table_of}
-use Rattle.cqf_model.specs.Traffic.{Carried, Policed, Received, Way, AtEdge, Relayed, came_by, received_before, verdict_by, within_gate}
+use Rattle.cqf_model.specs.Table.{hop_number_after, reserved_in, table_of}
+use Rattle.cqf_model.specs.Policing.{Carried, Policed, Received, Ingress, AtEdge, Relayed, came_by, received_before, verdict_by, within_gate}
 use Rattle.cqf_laws_shift.specs.Edge.{octets_before}
 
 -- for each bridge a test of frames that came by a link: after the earlier frames there, by the stream's row
@@ -39,26 +40,26 @@ no_gates = λ bridge earlier row x. true
 abbrev pub InnerLimits : Type 0
 InnerLimits = ℕ → Row → ℕ → ℕ → Option ℕ
 
--- gates that count the octets of each cycle up to these limits
+-- gates that count the octets of each cycle up to these limits; of each frame they count what the streams' own gates count
 abbrev pub counting_gates : Domain → InnerLimits → InnerGates
-counting_gates d limit = λ bridge earlier row x. within (limit bridge row (depth_behind row (came_by x.way)) (cycle_of d x.at))
-    (octets_before d row.no (cycle_of d x.at) earlier + x.octets)
+counting_gates d limit = λ bridge earlier row x. within (limit bridge row (hop_number_after row (came_by x.ingress)) (cycle_of d x.at))
+    (octets_before d row.no (cycle_of d x.at) earlier + counted_of d.overhead x.octets)
 
 -- no limit is below what the stream reserves
 abbrev pub HaveRoom : InnerLimits → Type 0
-HaveRoom limit = (bridge : ℕ) (row : Row) (depth cycle most : ℕ) → limit bridge row depth cycle ≡ Some most → reserved_in row depth cycle ≤ most
+HaveRoom limit = (bridge : ℕ) (row : Row) (hop_number cycle most : ℕ) → limit bridge row hop_number cycle ≡ Some most → reserved_in row hop_number cycle ≤ most
 
 -- ---- a network with them
 
 -- whether a frame passes: at the edge the stream's own gate, after a link the inner gate
-abbrev pub passes_by : Domain → InnerGates → ℕ → List Policed → Received → Way → (Row → Bool)
+abbrev pub passes_by : Domain → InnerGates → ℕ → List Policed → Received → Ingress → (Row → Bool)
 passes_by d gates bridge earlier x (AtEdge name) = λ row. within_gate d earlier row x
 passes_by d gates bridge earlier x (Relayed m number) = λ row. gates bridge earlier row x
 
 -- a frame with its verdict, after the earlier frames
 abbrev pub police_by : Domain → InnerGates → List (List Row) → ℕ → List Policed → Received → Policed
 police_by d gates tables bridge earlier x = let cycle = cycle_of d x.at in
-    record { received = x; verdict = verdict_by d (table_of tables cycle) bridge cycle (passes_by d gates bridge earlier x x.way) x.way }
+    record { received = x; verdict = verdict_by d (table_of tables cycle) bridge cycle (passes_by d gates bridge earlier x x.ingress) x.ingress }
 
 -- the frames one after the other, each with its verdict after those before it
 abbrev pub police_all_by : Domain → InnerGates → List (List Row) → ℕ → List Policed → List Received → List Policed

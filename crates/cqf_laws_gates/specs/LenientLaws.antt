@@ -11,7 +11,7 @@ use Rattle.cqf_model.specs.Loose.{IsAcceptedWith, IsLooseNetwork, Slack}
 use Rattle.cqf_model.specs.Network.{IsNetworkBy, Network, compiled_lists}
 use Rattle.cqf_model.specs.Promise.{MeansTheShiftAs}
 use Rattle.cqf_model.specs.Run.{AreBackground, AreOffers, Run, end_of_run}
-use Rattle.cqf_model.specs.Traffic.{Carried, policed_before}
+use Rattle.cqf_model.specs.Policing.{Carried, policed_before}
 use Rattle.cqf_laws_shift.specs.Alone.{IsPlanned}
 use Rattle.cqf_laws_shift.specs.Heard.{AreHeard}
 use Rattle.cqf_laws_gates.specs.InnerGates.{AreLenient, HaveRoom, InnerGates, InnerLimits, IsBookWith, IsLooseNetworkWith, IsNetworkWith}
@@ -36,7 +36,7 @@ InnerGatesAreRedundant = (run : Run) (gates : InnerGates) (net : Network) (heard
     AreBackground run.domain run.background → AreHeard run.domain net.carried heard →
     IsNetworkWith run gates net heard ↔ IsNetworkBy run (compiled_lists run.domain) (length run.tables) net heard
 
--- and then the verdicts at each bridge are those of the streams' own gates
+-- in a network with lenient inner gates the verdicts at each bridge are those of the streams' own gates
 abbrev pub VerdictsAreOfOwnGates : Type 0
 VerdictsAreOfOwnGates = (run : Run) (gates : InnerGates) (net : Network) (heard : Carried) → AreLenient run.domain gates → IsPlanned run →
     AreBackground run.domain run.background → AreHeard run.domain net.carried heard →
@@ -50,14 +50,15 @@ LenientGatesKeepTheBook = (d : Domain) (entries : List Recorded) (offers : List 
     AreBackground d background → cycles ≤ seals entries →
     IsBookWith (run_of_history d entries offers background cycles) gates book ↔ IsOneThreadBook (run_of_history d entries offers background cycles) book
 
--- and all that is promised of a run is promised of each such network: its book is the run's
+-- all that is promised of a run is promised of each network with lenient inner gates: its book is the run's
 abbrev pub AccountsHoldForLenientGates : Type 0
 AccountsHoldForLenientGates = (d : Domain) (opening : List Recorded) (offers : List Offer) (background : List Background) (cycles : ℕ)
     (asked : List (List Act)) (entries : List Recorded) (book other : Contents) (gates : InnerGates) → AreLenient d gates → IsAccepted d →
     AreOffers d offers → AreBackground d background → IsAccountOf d opening offers background cycles asked entries book →
     IsBookWith (run_of_history d entries offers background cycles) gates other → other ≡ book
 
--- the same if clocks differ and delays vary
+-- if clocks differ and delays vary too, a network with lenient inner gates may do exactly what the network with the streams' own gates may
+-- do
 abbrev pub LooseInnerGatesAreRedundant : Type 0
 LooseInnerGatesAreRedundant = (run : Run) (slack : Slack) (gates : InnerGates) (net : Network) (heard : Carried) → AreLenient run.domain gates →
     IsPlanned run → AreBackground run.domain run.background → IsAcceptedWith run.domain slack →

@@ -1,9 +1,9 @@
 //! Laws about the stream gates of inner bridges: they change nothing, so gates at the edge alone will do.
 //!
-//! A stream's frames meet a gate at each bridge. At the edge, where they are offered, the gate passes what the reservation covers and drops
-//! the rest. After that no gate has anything to drop: a bridge sends in a cycle no more of a stream than it queued in the cycle before. So an
-//! inner gate may be left out, count to a larger number, or be updated late, if each bridge still gives frames their class by the cycle in
-//! which they arrive (IEEE 802.1Q, Annex T).
+//! A stream's frames meet a stream gate at each bridge (PSFP; IEEE 802.1Q, 8.6.5.1). At the edge, where they are offered, the gate passes
+//! what the reservation covers and drops the rest. After that no gate has anything to drop: a bridge sends in a cycle no more of a stream
+//! than it queued in the cycle before. So an inner gate may be left out, count to a larger number, or be closed late, if each bridge still
+//! gives frames their class by the cycle in which they arrive (IEEE 802.1Q, Annex T).
 //!
 //! `specs/InnerGates.antt` defines networks in which inner bridges have any gates, and which gates are lenient. Each law is a function that
 //! ends at once. Its contract is a statement of `specs/LenientLaws.antt`.
@@ -36,9 +36,9 @@ pub fn these_are_lenient()
     cqf_laws_cycle::gate_counts_cycles();
 }
 
-/// Proves that lenient inner gates are redundant: for every accepted domain, the tables of a history and any offers, beside any background
-/// frames, a network with lenient inner gates may do exactly what the network with the streams' own gates may do, with the same verdicts
-/// at each bridge.
+/// Proves that lenient inner gates are redundant. A network with lenient inner gates may do exactly what the network with the streams' own
+/// gates may do, with the same verdicts at each bridge. This holds for every accepted domain, the tables of a history and any offers,
+/// beside any background frames.
 pub fn inner_gates_are_redundant()
     ensures networks { InnerGatesAreRedundant }
     ensures verdicts { VerdictsAreOfOwnGates }

@@ -17,7 +17,7 @@ use Rattle.cqf_model.specs.Book.{background_in, background_of, backed_batch, sta
 use Rattle.cqf_model.specs.Domain.{Domain, cycle_of}
 use Rattle.cqf_model.specs.Network.{QueuedFrame, backed_by, backed_of, no_frame}
 use Rattle.cqf_model.specs.Port.{Transmission}
-use Rattle.cqf_laws_history.specs.BackgroundLaws.{BackgroundIsNumberedByPlace, BooksSayTheBackground, IsBackgroundOfRun}
+use Rattle.cqf_laws_history.specs.BackgroundLaws.{BackgroundIsNumberedByIndex, BooksSayTheBackground, IsBackgroundOfRun}
 use Rattle.cqf_laws_history.specs.BackgroundLaws.{IsBackgroundStart, PortsSayTheirBackground, start_of_arrival}
 
 -- a background frame with its number
@@ -25,19 +25,19 @@ abbrev as_backed : ℕ × Background → Backed
 as_backed x = record { frame = x.0; background = x.1 }
 
 -- the frame at a position, if the numbers start at n
-numbered_from : (n : ℕ) (background : List Background) (place : ℕ) (frame : Background) → slice_get background place ≡ Some frame →
-    slice_get (map as_backed (enumerate_from n background)) place ≡ Some (as_backed (n + place, frame))
-numbered_from n [] place frame e = absurd cc
+numbered_from : (n : ℕ) (background : List Background) (index : ℕ) (frame : Background) → slice_get background index ≡ Some frame →
+    slice_get (map as_backed (enumerate_from n background)) index ≡ Some (as_backed (n + index, frame))
+numbered_from n [] index frame e = absurd cc
 numbered_from n (x ∷ xs) zero frame e = ap (option_map (λ (b : Background). as_backed (n, b))) e ∙ ap (λ (k : ℕ). Some (as_backed (k, frame))) (omega arith)
-numbered_from n (x ∷ xs) (suc place) frame e =
-    let same : n + 1 + place ≡ n + suc place = omega arith in
-    numbered_from (n + 1) xs place frame e ∙ ap (λ (k : ℕ). Some (as_backed (k, frame))) same
+numbered_from n (x ∷ xs) (suc index) frame e =
+    let same : n + 1 + index ≡ n + suc index = omega arith in
+    numbered_from (n + 1) xs index frame e ∙ ap (λ (k : ℕ). Some (as_backed (k, frame))) same
 
 -- a background frame's number is its position in its list, from 1
-pub numbered_by_place : BackgroundIsNumberedByPlace
-numbered_by_place background place frame e =
-    let same : 1 + place ≡ place + 1 = omega arith in
-    numbered_from 1 background place frame e ∙ ap (λ (k : ℕ). Some (as_backed (k, frame))) same
+pub numbered_by_index : BackgroundIsNumberedByIndex
+numbered_by_index background index frame e =
+    let same : 1 + index ≡ index + 1 = omega arith in
+    numbered_from 1 background index frame e ∙ ap (λ (k : ℕ). Some (as_backed (k, frame))) same
 
 -- if a transmission gives a background start, its frame is of no stream
 backed_from : (t : ℕ) (a : Arrival) (stream : Option ℕ) (start : Start) → Contains (backed_by t a stream) start → (stream ≡ None)
@@ -59,7 +59,7 @@ started_background queued starts start c =
     let k = backed_from w.0.1 q.arrival q.stream start w.2 in
     let when : start.start.0 ≡ w.0.1 = ap (λ (s : Start). s.start.0) k.1 in
     record {
-      place = w.0.0;
+      index = w.0.0;
       is_started = subst (λ (t : ℕ). Contains starts (w.0.0, t)) (sym when) w.1;
       of_no_stream = k.0;
       as_it_came = k.1 ∙ ap (λ (t : ℕ). start_of_arrival t q.arrival) (sym when);
@@ -69,8 +69,8 @@ started_background queued starts start c =
 background_started : (queued : List QueuedFrame) (starts : List Transmission) (start : Start) → IsBackgroundStart queued starts start →
     Contains (flat_map (backed_of queued) starts) start
 background_started queued starts start is =
-    let q = slice_index_or queued is.place no_frame in
-    let there = contains_flat (backed_of queued) starts (is.place, start.start.0) (start_of_arrival start.start.0 q.arrival) is.is_started
+    let q = slice_index_or queued is.index no_frame in
+    let there = contains_flat (backed_of queued) starts (is.index, start.start.0) (start_of_arrival start.start.0 q.arrival) is.is_started
     (backed_there start.start.0 q.arrival q.stream is.of_no_stream) in
     subst (λ (s : Start). Contains (flat_map (backed_of queued) starts) s) (sym is.as_it_came) there
 
@@ -82,14 +82,14 @@ ports_say d entries end l queued sents backed sends start = (
 )
 
 -- a start in a cycle of the run, on a link, as the book records it
-told : (d : Domain) (cycles cycle link : ℕ) (backed : ℕ → List Start) (start : Start) (s : Started) → cycle < cycles → link < length d.links
+reported : (d : Domain) (cycles cycle link : ℕ) (backed : ℕ → List Start) (start : Start) (s : Started) → cycle < cycles → link < length d.links
     → Contains (backed link) start → cycle_of d start.start.0 ≡ cycle → started_backed cycle link start ≡ s → IsBackgroundOfRun d cycles backed s
-told d cycles cycle link backed start s within on there same is = subst (λ (y : Started). IsBackgroundOfRun d cycles backed y) is
+reported d cycles cycle link backed start s within on there same is = subst (λ (y : Started). IsBackgroundOfRun d cycles backed y) is
     (record { start = start; on_link = on; is_backed = there; cycle = sym same; within_run = within; frame = refl; octets = refl; instant = refl })
 
 -- the book's record has the number, octets and instant of the start
-as_told : (s : Started) (start : Start) → s.frame ≡ start.frame → s.octets ≡ start.octets → s.start ≡ start.start → started_backed s.cycle.0 s.link start ≡ s
-as_told s start frame octets instant =
+as_reported : (s : Started) (start : Start) → s.frame ≡ start.frame → s.octets ≡ start.octets → s.start ≡ start.start → started_backed s.cycle.0 s.link start ≡ s
+as_reported s start frame octets instant =
     let made : ℕ → ℕ → Nanos → Started = λ f o t. record { cycle = s.cycle; link = s.link; frame = f; octets = o; start = t } in
     ap (λ (f : ℕ). made f start.octets start.start) (sym frame) ∙ ap (λ (o : ℕ). made s.frame o start.start) (sym octets)
     ∙ ap (λ (t : Nanos). made s.frame s.octets t) (sym instant)
@@ -101,7 +101,7 @@ from_run d cycles backed s c =
     let b = contains_from_below (background_in d backed a.0) (length d.links) s a.2 in
     let m = contains_from_map (started_backed a.0 b.0) (backed_batch d backed b.0 a.0) s b.2 in
     let f = contains_from_filter (λ (start : Start). cycle_of d start.start.0 == a.0) (backed b.0) m.0 m.1 in
-    told d cycles a.0 b.0 backed m.0 s a.1 b.1 f.0 (eqb-true (cycle_of d m.0.start.0) a.0 f.1) m.2
+    reported d cycles a.0 b.0 backed m.0 s a.1 b.1 f.0 (eqb-true (cycle_of d m.0.start.0) a.0 f.1) m.2
 
 -- and each background start of the run is in it
 of_run : (d : Domain) (cycles : ℕ) (backed : ℕ → List Start) (s : Started) → IsBackgroundOfRun d cycles backed s → Contains (background_of d cycles backed) s
@@ -109,7 +109,7 @@ of_run d cycles backed s is =
     let kept = contains_filter (λ (start : Start). cycle_of d start.start.0 == s.cycle.0) (backed s.link) is.start is.is_backed
     (eq-eqb (cycle_of d is.start.start.0) s.cycle.0 (sym is.cycle)) in
     let made = contains_map (started_backed s.cycle.0 s.link) (backed_batch d backed s.link s.cycle.0) is.start kept in
-    let there = subst (λ (y : Started). Contains (background_in d backed s.cycle.0 s.link) y) (as_told s is.start is.frame is.octets is.instant) made in
+    let there = subst (λ (y : Started). Contains (background_in d backed s.cycle.0 s.link) y) (as_reported s is.start is.frame is.octets is.instant) made in
     contains_below (λ cycle. each_below (background_in d backed cycle) (length d.links)) cycles s.cycle.0 s is.within_run
     (contains_below (background_in d backed s.cycle.0) (length d.links) s.link s is.on_link there)
 

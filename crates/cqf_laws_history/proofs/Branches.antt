@@ -12,7 +12,7 @@ use Rattle.cqf_lists.specs.Lists.{each_below}
 use Rattle.cqf_lists.proofs.Any.{none_member}
 use Rattle.cqf_lists.proofs.EachBelow.{get_or-singles, length-singles, same_below}
 use Rattle.cqf_lists.proofs.Members.{contains_at}
-use Rattle.cqf_lists.proofs.Places.{slice_get-take}
+use Rattle.cqf_lists.proofs.Indices.{slice_get-take}
 use Rattle.cqf_model.proofs.Links.{same_node_itself, same_node_true}
 use Rattle.cqf_model.specs.declared.topology.Hop.{Hop}
 use Rattle.cqf_model.specs.declared.topology.Link.{Link}
@@ -197,12 +197,12 @@ module _ (d : Domain) (branch : Branch) (good : IsBranch d branch) where
 
 -- the hop at an index
 abbrev pub hop_made : Domain → Branch → ℕ → Hop
-hop_made d branch k = record { link = unwrap_or (link_at d branch k) 0; depth = k + 1; from = link_before d branch k }
+hop_made d branch k = record { link = unwrap_or (link_at d branch k) 0; hop_number = k + 1; from = link_before d branch k }
 
 -- a hop by a link that exists
-hop_to_made : (depth : ℕ) (from o : Option ℕ) → is_none o ≡ false → hop_to depth from o ≡ record { link = unwrap_or o 0; depth = depth; from = from } ∷ []
-hop_to_made depth from None e = absurd cc
-hop_to_made depth from (Some l) e = refl
+hop_to_made : (hop_number : ℕ) (from o : Option ℕ) → is_none o ≡ false → hop_to hop_number from o ≡ record { link = unwrap_or o 0; hop_number = hop_number; from = from } ∷ []
+hop_to_made hop_number from None e = absurd cc
+hop_to_made hop_number from (Some l) e = refl
 
 -- an option that isn't `None` has its unwrapped value
 there_is : (o : Option ℕ) → is_none o ≡ false → o ≡ Some (unwrap_or o 0)
@@ -276,4 +276,4 @@ pub hop_front : (d : Domain) (branch : Branch) (n k : ℕ) → k + 1 < n → hop
 hop_front d branch n k h =
     let link = link_front d branch n k h in
     let from = before_front d branch n k h in
-    λ i. record { link = unwrap_or (link i) 0; depth = k + 1; from = from i }
+    λ i. record { link = unwrap_or (link i) 0; hop_number = k + 1; from = from i }

@@ -19,7 +19,7 @@ use Rattle.cqf_model.specs.Table.{IsTree, is_held, residence}
 use Rattle.cqf_model.proofs.Residence.{residence_met}
 use Rattle.cqf_laws_history.specs.StateLaws.{IsState}
 use Rattle.cqf_laws_history.proofs.Growth.{held_are_sound}
-use Rattle.cqf_laws_history.proofs.Places.{admitted_before, sealed_before, sealed_more, streams_front, with_end, withdrawn_at, withdrawn_before}
+use Rattle.cqf_laws_history.proofs.Indices.{admitted_before, sealed_before, sealed_more, streams_front, with_end, withdrawn_at, withdrawn_before}
 use Rattle.cqf_laws_history.specs.LedgerLaws.{EndsAreSoon, RingFindsThoseThatEnd, SealLetsGoThoseThatEnd, end_from, ends_in, is_in_slot}
 
 -- ---- a held row that ends
@@ -109,8 +109,8 @@ residence_few : (d : Domain) (row : Row) → IsTree d row.tree.items → residen
 residence_few d row tree =
     let met = (residence_met row tree.some).1 in
     let hop = met.of_tree in
-    let deep : met.hop.depth ≤ 64 = subst (λ (h : Hop). h.depth ≤ 64) hop.2 (tree.deep hop.0 met.hop hop.1) in
-    omega (arith, deep, met.is_depth)
+    let deep : met.hop.hop_number ≤ 64 = subst (λ (h : Hop). h.hop_number ≤ 64) hop.2 (tree.deep hop.0 met.hop hop.1) in
+    omega (arith, deep, met.is_hop_number)
 
 pub ends_are_soon : EndsAreSoon
 ends_are_soon d entries rows next row w legal state c e =
@@ -130,8 +130,8 @@ ends_are_soon d entries rows next row w legal state c e =
 -- ---- the slot
 
 -- among the 64 numbers after `cycle`, only the next one falls into its slot
-pub slot_tells : (cycle end : ℕ) → cycle < end → end ≤ cycle + 64 → (end == cycle + 1) ≡ (end % 128 == (cycle + 1) % 128)
-slot_tells cycle end later soon = elim (cases_Bool (end == cycle + 1)) [
+pub slot_reports : (cycle end : ℕ) → cycle < end → end ≤ cycle + 64 → (end == cycle + 1) ≡ (end % 128 == (cycle + 1) % 128)
+slot_reports cycle end later soon = elim (cases_Bool (end == cycle + 1)) [
   | inl t ↦ t ∙ sym (eq-eqb (end % 128) ((cycle + 1) % 128) (ap (λ (n : ℕ). n % 128) (eqb-true end (cycle + 1) t)))
   | inr f ↦ f ∙ sym (ne_eqb (end % 128) ((cycle + 1) % 128) (λ same. eqb-false end (cycle + 1) f (omega (arith, same, later, soon))))
 ]
@@ -148,5 +148,5 @@ ring_finds_those_that_end d entries rows next legal state =
     by_end row c (Some w) e =
         let soon = ends_are_soon d entries rows next row w legal state c e in
         ap (λ (x : Option Cycle). option_map_or (λ (w : Cycle). end_from row w == seals entries + 1) x false) e
-        ∙ slot_tells (seals entries) (end_from row w) soon.later soon.soon
+        ∙ slot_reports (seals entries) (end_from row w) soon.later soon.soon
         ∙ sym (ap (λ (x : Option Cycle). option_map_or (λ (w : Cycle). end_from row w % 128 == (seals entries + 1) % 128) x false) e)

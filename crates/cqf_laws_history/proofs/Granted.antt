@@ -20,7 +20,7 @@ use Rattle.cqf_model.specs.declared.topology.Node.TheVariants.{Bridge, Station}
 use Rattle.cqf_model.specs.declared.topology.Row.{Row}
 use Rattle.cqf_model.specs.Domain.{Domain, is_text, node_named}
 use Rattle.cqf_model.specs.History.{is_pace, pace_of}
-use Rattle.cqf_model.specs.History.{Asked, Branch, broken_place, first_place, is_bridge, is_broken_at, is_loop_at, is_stray, left_on, node_at, refusal_of}
+use Rattle.cqf_model.specs.History.{Asked, Branch, broken_index, first_index, is_bridge, is_broken_at, is_loop_at, is_stray, left_on, node_at, refusal_of}
 use Rattle.cqf_model.specs.History.{refused_at, refused_if, short_link, tree_of}
 use Rattle.cqf_model.specs.Limits.{hops_within, most_reserved, streams_within}
 use Rattle.cqf_model.specs.Table.{IsTree}
@@ -37,7 +37,7 @@ refused_if_none false refused e = refl
 -- a refusal at an index isn't due if there is no such index
 pub refused_at_none : (refused : ℕ → Refused) (o : Option ℕ) → refused_at refused o ≡ None → o ≡ None
 refused_at_none refused None e = refl
-refused_at_none refused (Some place) e = absurd cc
+refused_at_none refused (Some index) e = absurd cc
 
 -- a number below a bound
 below_bound : (bound n : ℕ) → nat_le bound n ≡ false → n < bound
@@ -49,37 +49,37 @@ pub record IsGranted (d : Domain) (rows : List Row) (asked : Asked) : Type 0 whe
   pub least_octets : 64 ≤ asked.octets
   pub most_octets : asked.octets ≤ most_reserved
   pub known : position (λ name. is_none (node_named d name)) (flat_map (λ branch. branch) asked.paths) ≡ None
-  pub whole : broken_place d asked.paths ≡ None
-  pub simple : first_place (is_loop_at d) asked.paths ≡ None
+  pub whole : broken_index d asked.paths ≡ None
+  pub simple : first_index (is_loop_at d) asked.paths ≡ None
   pub together : least (is_stray asked.paths) (length asked.paths) ≡ None
   pub few_hops : length (tree_of d asked.paths) ≤ hops_within d.limits
   pub name_free : list_any (λ (row : Row). is_text row.name asked.name) rows ≡ false
   pub room : length rows < streams_within d.limits
   pub pace : is_pace asked.every asked.phase ≡ true
-  pub enough : short_link d rows (cost_of asked.octets) (pace_of asked) (tree_of d asked.paths) ≡ None
+  pub enough : short_link d rows (cost_of d.overhead asked.octets) (pace_of asked) (tree_of d asked.paths) ≡ None
 
 -- a request that isn't refused meets each of its conditions
 pub granted : (d : Domain) (rows : List Row) (asked : Asked) → refusal_of d rows asked ≡ None → IsGranted d rows asked
 granted d rows asked e =
     let budget_short = refused_at (λ l. BudgetShort l (left_on d rows (tree_of d asked.paths) (pace_of asked) l))
-    (short_link d rows (cost_of asked.octets) (pace_of asked) (tree_of d asked.paths)) in
+    (short_link d rows (cost_of d.overhead asked.octets) (pace_of asked) (tree_of d asked.paths)) in
     let after_many = or_else (refused_if (nat_le (streams_within d.limits) (length rows)) TooManyStreams) budget_short in
     let after_held = or_else (refused_if (list_any (λ (row : Row). is_text row.name asked.name) rows) NameHeld) after_many in
     let after_hops = or_else (refused_if (nat_lt (hops_within d.limits) (length (tree_of d asked.paths))) TooManyHops) after_held in
     let after_stray = or_else (refused_at (λ branch. NotATree branch) (least (is_stray asked.paths) (length asked.paths))) after_hops in
-    let after_looping = or_else (refused_at (λ place. LoopingPath place) (first_place (is_loop_at d) asked.paths)) after_stray in
-    let after_broken = or_else (refused_at (λ place. BrokenPath place) (broken_place d asked.paths)) after_looping in
+    let after_looping = or_else (refused_at (λ index. LoopingPath index) (first_index (is_loop_at d) asked.paths)) after_stray in
+    let after_broken = or_else (refused_at (λ index. BrokenPath index) (broken_index d asked.paths)) after_looping in
     let unknown = position (λ name. is_none (node_named d name)) (flat_map (λ branch. branch) asked.paths) in
-    let after_unknown = or_else (refused_at (λ place. UnknownNode place) unknown) after_broken in
+    let after_unknown = or_else (refused_at (λ index. UnknownNode index) unknown) after_broken in
     let paced = is_pace asked.every asked.phase in
     let after_pace = or_else (refused_if (not paced) BadPace) after_unknown in
     let in_range = nat_le 64 asked.octets && nat_le asked.octets most_reserved in
     let name = or_else_none (refused_if (not (is_name asked.name)) BadName) (or_else (refused_if (not in_range) BadOctets) after_pace) e in
     let octets = or_else_none (refused_if (not in_range) BadOctets) after_pace name.1 in
     let pace = or_else_none (refused_if (not paced) BadPace) after_unknown octets.1 in
-    let known = or_else_none (refused_at (λ place. UnknownNode place) unknown) after_broken pace.1 in
-    let broken = or_else_none (refused_at (λ place. BrokenPath place) (broken_place d asked.paths)) after_looping known.1 in
-    let looping = or_else_none (refused_at (λ place. LoopingPath place) (first_place (is_loop_at d) asked.paths)) after_stray broken.1 in
+    let known = or_else_none (refused_at (λ index. UnknownNode index) unknown) after_broken pace.1 in
+    let broken = or_else_none (refused_at (λ index. BrokenPath index) (broken_index d asked.paths)) after_looping known.1 in
+    let looping = or_else_none (refused_at (λ index. LoopingPath index) (first_index (is_loop_at d) asked.paths)) after_stray broken.1 in
     let stray = or_else_none (refused_at (λ branch. NotATree branch) (least (is_stray asked.paths) (length asked.paths))) after_hops looping.1 in
     let hops = or_else_none (refused_if (nat_lt (hops_within d.limits) (length (tree_of d asked.paths))) TooManyHops) after_held stray.1 in
     let held = or_else_none (refused_if (list_any (λ (row : Row). is_text row.name asked.name) rows) NameHeld) after_many hops.1 in
@@ -90,48 +90,48 @@ granted d rows asked e =
       least_octets = leb-true 64 asked.octets range.0;
       most_octets = leb-true asked.octets most_reserved range.1;
       pace = not-false paced (refused_if_none (not paced) BadPace pace.0);
-      known = refused_at_none (λ place. UnknownNode place) unknown known.0;
-      whole = refused_at_none (λ place. BrokenPath place) (broken_place d asked.paths) broken.0;
-      simple = refused_at_none (λ place. LoopingPath place) (first_place (is_loop_at d) asked.paths) looping.0;
+      known = refused_at_none (λ index. UnknownNode index) unknown known.0;
+      whole = refused_at_none (λ index. BrokenPath index) (broken_index d asked.paths) broken.0;
+      simple = refused_at_none (λ index. LoopingPath index) (first_index (is_loop_at d) asked.paths) looping.0;
       together = refused_at_none (λ branch. NotATree branch) (least (is_stray asked.paths) (length asked.paths)) stray.0;
       few_hops = ltb-false (hops_within d.limits) (length (tree_of d asked.paths))
           (refused_if_none (nat_lt (hops_within d.limits) (length (tree_of d asked.paths))) TooManyHops hops.0);
       name_free = refused_if_none (list_any (λ (row : Row). is_text row.name asked.name) rows) NameHeld held.0;
       room = below_bound (streams_within d.limits) (length rows) (refused_if_none (nat_le (streams_within d.limits) (length rows)) TooManyStreams many.0);
       enough = refused_at_none (λ l. BudgetShort l (left_on d rows (tree_of d asked.paths) (pace_of asked) l))
-          (short_link d rows (cost_of asked.octets) (pace_of asked) (tree_of d asked.paths)) many.1;
+          (short_link d rows (cost_of d.overhead asked.octets) (pace_of asked) (tree_of d asked.paths)) many.1;
     }
 
 -- ---- its branches
 
 -- if no index of the branches fails, none of a single branch does
-pub first_place_none : (fails : Branch → ℕ → Bool) (paths : List Branch) → first_place fails paths ≡ None → (branch : Branch) →
+pub first_index_none : (fails : Branch → ℕ → Bool) (paths : List Branch) → first_index fails paths ≡ None → (branch : Branch) →
     Contains paths branch → (k : ℕ) →
     k < length branch + 1 → fails branch k ≡ false
-first_place_none fails [] e branch c k h = absurd (contains_none branch c)
-first_place_none fails (x ∷ paths) e branch c k h =
-    let parts = or_else_none (least (fails x) (length x + 1)) (option_map (λ place. length x + place) (first_place fails paths)) e in
+first_index_none fails [] e branch c k h = absurd (contains_none branch c)
+first_index_none fails (x ∷ paths) e branch c k h =
+    let parts = or_else_none (least (fails x) (length x + 1)) (option_map (λ index. length x + index) (first_index fails paths)) e in
     elim (contains_cases x paths branch c) [
       | inl same ↦ (let here : (j : ℕ) → j < length x + 1 → fails x j ≡ false = least_none (fails x) (length x + 1) parts.0 in
           ap (λ (b : Branch). fails b k) (sym same) ∙ here k (omega (arith, h, ap (λ (b : Branch). length b) same)))
-      | inr later ↦ first_place_none fails paths (unmapped_none (λ place. length x + place) (first_place fails paths) parts.1) branch later k h
+      | inr later ↦ first_index_none fails paths (unmapped_none (λ index. length x + index) (first_index fails paths) parts.1) branch later k h
     ]
 
 -- if a tree isn't broken, no branch of it is
-pub none_broken : (d : Domain) (paths : List Branch) → broken_place d paths ≡ None → first_place (is_broken_at d) paths ≡ None
+pub none_broken : (d : Domain) (paths : List Branch) → broken_index d paths ≡ None → first_index (is_broken_at d) paths ≡ None
 none_broken d [] e = absurd cc
 none_broken d (branch ∷ paths) e = e
 
 -- a tree that isn't broken has a branch
-pub first_branch : (d : Domain) (paths : List Branch) → broken_place d paths ≡ None → (branch : Branch) × Contains paths branch
+pub first_branch : (d : Domain) (paths : List Branch) → broken_index d paths ≡ None → (branch : Branch) × Contains paths branch
 first_branch d [] e = absurd cc
 first_branch d (branch ∷ paths) e = (branch, contains_here branch paths)
 
 -- what holds for branches that form a tree
 pub record AreOfForm (d : Domain) (paths : List Branch) : Type 0 where
   pub known : position (λ name. is_none (node_named d name)) (flat_map (λ branch. branch) paths) ≡ None
-  pub whole : broken_place d paths ≡ None
-  pub simple : first_place (is_loop_at d) paths ≡ None
+  pub whole : broken_index d paths ≡ None
+  pub simple : first_index (is_loop_at d) paths ≡ None
   pub together : least (is_stray paths) (length paths) ≡ None
 
 module _ (d : Domain) (paths : List Branch) (g : AreOfForm d paths) where
@@ -144,8 +144,8 @@ module _ (d : Domain) (paths : List Branch) (g : AreOfForm d paths) where
   form_branches branch c = is_branch d branch
       (λ name k. none_member (λ n. is_none (node_named d n)) (flat_map (λ b. b) paths) name none_unknown
       (contains_flat (λ b. b) paths branch name c k))
-      (first_place_none (is_broken_at d) paths (none_broken d paths g.whole) branch c)
-      (first_place_none (is_loop_at d) paths g.simple branch c)
+      (first_index_none (is_broken_at d) paths (none_broken d paths g.whole) branch c)
+      (first_index_none (is_loop_at d) paths g.simple branch c)
 
   -- any two of them make a tree
   pub form_trees : (xs ys : Branch) → Contains paths xs → Contains paths ys → MakeATree xs ys

@@ -17,7 +17,7 @@ use Rattle.cqf_model.specs.declared.history.Reply.TheVariants.{Refused as Refuse
 use Rattle.cqf_model.specs.declared.topology.Row.{Row}
 use Rattle.cqf_model.specs.Domain.{Domain, budget}
 use Rattle.cqf_model.specs.History.{Act, Admits, Asked, IsLegalHistory, Recorded, Seals, Withdraws, admit_reply, held_in, is_seal, next_number, refusal_of}
-use Rattle.cqf_model.specs.History.{reply_to, seal_places, seals, stream_by, streams_of, withdraw_reply, withdraw_row, withdrawal_by}
+use Rattle.cqf_model.specs.History.{reply_to, seal_indices, seals, stream_by, streams_of, withdraw_reply, withdraw_row, withdrawal_by}
 use Rattle.cqf_model.specs.Limits.{most_reserved}
 use Rattle.cqf_model.specs.Table.{IsTree, is_held, link_cost, residence, row_named}
 use Rattle.cqf_model.proofs.Residence.{residence_some}
@@ -28,9 +28,9 @@ use Rattle.cqf_laws_history.specs.StateLaws.{SealsAreCounted, WithdrawnIsHeldOn,
 use Rattle.cqf_laws_history.specs.StreamLaws.{GrantedIsLast, SealChangesNoStream, WithdrawnEnds}
 use Rattle.cqf_lists.proofs.Members.{contains_from_filter, contains_from_map, contains_here, contains_later}
 use Rattle.cqf_lists.proofs.Pairs.{pairs_kept}
-use Rattle.cqf_lists.proofs.Places.{nil_from_none, slice_get_behind, slice_get_front}
-use Rattle.cqf_laws_history.proofs.Places.{SealAt, admitted_at, admitted_before, seal_at, sealed-suc, sealed_before, sealed_more, streams_front, with_end}
-use Rattle.cqf_laws_history.proofs.Places.{withdrawn_at, withdrawn_before}
+use Rattle.cqf_lists.proofs.Indices.{nil_from_none, slice_get_after, slice_get_front}
+use Rattle.cqf_laws_history.proofs.Indices.{SealAt, admitted_at, admitted_before, seal_at, sealed-suc, sealed_before, sealed_more, streams_front, with_end}
+use Rattle.cqf_laws_history.proofs.Indices.{withdrawn_at, withdrawn_before}
 use Rattle.cqf_laws_history.proofs.Sound.{AreDue, Sound, held_less, named_is_held, number_below, sound}
 
 -- a Seal adds one Seal
@@ -46,7 +46,7 @@ module _ (entries : List Recorded) (e : Recorded) where
 
   -- it follows them
   pub last_is : slice_get (entries ++ e ∷ []) (length entries) ≡ Some e
-  last_is = slice_get_behind entries e [] (length entries) refl
+  last_is = slice_get_after entries e [] (length entries) refl
 
   -- and with it they are all
   pub whole_is : take (suc (length entries)) (entries ++ e ∷ []) ≡ entries ++ e ∷ []
@@ -55,14 +55,14 @@ module _ (entries : List Recorded) (e : Recorded) where
 -- if a reply that is due is appended, all replies are due
 pub due_more : (d : Domain) (entries : List Recorded) (seat : ℕ) (act : Act) → AreDue d entries →
     AreDue d (with_entry entries seat act (reply_to d entries act))
-due_more d entries seat act due place x at =
+due_more d entries seat act due index x at =
     let e : Recorded = record { seat = seat; act = act; reply = reply_to d entries act } in
-    elim (cases_lt place (length entries)) [
-      | inl l ↦ due place x (sym (slice_get_front entries (e ∷ []) place l) ∙ at)
-          ∙ ap (λ (front : List Recorded). reply_to d front x.act) (sym (take-append-le place entries (e ∷ []) (omega (arith, l))))
-      | inr g ↦ (let last : place ≡ length entries = omega (arith, g, slice_get_within (entries ++ e ∷ []) place x at, length-append entries (e ∷ [])) in
+    elim (cases_lt index (length entries)) [
+      | inl l ↦ due index x (sym (slice_get_front entries (e ∷ []) index l) ∙ at)
+          ∙ ap (λ (front : List Recorded). reply_to d front x.act) (sym (take-append-le index entries (e ∷ []) (omega (arith, l))))
+      | inr g ↦ (let last : index ≡ length entries = omega (arith, g, slice_get_within (entries ++ e ∷ []) index x at, length-append entries (e ∷ [])) in
           let is : e ≡ x = same_Some e x (sym (last_is entries e) ∙ ap (slice_get (entries ++ e ∷ [])) (sym last) ∙ at) in
-          let front : take place (entries ++ e ∷ []) ≡ entries = ap (λ (k : ℕ). take k (entries ++ e ∷ [])) last ∙ front_is entries e in
+          let front : take index (entries ++ e ∷ []) ≡ entries = ap (λ (k : ℕ). take k (entries ++ e ∷ [])) last ∙ front_is entries e in
           ap (λ (y : Recorded). y.reply) (sym is) ∙ ap (λ (a : Act). reply_to d entries a) (ap (λ (y : Recorded). y.act) is)
           ∙ ap (λ (xs : List Recorded). reply_to d xs x.act) (sym front))
     ]
@@ -87,9 +87,9 @@ module _ (d : Domain) (entries : List Recorded) (e : Recorded) where
       ∙ streams_front (entries ++ e ∷ []) (length entries) (omega (arith, length-append entries (e ∷ []))) d
 
   -- and with it
-  pub streams_behind : streams_of d (entries ++ e ∷ []) ≡ map (with_end (withdrawn_before (entries ++ e ∷ []) (suc (length entries))))
+  pub streams_after : streams_of d (entries ++ e ∷ []) ≡ map (with_end (withdrawn_before (entries ++ e ∷ []) (suc (length entries))))
       (admitted_before d (entries ++ e ∷ []) (length entries) ++ admitted_at d (entries ++ e ∷ []) (length entries))
-  streams_behind = ap (streams_of d) (sym (whole_is entries e))
+  streams_after = ap (streams_of d) (sym (whole_is entries e))
       ∙ streams_front (entries ++ e ∷ []) (suc (length entries)) (omega (arith, length-append entries (e ∷ []))) d
 
   -- before the new entry are the Seals of the old ones
@@ -122,7 +122,7 @@ module _ (d : Domain) (entries : List Recorded) (e : Recorded) where
       streams_of d (entries ++ e ∷ []) ≡ streams_of d entries
   streams_same none ends =
       let old = admitted_before d (entries ++ e ∷ []) (length entries) in
-      streams_behind
+      streams_after
       ∙ ap (λ (w : ℕ → Option Cycle). map (with_end w) (old ++ admitted_at d (entries ++ e ∷ []) (length entries))) (ends_same ends)
       ∙ ap (λ (xs : List Row). map (with_end (withdrawn_before (entries ++ e ∷ []) (length entries))) (old ++ xs)) (admitted_here ∙ none)
       ∙ ap (λ (xs : List Row). map (with_end (withdrawn_before (entries ++ e ∷ []) (length entries))) xs) (append-nil old)
@@ -177,7 +177,7 @@ refused_changes_nothing d entries rows next seat act refused state answer =
 pub with_no_end : (w : ℕ → Option Cycle) (row : Row) → row.withdrawn ≡ None → w row.no ≡ None → with_end w row ≡ row
 with_no_end w row none same =
     ap (λ (o : Option Cycle). let made : Row =
-    record { no = row.no; name = row.name; octets = row.octets; pace = row.pace; tree = row.tree; admitted = row.admitted; withdrawn = o } in made) (same ∙ sym none)
+    record { no = row.no; name = row.name; octets = row.octets; overhead = row.overhead; pace = row.pace; tree = row.tree; admitted = row.admitted; withdrawn = o } in made) (same ∙ sym none)
 
 -- an option that can't have a value is `None`
 pub none_unless : (o : Option Cycle) → ((x : Cycle) → o ≡ Some x → ⊥) → o ≡ None
@@ -212,7 +212,7 @@ granted_is_last d entries seat asked legal none =
     let count : length old ≡ next = sym (length-map old (with_end w)) ∙ ap length (sym before) in
     let s = sound d all (due_more d entries seat (Admits asked) legal.replies) n (omega (arith, length-append entries (e ∷ []))) in
     let not_ended : w next ≡ None = none_unless (w next) (λ x f. omega (arith, count, s.ends next x f)) in
-    streams_behind d entries e
+    streams_after d entries e
     ∙ ap (λ (v : ℕ → Option Cycle). map (with_end v) (old ++ admitted_at d all n)) (ends_same d entries e (λ number. refl))
     ∙ ap (λ (xs : List Row). map (with_end w) (old ++ xs)) admitted
     ∙ map-append (with_end w) old (new ∷ [])
@@ -303,21 +303,21 @@ seal_closes_table d entries rows next seat state =
     let e : Recorded = record { seat = seat; act = Seals; reply = Sealed } in
     let all = entries ++ e ∷ [] in
     let more = seals_are_counted entries seat Seals Sealed in
-    let place = get_or (seal_places all) (seals entries) (length all) in
+    let index = get_or (seal_indices all) (seals entries) (length all) in
     let at = seal_at all (seals entries) (omega (arith, more)) in
-    let last : place ≡ length entries = last_seal place at in
+    let last : index ≡ length entries = last_seal index at in
     ap (λ (k : ℕ). held_in d (take k all) (seals entries)) last ∙ ap (λ (xs : List Recorded). held_in d xs (seals entries)) (front_is entries e) ∙ state.held
   where
     -- the Seal that was just entered follows all earlier entries
-    last_seal : (place : ℕ) → SealAt (with_entry entries seat Seals Sealed) (seals entries) place → place ≡ length entries
-    last_seal place at =
+    last_seal : (index : ℕ) → SealAt (with_entry entries seat Seals Sealed) (seals entries) index → index ≡ length entries
+    last_seal index at =
         let e : Recorded = record { seat = seat; act = Seals; reply = Sealed } in
         let all = entries ++ e ∷ [] in
-        elim (cases_lt place (length entries)) [
-          | inl l ↦ (let one_more : sealed_before all (suc place) ≡ sealed_before all place + 1 = sealed-suc all place at.entry at.is
-              ∙ ap (λ (b : Bool). sealed_before all place + cond b 1 0) at.seal in
-              let early : sealed_before all (suc place) ≤ sealed_before all (length entries) =
-              sealed_more all (suc place) (length entries) (omega (arith, l)) (omega (arith, length-append entries (e ∷ []))) in
+        elim (cases_lt index (length entries)) [
+          | inl l ↦ (let one_more : sealed_before all (suc index) ≡ sealed_before all index + 1 = sealed-suc all index at.entry at.is
+              ∙ ap (λ (b : Bool). sealed_before all index + cond b 1 0) at.seal in
+              let early : sealed_before all (suc index) ≤ sealed_before all (length entries) =
+              sealed_more all (suc index) (length entries) (omega (arith, l)) (omega (arith, length-append entries (e ∷ []))) in
               absurd (omega (arith, one_more, early, at.before, ap seals (front_is entries e))))
           | inr g ↦ omega (arith, g, at.inside, length-append entries (e ∷ []))
         ]
@@ -330,7 +330,7 @@ first_of_none front x e = ap (λ (xs : List Cycle). slice_get (xs ++ x ∷ []) 0
 
 -- a row with this end
 abbrev row_ending : Row → Option Cycle → Row
-row_ending row end = record { no = row.no; name = row.name; octets = row.octets; pace = row.pace; tree = row.tree; admitted = row.admitted; withdrawn = end }
+row_ending row end = record { no = row.no; name = row.name; octets = row.octets; overhead = row.overhead; pace = row.pace; tree = row.tree; admitted = row.admitted; withdrawn = end }
 
 -- a row that is held without an end is still held in this cycle if it ends from this cycle on
 pub held_with_end : (row : Row) (cycle number : ℕ) → 0 < residence row → (row.no ≡ number → row.withdrawn ≡ None) →
@@ -399,7 +399,7 @@ withdrawn_ends d entries seat name row legal found open_end =
     λ other t.
     ap (λ (xs : List Cycle). slice_get (front other ++ xs) 0) (one_more other ∙ ap (λ (b : Bool). if b then record { 0 = c } ∷ [] else []) t)
     ∙ ap (λ (xs : List Cycle). slice_get xs 0) (append-nil (front other)) in
-    streams_behind d entries e
+    streams_after d entries e
     ∙ ap (λ (xs : List Row). map (with_end v) (old ++ xs)) (admitted_here d entries e)
     ∙ ap (map (with_end v)) (append-nil old)
     ∙ map_twice (with_end v) (ended_row row.no c) (with_end w) old (λ s k. ended_by v w row.no c here elsewhere s)
@@ -459,10 +459,11 @@ held_sound d entries legal =
           let late : (get_or old j x).no ≡ j = s.numbers j (get_or old j x) (slice_get-get_or old j x m) in
           omega (arith, l, early, late));
       names = pairs_here (λ (a b : Row). a.name ≢ b.name) s.names;
-      loads = λ l turn.
-          let there : link_cost (filter (λ (r : Row). is_held r c) (map (with_end w) old)) l turn ≤ budget d l =
-          subst (λ (k : ℕ). link_cost (filter (λ (r : Row). is_held r k) (map (with_end w) old)) l turn ≤ budget d l) sealed (s.loads l turn) in
-          subst (λ (xs : List Row). link_cost xs l turn ≤ budget d l) held_is there;
+      overheads = λ row h. let t = stream_of d entries row (stream row h) in subst (λ (r : Row). r.overhead ≡ d.overhead) t.2 (s.overheads t.0 t.1);
+      loads = λ l active_cycle.
+          let there : link_cost (filter (λ (r : Row). is_held r c) (map (with_end w) old)) l active_cycle ≤ budget d l =
+          subst (λ (k : ℕ). link_cost (filter (λ (r : Row). is_held r k) (map (with_end w) old)) l active_cycle ≤ budget d l) sealed (s.loads l active_cycle) in
+          subst (λ (xs : List Row). link_cost xs l active_cycle ≤ budget d l) held_is there;
     }
 
 -- and so is each running state

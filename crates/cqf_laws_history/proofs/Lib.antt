@@ -1,9 +1,9 @@
 pub mod Branches
 pub mod Trees
-pub mod Places
+pub mod Indices
 pub mod Granted
 pub mod FewLinks
-pub mod Turns
+pub mod ActiveCycles
 pub mod Sound
 pub mod Growth
 pub mod Orderly

@@ -8,7 +8,7 @@ use Rattle.cqf_model.specs.Domain.{Domain}
 use Rattle.cqf_model.specs.History.{IsLegalHistory, Recorded, streams_of}
 use Rattle.cqf_laws_history.specs.StateLaws.{ended_row}
 use Rattle.cqf_laws_history.proofs.Growth.{all_is, sound_now}
-use Rattle.cqf_laws_history.proofs.Places.{admitted_before, streams_front, with_end, withdrawn_before}
+use Rattle.cqf_laws_history.proofs.Indices.{admitted_before, streams_front, with_end, withdrawn_before}
 
 -- if rows are numbered by index from m on, the rows of other numbers stay
 pub others_stay : (xs : List Row) (m n c : ℕ) → ((k : ℕ) (row : Row) → slice_get xs k ≡ Some row → row.no ≡ m + k) → n < m → map (ended_row n c) xs ≡ xs

@@ -12,30 +12,30 @@ use Rattle.cqf_model.specs.declared.history.Reply.{Reply}
 use Rattle.cqf_model.specs.declared.history.Reply.TheVariants.{Accepted, Sealed, Refused as RefusedFor}
 use Rattle.cqf_model.specs.declared.topology.Row.{Row}
 use Rattle.cqf_model.specs.Domain.{Domain, budget}
-use Rattle.cqf_model.specs.History.{Act, Admits, IsLegalHistory, Recorded, Seals, Withdraws, is_seal, seal_places, seals, table_at, tables_of, withdrawal_by}
+use Rattle.cqf_model.specs.History.{Act, Admits, IsLegalHistory, Recorded, Seals, Withdraws, is_seal, seal_indices, seals, table_at, tables_of, withdrawal_by}
 use Rattle.cqf_model.specs.Table.{AreOrderly, IsTree, SameStream, is_held, is_live, link_cost, residence, table_of}
 use Rattle.cqf_lists.specs.Lists.{each_below}
 use Rattle.cqf_lists.proofs.Members.{contains_at, contains_cases, contains_filter, contains_from_filter, contains_from_map, contains_map, contains_none}
 use Rattle.cqf_lists.proofs.Pairs.{pairs_kept, pairs_none}
-use Rattle.cqf_lists.proofs.Places.{first_stays, nil_from_none}
+use Rattle.cqf_lists.proofs.Indices.{first_stays, nil_from_none}
 use Rattle.cqf_lists.proofs.EachBelow.{get_or-singles, length-singles}
 use Rattle.cqf_lists.proofs.Fronts.{each_front}
-use Rattle.cqf_laws_history.proofs.Places.{SealAt, admitted_at, admitted_before, entry_at, seal_at, sealed-suc, sealed_before, sealed_more, streams_front}
-use Rattle.cqf_laws_history.proofs.Places.{with_end, withdrawn_at, withdrawn_before}
+use Rattle.cqf_laws_history.proofs.Indices.{SealAt, admitted_at, admitted_before, entry_at, seal_at, sealed-suc, sealed_before, sealed_more, streams_front}
+use Rattle.cqf_laws_history.proofs.Indices.{with_end, withdrawn_at, withdrawn_before}
 use Rattle.cqf_laws_history.proofs.Sound.{Sound, held_before, sound}
 
 -- a closed table: the Seal's index, and the streams before it
 record Closed (d : Domain) (entries : List Recorded) (table : List Row) (cycle : ℕ) : Type 0 where
-  place : ℕ
-  seal : SealAt entries cycle place
-  sound_there : Sound d entries place
-  is : table ≡ filter (λ (row : Row). is_held row cycle) (map (with_end (withdrawn_before entries place)) (admitted_before d entries place))
+  index : ℕ
+  seal : SealAt entries cycle index
+  sound_there : Sound d entries index
+  is : table ≡ filter (λ (row : Row). is_held row cycle) (map (with_end (withdrawn_before entries index)) (admitted_before d entries index))
 
 -- a row of it comes from a stream that was admitted before the Seal
-record RowOf (d : Domain) (entries : List Recorded) (place cycle : ℕ) (row : Row) : Type 0 where
+record RowOf (d : Domain) (entries : List Recorded) (index cycle : ℕ) (row : Row) : Type 0 where
   stream : Row
-  admitted_there : Contains (admitted_before d entries place) stream
-  is : with_end (withdrawn_before entries place) stream ≡ row
+  admitted_there : Contains (admitted_before d entries index) stream
+  is : with_end (withdrawn_before entries index) stream ≡ row
   held : is_held row cycle ≡ true
 
 -- an entry that withdraws is no Seal, and it takes effect in the cycle of the Seals before it
@@ -53,25 +53,25 @@ effect_by effect number (Withdraws name) (Accepted receipt) x h = (refl, of_cycl
     of_cycle false k = absurd (contains_none x k)
 
 -- an entry that withdraws is no Seal, and it takes effect in the cycle of the Seals before it
-effect_at : (entries : List Recorded) (number place : ℕ) (x : Cycle) (e : Recorded) → slice_get entries place ≡ Some e →
-    Contains (withdrawn_at entries number place) x → (is_seal e.act ≡ false) × (x.0 ≡ sealed_before entries place)
-effect_at entries number place x e is h =
-    effect_by (sealed_before entries place) number e.act e.reply x
-    (subst (λ (o : Option Recorded). Contains (option_map_or (λ (y : Recorded). withdrawal_by (sealed_before entries place) number y.act y.reply) o []) x) is h)
+effect_at : (entries : List Recorded) (number index : ℕ) (x : Cycle) (e : Recorded) → slice_get entries index ≡ Some e →
+    Contains (withdrawn_at entries number index) x → (is_seal e.act ≡ false) × (x.0 ≡ sealed_before entries index)
+effect_at entries number index x e is h =
+    effect_by (sealed_before entries index) number e.act e.reply x
+    (subst (λ (o : Option Recorded). Contains (option_map_or (λ (y : Recorded). withdrawal_by (sealed_before entries index) number y.act y.reply) o []) x) is h)
 
 module _ (d : Domain) (entries : List Recorded) (cycles : ℕ) (legal : IsLegalHistory d entries) (few : cycles ≤ seals entries) where
   -- the table of a cycle that is run
   closed : (cycle : ℕ) → cycle < cycles → Closed d entries (table_of (tables_of d entries cycles) cycle) cycle
   closed cycle h =
-      let place = get_or (seal_places entries) cycle (length entries) in
+      let index = get_or (seal_indices entries) cycle (length entries) in
       let seal = seal_at entries cycle (omega (arith, h, few)) in
-      let within : place ≤ length entries = omega (arith, seal.inside) in
+      let within : index ≤ length entries = omega (arith, seal.inside) in
       record {
-        place = place;
+        index = index;
         seal = seal;
-        sound_there = sound d entries legal.replies place within;
+        sound_there = sound d entries legal.replies index within;
         is = get_or-singles (table_at d entries) cycles cycle [] h
-            ∙ ap (filter (λ (row : Row). is_held row cycle)) (streams_front entries place within d);
+            ∙ ap (filter (λ (row : Row). is_held row cycle)) (streams_front entries index within d);
       }
 
   -- only the table of a cycle that is run has rows
@@ -86,30 +86,30 @@ module _ (d : Domain) (entries : List Recorded) (cycles : ℕ) (legal : IsLegalH
 
   -- each row of a table is that of a stream admitted before its Seal
   row_of_table : (cycle : ℕ) (row : Row) (h : cycle < cycles) → Contains (table_of (tables_of d entries cycles) cycle) row →
-      RowOf d entries (closed cycle h).place cycle row
+      RowOf d entries (closed cycle h).index cycle row
   row_of_table cycle row h k =
       let t = closed cycle h in
       let held = λ (r : Row). is_held r cycle in
-      let kept = contains_from_filter held (map (with_end (withdrawn_before entries t.place)) (admitted_before d entries t.place)) row
+      let kept = contains_from_filter held (map (with_end (withdrawn_before entries t.index)) (admitted_before d entries t.index)) row
       (subst (λ (xs : List Row). Contains xs row) t.is k) in
-      let made = contains_from_map (with_end (withdrawn_before entries t.place)) (admitted_before d entries t.place) row kept.0 in
+      let made = contains_from_map (with_end (withdrawn_before entries t.index)) (admitted_before d entries t.index) row kept.0 in
       record { stream = made.0; admitted_there = made.1; is = made.2; held = kept.1 }
 
   -- a relation of any two held streams holds for each pair in a table
   pairs_of_table : (R : Row → Row → Type 0) →
-      ((place : ℕ) → Sound d entries place →
-      AllPairs (λ (a b : Row). held_before entries place a ≡ true → held_before entries place b ≡ true →
-      R (with_end (withdrawn_before entries place) a) (with_end (withdrawn_before entries place) b)) (admitted_before d entries place)) → (cycle : ℕ) →
+      ((index : ℕ) → Sound d entries index →
+      AllPairs (λ (a b : Row). held_before entries index a ≡ true → held_before entries index b ≡ true →
+      R (with_end (withdrawn_before entries index) a) (with_end (withdrawn_before entries index) b)) (admitted_before d entries index)) → (cycle : ℕ) →
       AllPairs R (table_of (tables_of d entries cycles) cycle)
   pairs_of_table R pairs cycle =
       elim (cases_lt cycle cycles) [
         | inl l ↦ (let t = closed cycle l in
-            let w = withdrawn_before entries t.place in
+            let w = withdrawn_before entries t.index in
             let there : AllPairs (λ (a b : Row). is_held (with_end w a) cycle ≡ true → is_held (with_end w b) cycle ≡ true → R (with_end w a) (with_end w b))
-            (admitted_before d entries t.place) =
+            (admitted_before d entries t.index) =
             subst (λ (c : ℕ). AllPairs (λ (a b : Row). is_held (with_end w a) c ≡ true → is_held (with_end w b) c ≡ true → R (with_end w a) (with_end w b))
-            (admitted_before d entries t.place)) t.seal.before (pairs t.place t.sound_there) in
-            subst (AllPairs R) (sym t.is) (pairs_kept R (with_end w) (λ (row : Row). is_held row cycle) (admitted_before d entries t.place) there))
+            (admitted_before d entries t.index)) t.seal.before (pairs t.index t.sound_there) in
+            subst (AllPairs R) (sym t.is) (pairs_kept R (with_end w) (λ (row : Row). is_held row cycle) (admitted_before d entries t.index) there))
         | inr g ↦ (let none : table_of (tables_of d entries cycles) cycle ≡ [] =
             get_or_past (tables_of d entries cycles) cycle [] (omega (arith, g, length-singles (table_at d entries) cycles)) in
             subst (AllPairs R) (sym none) (pairs_none R))
@@ -128,8 +128,8 @@ module _ (d : Domain) (entries : List Recorded) (cycles : ℕ) (legal : IsLegalH
       let rows = admitted_before d entries n in
       let there : slice_get rows i ≡ Some a = slice_get-get_or rows i a h ∙ ap (λ (r : Row). Some r) e in
       let here : slice_get rows j ≡ Some b = slice_get-get_or rows j b k ∙ ap (λ (r : Row). Some r) f in
-      let place : i ≡ j = sym (s.numbers i a there) ∙ same ∙ s.numbers j b here in
-      same_Some a b (sym there ∙ ap (λ (k : ℕ). slice_get rows k) place ∙ here)
+      let index : i ≡ j = sym (s.numbers i a there) ∙ same ∙ s.numbers j b here in
+      same_Some a b (sym there ∙ ap (λ (k : ℕ). slice_get rows k) index ∙ here)
 
   -- if a live stream is withdrawn later, it ends in a later cycle
   ends_later : (cycle n m : ℕ) (stream : Row) (x : Cycle) → n ≤ m → m ≤ length entries → SealAt entries cycle n →
@@ -196,8 +196,8 @@ module _ (d : Domain) (entries : List Recorded) (cycles : ℕ) (legal : IsLegalH
       let l = row_of_table later late k b in
       let number : Row → ℕ = λ r. r.no in
       let one : e.stream ≡ l.stream = one_admitted (length entries) (sound d entries legal.replies (length entries) (omega arith)) e.stream l.stream
-      (admitted_later (closed cycle h).place (length entries) (omega (arith, (closed cycle h).seal.inside)) e.stream e.admitted_there)
-      (admitted_later (closed later k).place (length entries) (omega (arith, (closed later k).seal.inside)) l.stream l.admitted_there)
+      (admitted_later (closed cycle h).index (length entries) (omega (arith, (closed cycle h).seal.inside)) e.stream e.admitted_there)
+      (admitted_later (closed later k).index (length entries) (omega (arith, (closed later k).seal.inside)) l.stream l.admitted_there)
       (ap number e.is ∙ same ∙ ap number (sym l.is)) in
       record {
         name = ap (λ (r : Row). r.name) (sym e.is) ∙ ap (λ (r : Row). r.name) one ∙ ap (λ (r : Row). r.name) l.is;
@@ -216,36 +216,36 @@ module _ (d : Domain) (entries : List Recorded) (cycles : ℕ) (legal : IsLegalH
       let r = row_of_table cycle row h a in
       let early = closed cycle h in
       let late = closed later k in
-      let in_order = seals_in_order cycle later early.place late.place after early.seal late.seal in
-      let w = withdrawn_before entries late.place in
-      let alive : is_live (with_end (withdrawn_before entries early.place) r.stream) cycle ≡ true = ap (λ (x : Row). is_live x cycle) r.is ∙ live in
+      let in_order = seals_in_order cycle later early.index late.index after early.seal late.seal in
+      let w = withdrawn_before entries late.index in
+      let alive : is_live (with_end (withdrawn_before entries early.index) r.stream) cycle ≡ true = ap (λ (x : Row). is_live x cycle) r.is ∙ live in
       let hops : later ≤ cycle + residence r.stream = subst (λ (x : Row). later ≤ cycle + residence x) (sym r.is) before in
-      let held = held_on cycle later early.place late.place r.stream in_order (omega (arith, late.seal.inside)) early.seal after hops alive in
-      let there = contains_map (with_end w) (admitted_before d entries late.place) r.stream
-      (admitted_later early.place late.place in_order r.stream r.admitted_there) in
-      let kept = contains_filter (λ (x : Row). is_held x later) (map (with_end w) (admitted_before d entries late.place)) (with_end w r.stream) there held in
+      let held = held_on cycle later early.index late.index r.stream in_order (omega (arith, late.seal.inside)) early.seal after hops alive in
+      let there = contains_map (with_end w) (admitted_before d entries late.index) r.stream
+      (admitted_later early.index late.index in_order r.stream r.admitted_there) in
+      let kept = contains_filter (λ (x : Row). is_held x later) (map (with_end w) (admitted_before d entries late.index)) (with_end w r.stream) there held in
       (with_end w r.stream, subst (λ (xs : List Row). Contains xs (with_end w r.stream)) (sym late.is) kept, ap (λ (x : Row). x.no) (sym r.is))
 
   -- what a table costs of a link is within its budget
-  loads_fit : (cycle l turn : ℕ) → link_cost (table_of (tables_of d entries cycles) cycle) l turn ≤ budget d l
-  loads_fit cycle l turn =
+  loads_fit : (cycle l active_cycle : ℕ) → link_cost (table_of (tables_of d entries cycles) cycle) l active_cycle ≤ budget d l
+  loads_fit cycle l active_cycle =
       elim (cases_lt cycle cycles) [
         | inl h ↦ (let t = closed cycle h in
             let there : link_cost (filter (λ (row : Row). is_held row cycle)
-            (map (with_end (withdrawn_before entries t.place)) (admitted_before d entries t.place))) l turn ≤ budget d l =
+            (map (with_end (withdrawn_before entries t.index)) (admitted_before d entries t.index))) l active_cycle ≤ budget d l =
             subst (λ (c : ℕ). link_cost (filter (λ (row : Row). is_held row c)
-            (map (with_end (withdrawn_before entries t.place)) (admitted_before d entries t.place))) l turn ≤ budget d l) t.seal.before
-            (t.sound_there.loads l turn) in
-            subst (λ (xs : List Row). link_cost xs l turn ≤ budget d l) (sym t.is) there)
+            (map (with_end (withdrawn_before entries t.index)) (admitted_before d entries t.index))) l active_cycle ≤ budget d l) t.seal.before
+            (t.sound_there.loads l active_cycle) in
+            subst (λ (xs : List Row). link_cost xs l active_cycle ≤ budget d l) (sym t.is) there)
         | inr g ↦ (let none : table_of (tables_of d entries cycles) cycle ≡ [] =
             get_or_past (tables_of d entries cycles) cycle [] (omega (arith, g, length-singles (table_at d entries) cycles)) in
-            subst (λ (xs : List Row). link_cost xs l turn ≤ budget d l) (sym none) (omega arith))
+            subst (λ (xs : List Row). link_cost xs l active_cycle ≤ budget d l) (sym none) (omega arith))
       ]
 
   -- the rows of a table are sorted by number
   pub rows_ascend : (cycle : ℕ) → AllPairs (λ (a b : Row). a.no < b.no) (table_of (tables_of d entries cycles) cycle)
-  rows_ascend cycle = pairs_of_table (λ (a b : Row). a.no < b.no) (λ place s i j e l m held_a held_b.
-      let rows = admitted_before d entries place in
+  rows_ascend cycle = pairs_of_table (λ (a b : Row). a.no < b.no) (λ index s i j e l m held_a held_b.
+      let rows = admitted_before d entries index in
       let early : (get_or rows i e).no ≡ i = s.numbers i (get_or rows i e) (slice_get-get_or rows i e (omega (arith, l, m))) in
       let late : (get_or rows j e).no ≡ j = s.numbers j (get_or rows j e) (slice_get-get_or rows j e m) in
       omega (arith, l, early, late)) cycle
@@ -259,8 +259,12 @@ module _ (d : Domain) (entries : List Recorded) (cycles : ℕ) (legal : IsLegalH
             let r = row_of_table cycle row h k in
             subst (λ (x : Row). IsTree d x.tree.items) r.is ((closed cycle h).sound_there.trees r.stream r.admitted_there);
         numbers = λ cycle i j e l m same. omega (arith, same, rows_ascend cycle i j e l m);
-        names = pairs_of_table (λ (a b : Row). a.name ≢ b.name) (λ place s. s.names);
+        names = pairs_of_table (λ (a b : Row). a.name ≢ b.name) (λ index s. s.names);
         one_stream = same_stream;
         stays = stays_on;
-        loads = λ cycle l turn h. loads_fit cycle l turn;
+        loads = λ cycle l active_cycle h. loads_fit cycle l active_cycle;
+        overheads = λ cycle row k.
+            let h = run_cycle cycle row k in
+            let r = row_of_table cycle row h k in
+            subst (λ (x : Row). x.overhead ≡ d.overhead) r.is ((closed cycle h).sound_there.overheads r.stream r.admitted_there);
       }

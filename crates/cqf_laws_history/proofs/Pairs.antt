@@ -14,8 +14,8 @@ use Rattle.cqf_units.specs.Timing.{cost_of}
 use Rattle.cqf_lists.specs.Lists.{each_below, least, or_else}
 use Rattle.cqf_lists.proofs.Any.{none_member, position_any}
 use Rattle.cqf_lists.proofs.EachBelow.{none_below}
-use Rattle.cqf_lists.proofs.Members.{any_member, contains_at, contains_flat, contains_from_flat, contains_here, contains_later, member_any, place_of_member}
-use Rattle.cqf_lists.proofs.Places.{first_stays, slice_get-take, slice_get_front}
+use Rattle.cqf_lists.proofs.Members.{any_member, contains_at, contains_flat, contains_from_flat, contains_here, contains_later, index_of_member, member_any}
+use Rattle.cqf_lists.proofs.Indices.{first_stays, slice_get-take, slice_get_front}
 use Rattle.cqf_model.specs.Limits.{hops_within, most_reserved, streams_within}
 use Rattle.cqf_model.specs.declared.history.Refused.{Refused}
 use Rattle.cqf_model.specs.declared.history.Refused.TheVariants.{BadPace}
@@ -25,15 +25,15 @@ use Rattle.cqf_model.specs.declared.topology.Node.{Node}
 use Rattle.cqf_model.specs.declared.topology.Row.{Row}
 use Rattle.cqf_model.specs.Domain.{Domain, is_text, node_named}
 use Rattle.cqf_model.specs.History.{is_pace, pace_of}
-use Rattle.cqf_model.specs.History.{Asked, Branch, are_apart, broken_place, first_place, is_bridge, is_broken_at, is_loop_at, is_stray}
+use Rattle.cqf_model.specs.History.{Asked, Branch, are_apart, broken_index, first_index, is_bridge, is_broken_at, is_loop_at, is_stray}
 use Rattle.cqf_model.specs.History.{left_on, make_a_tree, node_at, part, refusal_of, refused_at, refused_if, short_link, tree_of}
 use Rattle.cqf_model.proofs.Texts.{is_text_itself, is_text_same}
 use Rattle.cqf_laws_history.specs.BranchLaws.{HasNoEarlierFault, HaveTheirBeginningsOnce, IsFirstStray, LinksBoundHops, MakeOneTree, PairsAreTested}
 use Rattle.cqf_laws_history.specs.BranchLaws.{PairsHaveTheirBeginnings, PartAt, RefusedAsNoTree, StandsFrom, TreesAreMadeOfPairs}
 use Rattle.cqf_laws_history.proofs.Branches.{IsBranch, NoRepeat, is_branch, no_repeat, stands, two_at_least}
-use Rattle.cqf_laws_history.proofs.Places.{entry_at}
+use Rattle.cqf_laws_history.proofs.Indices.{entry_at}
 use Rattle.cqf_laws_history.proofs.FewLinks.{trees_have_few_links}
-use Rattle.cqf_laws_history.proofs.Granted.{AreOfForm, first_branch, first_place_none, form_is_tree, none_broken, refused_at_none, refused_if_none}
+use Rattle.cqf_laws_history.proofs.Granted.{AreOfForm, first_branch, first_index_none, form_is_tree, none_broken, refused_at_none, refused_if_none}
 use Rattle.cqf_laws_history.proofs.Trees.{make_tree}
 
 -- ---- two branches
@@ -53,13 +53,13 @@ record Part (xs ys : Branch) : Type 0 where
   apart : (name : List ℕ) → StandsFrom xs parting name → StandsFrom ys parting name → ⊥
 
 -- a name that a branch has after its first node is in the rest of the branch
-stands_rest : (x : List ℕ) (xs : Branch) (place : ℕ) (name : List ℕ) → StandsFrom (x ∷ xs) (suc place) name → StandsFrom xs place name
-stands_rest x xs place name s = by_place s.stand s.behind s.is
+stands_rest : (x : List ℕ) (xs : Branch) (index : ℕ) (name : List ℕ) → StandsFrom (x ∷ xs) (suc index) name → StandsFrom xs index name
+stands_rest x xs index name s = by_index s.stand s.following s.is
   where
     -- an index after the first is one of the rest
-    by_place : (stand : ℕ) → suc place ≤ stand → slice_get (x ∷ xs) stand ≡ Some name → StandsFrom xs place name
-    by_place zero h e = absurd (omega (arith, h))
-    by_place (suc stand) h e = record { stand = stand; behind = omega (arith, h); is = e }
+    by_index : (stand : ℕ) → suc index ≤ stand → slice_get (x ∷ xs) stand ≡ Some name → StandsFrom xs index name
+    by_index zero h e = absurd (omega (arith, h))
+    by_index (suc stand) h e = record { stand = stand; following = omega (arith, h); is = e }
 
 -- both branches with one more node at their beginning
 part_cons : (x y : List ℕ) (xs ys : Branch) → x ≡ y → Part xs ys → Part (x ∷ xs) (y ∷ ys)
@@ -108,34 +108,34 @@ are_apart_from xs ys apart = not_from_false (list_any (λ a. list_any (λ b. is_
     (false_from_ne_true (list_any (λ a. list_any (λ b. is_text a b) ys) xs) (λ t.
     let a = any_member (λ a. list_any (λ b. is_text a b) ys) xs t in
     let b = any_member (λ b. is_text a.0 b) ys a.2 in
-    let p = place_of_member xs a.0 a.1 in
-    let q = place_of_member ys b.0 b.1 in
+    let p = index_of_member xs a.0 a.1 in
+    let q = index_of_member ys b.0 b.1 in
     let same : a.0 ≡ b.0 = is_text_same a.0 b.0 b.2 in
-    apart a.0 (record { stand = p.0; behind = omega arith; is = p.1 })
-    (record { stand = q.0; behind = omega arith; is = q.1 ∙ ap (λ (n : List ℕ). Some n) (sym same) })))
+    apart a.0 (record { stand = p.0; following = omega arith; is = p.1 })
+    (record { stand = q.0; following = omega arith; is = q.1 ∙ ap (λ (n : List ℕ). Some n) (sym same) })))
 
 -- and branches that part for good pass the test
-to_part : (xs ys : Branch) (place : ℕ) → PartAt xs ys place →
-    ((name : List ℕ) → StandsFrom xs place name → StandsFrom ys place name → ⊥) → part xs ys ≡ true
-to_part [] ys place there apart = absurd (omega (arith, there.first_goes_on))
-to_part (x ∷ xs) [] place there apart = absurd (omega (arith, there.second_goes_on))
+to_part : (xs ys : Branch) (index : ℕ) → PartAt xs ys index →
+    ((name : List ℕ) → StandsFrom xs index name → StandsFrom ys index name → ⊥) → part xs ys ≡ true
+to_part [] ys index there apart = absurd (omega (arith, there.first_goes_on))
+to_part (x ∷ xs) [] index there apart = absurd (omega (arith, there.second_goes_on))
 to_part (x ∷ xs) (y ∷ ys) zero there apart =
     let other : is_text x y ≡ false =
     false_from_ne_true (is_text x y) (λ t. there.differ (ap (λ (n : List ℕ). Some n) (is_text_same x y t))) in
     ap (λ (b : Bool). if b then part xs ys else are_apart (x ∷ xs) (y ∷ ys)) other ∙ are_apart_from (x ∷ xs) (y ∷ ys) apart
-to_part (x ∷ xs) (y ∷ ys) (suc place) there apart =
-    let same : x ≡ y = first_same x y (take place xs) (take place ys) there.alike in
+to_part (x ∷ xs) (y ∷ ys) (suc index) there apart =
+    let same : x ≡ y = first_same x y (take index xs) (take index ys) there.alike in
     let test : is_text x y ≡ true = ap (is_text x) (sym same) ∙ is_text_itself x in
     ap (λ (b : Bool). if b then part xs ys else are_apart (x ∷ xs) (y ∷ ys)) test
-    ∙ to_part xs ys place
+    ∙ to_part xs ys index
     (record {
-      alike = rest_same x y (take place xs) (take place ys) there.alike;
+      alike = rest_same x y (take index xs) (take index ys) there.alike;
       first_goes_on = omega (arith, there.first_goes_on);
       second_goes_on = omega (arith, there.second_goes_on);
       differ = there.differ;
     })
-    (λ name s t. apart name (record { stand = suc s.stand; behind = omega (arith, s.behind); is = s.is })
-    (record { stand = suc t.stand; behind = omega (arith, t.behind); is = t.is }))
+    (λ name s t. apart name (record { stand = suc s.stand; following = omega (arith, s.following); is = s.is })
+    (record { stand = suc t.stand; following = omega (arith, t.following); is = t.is }))
 
 -- branches that have the same first node and then part make one tree
 one_tree : (x y : List ℕ) (xs ys : Branch) → x ≡ y → Part xs ys → MakeOneTree (x ∷ xs) (y ∷ ys)
@@ -153,24 +153,24 @@ one_tree x y xs ys same r = record {
 
 -- and if two branches make one tree, this holds for them
 rest_parts : (x y : List ℕ) (xs ys : Branch) (w : MakeOneTree (x ∷ xs) (y ∷ ys)) → (x ≡ y) × Part xs ys
-rest_parts x y xs ys w = by_place w.parting w.begin_alike w.part_there w.apart
+rest_parts x y xs ys w = by_index w.parting w.begin_alike w.part_there w.apart
   where
     -- if branches part after their first nodes, their rests part
-    by_place : (place : ℕ) → 0 < place → PartAt (x ∷ xs) (y ∷ ys) place →
-        ((name : List ℕ) → StandsFrom (x ∷ xs) place name → StandsFrom (y ∷ ys) place name → ⊥) → (x ≡ y) × Part xs ys
-    by_place zero some there apart = absurd (omega (arith, some))
-    by_place (suc place) some there apart = (
-      first_same x y (take place xs) (take place ys) there.alike,
+    by_index : (index : ℕ) → 0 < index → PartAt (x ∷ xs) (y ∷ ys) index →
+        ((name : List ℕ) → StandsFrom (x ∷ xs) index name → StandsFrom (y ∷ ys) index name → ⊥) → (x ≡ y) × Part xs ys
+    by_index zero some there apart = absurd (omega (arith, some))
+    by_index (suc index) some there apart = (
+      first_same x y (take index xs) (take index ys) there.alike,
       record {
-        parting = place;
+        parting = index;
         there = record {
-          alike = rest_same x y (take place xs) (take place ys) there.alike;
+          alike = rest_same x y (take index xs) (take index ys) there.alike;
           first_goes_on = omega (arith, there.first_goes_on);
           second_goes_on = omega (arith, there.second_goes_on);
           differ = there.differ;
         };
-        apart = λ name s t. apart name (record { stand = suc s.stand; behind = omega (arith, s.behind); is = s.is })
-            (record { stand = suc t.stand; behind = omega (arith, t.behind); is = t.is });
+        apart = λ name s t. apart name (record { stand = suc s.stand; following = omega (arith, s.following); is = s.is })
+            (record { stand = suc t.stand; following = omega (arith, t.following); is = t.is });
       },
     )
 
@@ -204,7 +204,7 @@ record IsBeginning (xs ys : Branch) : Type 0 where
 
 -- two branches are equal, or one is a prefix of the other, or they part
 abbrev Compared : Branch → Branch → Type 0
-Compared xs ys = (xs ≡ ys) ⊎ (IsBeginning xs ys ⊎ (IsBeginning ys xs ⊎ ((place : ℕ) × PartAt xs ys place)))
+Compared xs ys = (xs ≡ ys) ⊎ (IsBeginning xs ys ⊎ (IsBeginning ys xs ⊎ ((index : ℕ) × PartAt xs ys index)))
 
 -- both branches with one more node at their beginning
 compared_cons : (x y : List ℕ) (xs ys : Branch) → x ≡ y → Compared xs ys → Compared (x ∷ xs) (y ∷ ys)
@@ -273,12 +273,12 @@ one_has_beginnings xs ys no_x no_y w = record {
 }
 
 -- if branches part that have their beginnings once, they part for good
-part_for_good : (xs ys : Branch) (place : ℕ) → HaveTheirBeginningsOnce xs ys → PartAt xs ys place → MakeOneTree xs ys
-part_for_good xs ys place h there = record {
-  parting = place;
-  begin_alike = elim (cases_lt 0 place) [
+part_for_good : (xs ys : Branch) (index : ℕ) → HaveTheirBeginningsOnce xs ys → PartAt xs ys index → MakeOneTree xs ys
+part_for_good xs ys index h there = record {
+  parting = index;
+  begin_alike = elim (cases_lt 0 index) [
     | inl l ↦ l
-    | inr g ↦ (let z : place ≡ 0 = omega (arith, g) in
+    | inr g ↦ (let z : index ≡ 0 = omega (arith, g) in
         absurd (there.differ (ap (λ (k : ℕ). slice_get xs k) z ∙ h.begin ∙ ap (λ (k : ℕ). slice_get ys k) (sym z))))
   ];
   part_there = there;
@@ -288,10 +288,10 @@ part_for_good xs ys place h there = record {
       let in_y = slice_get_within ys t.stand name t.is in
       let same : s.stand ≡ t.stand =
       sym (length-take-le s.stand xs (omega (arith, in_x))) ∙ ap (λ (b : Branch). length b) e ∙ length-take-le t.stand ys (omega (arith, in_y)) in
-      elim (cases_lt place s.stand) [
-        | inl l ↦ there.differ (sym (slice_get-take xs s.stand place l) ∙ ap (λ (b : Branch). slice_get b place) e
-            ∙ slice_get-take ys t.stand place (omega (arith, l, same)))
-        | inr g ↦ (let here : s.stand ≡ place = omega (arith, g, s.behind) in
+      elim (cases_lt index s.stand) [
+        | inl l ↦ there.differ (sym (slice_get-take xs s.stand index l) ∙ ap (λ (b : Branch). slice_get b index) e
+            ∙ slice_get-take ys t.stand index (omega (arith, l, same)))
+        | inr g ↦ (let here : s.stand ≡ index = omega (arith, g, s.following) in
             there.differ (ap (λ (k : ℕ). slice_get xs k) (sym here) ∙ s.is ∙ sym t.is ∙ ap (λ (k : ℕ). slice_get ys k) (sym same ∙ here)))
       ];
 }
@@ -381,44 +381,44 @@ least_from test n k e = elim (least_there test n) [
     never i h = cc
 
 -- a branch is stray exactly if one of the branches before it makes no tree with it
-stray_is : (paths : List Branch) (place : ℕ) (branch : Branch) → slice_get paths place ≡ Some branch →
-    is_stray paths place ≡ list_any (λ b. not (make_a_tree b branch)) (take place paths)
-stray_is paths place branch e =
-    ap (λ (o : Option Branch). option_map_or (λ y. list_any (λ b. not (make_a_tree b y)) (take place paths)) o false) e
+stray_is : (paths : List Branch) (index : ℕ) (branch : Branch) → slice_get paths index ≡ Some branch →
+    is_stray paths index ≡ list_any (λ b. not (make_a_tree b branch)) (take index paths)
+stray_is paths index branch e =
+    ap (λ (o : Option Branch). option_map_or (λ y. list_any (λ b. not (make_a_tree b y)) (take index paths)) o false) e
 
 -- a branch that makes no tree with one before it
-record IsStray (paths : List Branch) (place : ℕ) : Type 0 where
+record IsStray (paths : List Branch) (index : ℕ) : Type 0 where
   branch : Branch
-  here : slice_get paths place ≡ Some branch
+  here : slice_get paths index ≡ Some branch
   earlier : ℕ
-  before : earlier < place
+  before : earlier < index
   other : Branch
   there : slice_get paths earlier ≡ Some other
   no_tree : make_a_tree other branch ≡ false
 
 -- if the test calls a branch stray, it is stray
-stray_there : (paths : List Branch) (place : ℕ) → place < length paths → is_stray paths place ≡ true → IsStray paths place
-stray_there paths place inside e =
-    let here = entry_at paths place inside in
-    let m = any_member (λ b. not (make_a_tree b here.0)) (take place paths) (sym (stray_is paths place here.0 here.1) ∙ e) in
-    let p = place_of_member (take place paths) m.0 m.1 in
-    let l : p.0 < place = omega (arith, slice_get_within (take place paths) p.0 m.0 p.1, length-take-le place paths (omega (arith, inside))) in
+stray_there : (paths : List Branch) (index : ℕ) → index < length paths → is_stray paths index ≡ true → IsStray paths index
+stray_there paths index inside e =
+    let here = entry_at paths index inside in
+    let m = any_member (λ b. not (make_a_tree b here.0)) (take index paths) (sym (stray_is paths index here.0 here.1) ∙ e) in
+    let p = index_of_member (take index paths) m.0 m.1 in
+    let l : p.0 < index = omega (arith, slice_get_within (take index paths) p.0 m.0 p.1, length-take-le index paths (omega (arith, inside))) in
     record {
       branch = here.0;
       here = here.1;
       earlier = p.0;
       before = l;
       other = m.0;
-      there = sym (slice_get-take paths place p.0 l) ∙ p.1;
+      there = sym (slice_get-take paths index p.0 l) ∙ p.1;
       no_tree = not-true (make_a_tree m.0 here.0) m.2;
     }
 
 -- and if it is stray, the test says so
-stray_from : (paths : List Branch) (place : ℕ) → IsStray paths place → is_stray paths place ≡ true
-stray_from paths place s =
-    stray_is paths place s.branch s.here
-    ∙ member_any (λ b. not (make_a_tree b s.branch)) (take place paths) s.other
-    (contains_at (take place paths) s.earlier s.other (slice_get-take paths place s.earlier s.before ∙ s.there))
+stray_from : (paths : List Branch) (index : ℕ) → IsStray paths index → is_stray paths index ≡ true
+stray_from paths index s =
+    stray_is paths index s.branch s.here
+    ∙ member_any (λ b. not (make_a_tree b s.branch)) (take index paths) s.other
+    (contains_at (take index paths) s.earlier s.other (slice_get-take paths index s.earlier s.before ∙ s.there))
     (not_from_false (make_a_tree s.other s.branch) s.no_tree)
 
 -- a branch that isn't stray makes a tree with each before it
@@ -431,9 +431,9 @@ not_stray paths i j xs ys l e f passed = tested xs ys (elim (cases_Bool (make_a_
 ])
 
 -- the first stray branch is the least index that the test calls stray
-first_from : (paths : List Branch) (place : ℕ) → IsLeast (is_stray paths) (length paths) place → IsFirstStray paths place
-first_from paths place w =
-    let s = stray_there paths place w.inside w.passes in
+first_from : (paths : List Branch) (index : ℕ) → IsLeast (is_stray paths) (length paths) index → IsFirstStray paths index
+first_from paths index w =
+    let s = stray_there paths index w.inside w.passes in
     record {
       branch = s.branch;
       here = s.here;
@@ -446,12 +446,12 @@ first_from paths place w =
     }
 
 -- and conversely
-first_to : (paths : List Branch) (place : ℕ) → IsFirstStray paths place → IsLeast (is_stray paths) (length paths) place
-first_to paths place w =
-    let inside = slice_get_within paths place w.branch w.here in
+first_to : (paths : List Branch) (index : ℕ) → IsFirstStray paths index → IsLeast (is_stray paths) (length paths) index
+first_to paths index w =
+    let inside = slice_get_within paths index w.branch w.here in
     record {
       inside = inside;
-      passes = stray_from paths place (record {
+      passes = stray_from paths index (record {
         branch = w.branch;
         here = w.here;
         earlier = w.earlier;
@@ -489,9 +489,9 @@ other_at f None r other e = cc
 other_at f (Some k) r other e = other k (same_Some (f k) r e)
 
 -- the index in a refusal for no tree
-at_place : (o : Option ℕ) (place : ℕ) → refused_at (λ branch. NotATree branch) o ≡ Some (NotATree place) → o ≡ Some place
-at_place None place e = absurd cc
-at_place (Some k) place e = let same : k ≡ place = cc in ap (λ (i : ℕ). Some i) same
+at_index : (o : Option ℕ) (index : ℕ) → refused_at (λ branch. NotATree branch) o ≡ Some (NotATree index) → o ≡ Some index
+at_index None index e = absurd cc
+at_index (Some k) index e = let same : k ≡ index = cc in ap (λ (i : ℕ). Some i) same
 
 -- the refusals that follow the refusal for no tree
 abbrev later : Domain → List Row → Asked → Option Refused
@@ -500,22 +500,22 @@ later d rows asked =
     (or_else (refused_if (list_any (λ (row : Row). is_text row.name asked.name) rows) NameHeld)
     (or_else (refused_if (nat_le (streams_within d.limits) (length rows)) TooManyStreams)
     (refused_at (λ l. BudgetShort l (left_on d rows (tree_of d asked.paths) (pace_of asked) l))
-    (short_link d rows (cost_of asked.octets) (pace_of asked) (tree_of d asked.paths)))))
+    (short_link d rows (cost_of d.overhead asked.octets) (pace_of asked) (tree_of d asked.paths)))))
 
 -- none of them is the refusal for no tree
-later_is_other : (d : Domain) (rows : List Row) (asked : Asked) (place : ℕ) → later d rows asked ≡ Some (NotATree place) → ⊥
-later_is_other d rows asked place =
+later_is_other : (d : Domain) (rows : List Row) (asked : Asked) (index : ℕ) → later d rows asked ≡ Some (NotATree index) → ⊥
+later_is_other d rows asked index =
     let budget_short = refused_at (λ l. BudgetShort l (left_on d rows (tree_of d asked.paths) (pace_of asked) l))
-    (short_link d rows (cost_of asked.octets) (pace_of asked) (tree_of d asked.paths)) in
+    (short_link d rows (cost_of d.overhead asked.octets) (pace_of asked) (tree_of d asked.paths)) in
     let many = refused_if (nat_le (streams_within d.limits) (length rows)) TooManyStreams in
     let held = refused_if (list_any (λ (row : Row). is_text row.name asked.name) rows) NameHeld in
-    neither (refused_if (nat_lt (hops_within d.limits) (length (tree_of d asked.paths))) TooManyHops) (or_else held (or_else many budget_short)) (NotATree place)
-    (other_if (nat_lt (hops_within d.limits) (length (tree_of d asked.paths))) TooManyHops (NotATree place) (λ e. cc))
-    (neither held (or_else many budget_short) (NotATree place)
-    (other_if (list_any (λ (row : Row). is_text row.name asked.name) rows) NameHeld (NotATree place) (λ e. cc))
-    (neither many budget_short (NotATree place) (other_if (nat_le (streams_within d.limits) (length rows)) TooManyStreams (NotATree place) (λ e. cc))
+    neither (refused_if (nat_lt (hops_within d.limits) (length (tree_of d asked.paths))) TooManyHops) (or_else held (or_else many budget_short)) (NotATree index)
+    (other_if (nat_lt (hops_within d.limits) (length (tree_of d asked.paths))) TooManyHops (NotATree index) (λ e. cc))
+    (neither held (or_else many budget_short) (NotATree index)
+    (other_if (list_any (λ (row : Row). is_text row.name asked.name) rows) NameHeld (NotATree index) (λ e. cc))
+    (neither many budget_short (NotATree index) (other_if (nat_le (streams_within d.limits) (length rows)) TooManyStreams (NotATree index) (λ e. cc))
     (other_at (λ l. BudgetShort l (left_on d rows (tree_of d asked.paths) (pace_of asked) l))
-    (short_link d rows (cost_of asked.octets) (pace_of asked) (tree_of d asked.paths)) (NotATree place) (λ k e. cc))))
+    (short_link d rows (cost_of d.overhead asked.octets) (pace_of asked) (tree_of d asked.paths)) (NotATree index) (λ k e. cc))))
 
 -- the refusal for no tree
 abbrev stray : Asked → Option Refused
@@ -533,17 +533,17 @@ record AreNone (d : Domain) (asked : Asked) : Type 0 where
   name : refused_if (not (is_name asked.name)) BadName ≡ None
   octets : refused_if (not (in_range asked)) BadOctets ≡ None
   pace : refused_if (not (is_pace asked.every asked.phase)) BadPace ≡ None
-  known : refused_at (λ place. UnknownNode place) (unknown d asked) ≡ None
-  whole : refused_at (λ place. BrokenPath place) (broken_place d asked.paths) ≡ None
-  simple : refused_at (λ place. LoopingPath place) (first_place (is_loop_at d) asked.paths) ≡ None
+  known : refused_at (λ index. UnknownNode index) (unknown d asked) ≡ None
+  whole : refused_at (λ index. BrokenPath index) (broken_index d asked.paths) ≡ None
+  simple : refused_at (λ index. LoopingPath index) (first_index (is_loop_at d) asked.paths) ≡ None
 
 -- if none of them is due, the later refusals decide
 are_left : (d : Domain) (rows : List Row) (asked : Asked) → AreNone d asked → refusal_of d rows asked ≡ or_else (stray asked) (later d rows asked)
 are_left d rows asked n =
     let left = or_else (stray asked) (later d rows asked) in
-    let simple = or_else (refused_at (λ place. LoopingPath place) (first_place (is_loop_at d) asked.paths)) left in
-    let whole = or_else (refused_at (λ place. BrokenPath place) (broken_place d asked.paths)) simple in
-    let known = or_else (refused_at (λ place. UnknownNode place) (unknown d asked)) whole in
+    let simple = or_else (refused_at (λ index. LoopingPath index) (first_index (is_loop_at d) asked.paths)) left in
+    let whole = or_else (refused_at (λ index. BrokenPath index) (broken_index d asked.paths)) simple in
+    let known = or_else (refused_at (λ index. UnknownNode index) (unknown d asked)) whole in
     let pace = or_else (refused_if (not (is_pace asked.every asked.phase)) BadPace) known in
     let octets = or_else (refused_if (not (in_range asked)) BadOctets) pace in
     ap (λ (o : Option Refused). or_else o octets) n.name
@@ -567,8 +567,8 @@ came_to : (d : Domain) (rows : List Row) (asked : Asked) (r : Refused) → IsLat
     AreNone d asked × (or_else (stray asked) (later d rows asked) ≡ Some r)
 came_to d rows asked r late e =
     let left = or_else (stray asked) (later d rows asked) in
-    let looping = refused_at (λ k. LoopingPath k) (first_place (is_loop_at d) asked.paths) in
-    let broken = refused_at (λ k. BrokenPath k) (broken_place d asked.paths) in
+    let looping = refused_at (λ k. LoopingPath k) (first_index (is_loop_at d) asked.paths) in
+    let broken = refused_at (λ k. BrokenPath k) (broken_index d asked.paths) in
     let strange = refused_at (λ k. UnknownNode k) (unknown d asked) in
     let of_pace = refused_if (not (is_pace asked.every asked.phase)) BadPace in
     let of_octets = refused_if (not (in_range asked)) BadOctets in
@@ -581,13 +581,13 @@ came_to d rows asked r late e =
     let b = passed of_octets paced r (other_if (not (in_range asked)) BadOctets r late.octets) a.1 in
     let p = passed of_pace known r (other_if (not (is_pace asked.every asked.phase)) BadPace r late.pace) b.1 in
     let c = passed strange whole r (other_at (λ k. UnknownNode k) (unknown d asked) r late.known) p.1 in
-    let f = passed broken simple r (other_at (λ k. BrokenPath k) (broken_place d asked.paths) r late.whole) c.1 in
-    let g = passed looping left r (other_at (λ k. LoopingPath k) (first_place (is_loop_at d) asked.paths) r late.simple) f.1 in
+    let f = passed broken simple r (other_at (λ k. BrokenPath k) (broken_index d asked.paths) r late.whole) c.1 in
+    let g = passed looping left r (other_at (λ k. LoopingPath k) (first_index (is_loop_at d) asked.paths) r late.simple) f.1 in
     (record { name = a.0; octets = b.0; pace = p.0; known = c.0; whole = f.0; simple = g.0 }, g.1)
 
 -- the refusal for no tree is such a later one, and so is that for too many hops
-no_tree_is_late : (place : ℕ) → IsLate (NotATree place)
-no_tree_is_late place = record { name = λ e. cc; octets = λ e. cc; pace = λ e. cc; known = λ k e. cc; whole = λ k e. cc; simple = λ k e. cc }
+no_tree_is_late : (index : ℕ) → IsLate (NotATree index)
+no_tree_is_late index = record { name = λ e. cc; octets = λ e. cc; pace = λ e. cc; known = λ k e. cc; whole = λ k e. cc; simple = λ k e. cc }
 
 many_hops_are_late : IsLate TooManyHops
 many_hops_are_late = record { name = λ e. cc; octets = λ e. cc; pace = λ e. cc; known = λ k e. cc; whole = λ k e. cc; simple = λ k e. cc }
@@ -600,9 +600,9 @@ in_order d asked n =
     let names = flat_map (λ (branch : Branch). branch) asked.paths in
     let none_unknown : list_any (λ name. is_none (node_named d name)) names ≡ false =
     sym (position_any (λ name. is_none (node_named d name)) names)
-    ∙ ap (λ (o : Option ℕ). is_some o) (refused_at_none (λ place. UnknownNode place) (unknown d asked) n.known) in
-    let not_broken = refused_at_none (λ place. BrokenPath place) (broken_place d asked.paths) n.whole in
-    let not_looping = refused_at_none (λ place. LoopingPath place) (first_place (is_loop_at d) asked.paths) n.simple in
+    ∙ ap (λ (o : Option ℕ). is_some o) (refused_at_none (λ index. UnknownNode index) (unknown d asked) n.known) in
+    let not_broken = refused_at_none (λ index. BrokenPath index) (broken_index d asked.paths) n.whole in
+    let not_looping = refused_at_none (λ index. LoopingPath index) (first_index (is_loop_at d) asked.paths) n.simple in
     record {
       named = not-false (is_name asked.name) (refused_if_none (not (is_name asked.name)) BadName n.name);
       least_octets = leb-true 64 asked.octets range.0;
@@ -612,23 +612,23 @@ in_order d asked n =
       known = λ branch name c k e. both_ways (is_none (node_named d name))
           (none_member (λ a. is_none (node_named d a)) names name none_unknown (contains_flat (λ (b : Branch). b) asked.paths branch name c k))
           (ap (λ (o : Option Node). is_none o) e);
-      whole = λ branch place c l.
-          first_place_none (is_broken_at d) asked.paths (none_broken d asked.paths not_broken) branch c place (omega (arith, l));
-      simple = λ branch place c l. first_place_none (is_loop_at d) asked.paths not_looping branch c place (omega (arith, l));
+      whole = λ branch index c l.
+          first_index_none (is_broken_at d) asked.paths (none_broken d asked.paths not_broken) branch c index (omega (arith, l));
+      simple = λ branch index c l. first_index_none (is_loop_at d) asked.paths not_looping branch c index (omega (arith, l));
     }
 
 -- if no index fails, there is no first one
-no_first_place : (fails : Branch → ℕ → Bool) (paths : List Branch) →
-    ((branch : Branch) (place : ℕ) → Contains paths branch → place ≤ length branch → fails branch place ≡ false) → first_place fails paths ≡ None
-no_first_place fails [] h = refl
-no_first_place fails (x ∷ paths) h =
-    ap (λ (o : Option ℕ). or_else o (option_map (λ place. length x + place) (first_place fails paths)))
+no_first_index : (fails : Branch → ℕ → Bool) (paths : List Branch) →
+    ((branch : Branch) (index : ℕ) → Contains paths branch → index ≤ length branch → fails branch index ≡ false) → first_index fails paths ≡ None
+no_first_index fails [] h = refl
+no_first_index fails (x ∷ paths) h =
+    ap (λ (o : Option ℕ). or_else o (option_map (λ index. length x + index) (first_index fails paths)))
     (none_least (fails x) (length x + 1) (λ k l. h x k (contains_here x paths) (omega (arith, l))))
-    ∙ ap (λ (o : Option ℕ). option_map (λ place. length x + place) o)
-    (no_first_place fails paths (λ branch place c l. h branch place (contains_later x paths branch c) l))
+    ∙ ap (λ (o : Option ℕ). option_map (λ index. length x + index) o)
+    (no_first_index fails paths (λ branch index c l. h branch index (contains_later x paths branch c) l))
 
--- the broken place of some branches is the first one of a broken branch
-broken_is : (d : Domain) (paths : List Branch) → 0 < length paths → broken_place d paths ≡ first_place (is_broken_at d) paths
+-- the broken index of some branches is the first one of a broken branch
+broken_is : (d : Domain) (paths : List Branch) → 0 < length paths → broken_index d paths ≡ first_index (is_broken_at d) paths
 broken_is d [] h = absurd (omega (arith, h))
 broken_is d (branch ∷ paths) h = refl
 
@@ -656,37 +656,37 @@ are_none d asked h =
       name = ap (λ (b : Bool). refused_if (not b) BadName) h.named;
       octets = ap (λ (b : Bool). refused_if (not b) BadOctets) range;
       pace = ap (λ (b : Bool). refused_if (not b) BadPace) h.paced;
-      known = ap (λ (o : Option ℕ). refused_at (λ place. UnknownNode place) o) (no_position (λ name. is_none (node_named d name)) names none_unknown);
-      whole = ap (λ (o : Option ℕ). refused_at (λ place. BrokenPath place) o)
-          (broken_is d asked.paths h.some_branch ∙ no_first_place (is_broken_at d) asked.paths h.whole);
-      simple = ap (λ (o : Option ℕ). refused_at (λ place. LoopingPath place) o) (no_first_place (is_loop_at d) asked.paths h.simple);
+      known = ap (λ (o : Option ℕ). refused_at (λ index. UnknownNode index) o) (no_position (λ name. is_none (node_named d name)) names none_unknown);
+      whole = ap (λ (o : Option ℕ). refused_at (λ index. BrokenPath index) o)
+          (broken_is d asked.paths h.some_branch ∙ no_first_index (is_broken_at d) asked.paths h.whole);
+      simple = ap (λ (o : Option ℕ). refused_at (λ index. LoopingPath index) o) (no_first_index (is_loop_at d) asked.paths h.simple);
     }
 
 -- a refusal for no tree is that of the first stray branch
-stray_place : (d : Domain) (rows : List Row) (asked : Asked) (place : ℕ) → or_else (stray asked) (later d rows asked) ≡ Some (NotATree place) →
-    least (is_stray asked.paths) (length asked.paths) ≡ Some place
-stray_place d rows asked place e = at_place (least (is_stray asked.paths) (length asked.paths)) place (first_one (stray asked) e)
+stray_index : (d : Domain) (rows : List Row) (asked : Asked) (index : ℕ) → or_else (stray asked) (later d rows asked) ≡ Some (NotATree index) →
+    least (is_stray asked.paths) (length asked.paths) ≡ Some index
+stray_index d rows asked index e = at_index (least (is_stray asked.paths) (length asked.paths)) index (first_one (stray asked) e)
   where
     -- it isn't one of those that follow
-    first_one : (o : Option Refused) → or_else o (later d rows asked) ≡ Some (NotATree place) → o ≡ Some (NotATree place)
-    first_one None f = absurd (later_is_other d rows asked place f)
+    first_one : (o : Option Refused) → or_else o (later d rows asked) ≡ Some (NotATree index) → o ≡ Some (NotATree index)
+    first_one None f = absurd (later_is_other d rows asked index f)
     first_one (Some x) f = f
 
 -- if no earlier refusal applies, a request is refused for exactly the first branch that makes no tree
 pub refused_as_no_tree : RefusedAsNoTree
-refused_as_no_tree d rows asked place = (
+refused_as_no_tree d rows asked index = (
   λ e.
-      let r = came_to d rows asked (NotATree place) (no_tree_is_late place) e in
-      (in_order d asked r.0, first_from asked.paths place (least_from (is_stray asked.paths) (length asked.paths) place (stray_place d rows asked place r.1))),
+      let r = came_to d rows asked (NotATree index) (no_tree_is_late index) e in
+      (in_order d asked r.0, first_from asked.paths index (least_from (is_stray asked.paths) (length asked.paths) index (stray_index d rows asked index r.1))),
   λ w.
       are_left d rows asked (are_none d asked w.0)
       ∙ ap (λ (o : Option ℕ). or_else (refused_at (λ branch. NotATree branch) o) (later d rows asked))
-      (least_is (is_stray asked.paths) (length asked.paths) place (first_to asked.paths place w.1)),
+      (least_is (is_stray asked.paths) (length asked.paths) index (first_to asked.paths index w.1)),
 )
 
 -- if a request is refused for no branch, none is stray
 none_stray : (d : Domain) (rows : List Row) (asked : Asked) → HasNoEarlierFault d asked →
-    ((place : ℕ) → refusal_of d rows asked ≡ Some (NotATree place) → ⊥) → (k : ℕ) → k < length asked.paths → is_stray asked.paths k ≡ false
+    ((index : ℕ) → refusal_of d rows asked ≡ Some (NotATree index) → ⊥) → (k : ℕ) → k < length asked.paths → is_stray asked.paths k ≡ false
 none_stray d rows asked h never = elim (least_there (is_stray asked.paths) (length asked.paths)) [
   | inl none ↦ none
   | inr r ↦ absurd (never r.0 ((refused_as_no_tree d rows asked r.0).1 (h, first_from asked.paths r.0 r.1)))
@@ -698,13 +698,13 @@ trees_are_made_of_pairs d rows asked h = (
   λ never i j b l inside.
       not_stray asked.paths i j (get_or asked.paths i b) (get_or asked.paths j b) l (slice_get-get_or asked.paths i b (omega (arith, l, inside)))
       (slice_get-get_or asked.paths j b inside) (none_stray d rows asked h never j inside),
-  λ pairs place e.
-      let w = ((refused_as_no_tree d rows asked place).0 e).1 in
-      let inside = slice_get_within asked.paths place w.branch w.here in
+  λ pairs index e.
+      let w = ((refused_as_no_tree d rows asked index).0 e).1 in
+      let inside = slice_get_within asked.paths index w.branch w.here in
       w.no_tree
       (subst (λ (x : Branch). MakeOneTree x w.branch) (get_or_from_slice_get asked.paths w.earlier w.other w.branch w.there)
-      (subst (λ (x : Branch). MakeOneTree (get_or asked.paths w.earlier w.branch) x) (get_or_from_slice_get asked.paths place w.branch w.branch w.here)
-      (pairs w.earlier place w.branch w.before inside))),
+      (subst (λ (x : Branch). MakeOneTree (get_or asked.paths w.earlier w.branch) x) (get_or_from_slice_get asked.paths index w.branch w.branch w.here)
+      (pairs w.earlier index w.branch w.before inside))),
 )
 
 -- ---- too many hops
@@ -716,9 +716,9 @@ form_of_many d rows asked e =
     let no_stray = passed (stray asked) (later d rows asked) TooManyHops
     (other_at (λ branch. NotATree branch) (least (is_stray asked.paths) (length asked.paths)) TooManyHops (λ k f. cc)) r.1 in
     record {
-      known = refused_at_none (λ place. UnknownNode place) (unknown d asked) r.0.known;
-      whole = refused_at_none (λ place. BrokenPath place) (broken_place d asked.paths) r.0.whole;
-      simple = refused_at_none (λ place. LoopingPath place) (first_place (is_loop_at d) asked.paths) r.0.simple;
+      known = refused_at_none (λ index. UnknownNode index) (unknown d asked) r.0.known;
+      whole = refused_at_none (λ index. BrokenPath index) (broken_index d asked.paths) r.0.whole;
+      simple = refused_at_none (λ index. LoopingPath index) (first_index (is_loop_at d) asked.paths) r.0.simple;
       together = refused_at_none (λ branch. NotATree branch) (least (is_stray asked.paths) (length asked.paths)) no_stray.0;
     }
 
@@ -728,7 +728,7 @@ more_than_may : (d : Domain) (rows : List Row) (asked : Asked) → refusal_of d 
 more_than_may d rows asked e =
     let r = came_to d rows asked TooManyHops many_hops_are_late e in
     let budget_short = refused_at (λ l. BudgetShort l (left_on d rows (tree_of d asked.paths) (pace_of asked) l))
-    (short_link d rows (cost_of asked.octets) (pace_of asked) (tree_of d asked.paths)) in
+    (short_link d rows (cost_of d.overhead asked.octets) (pace_of asked) (tree_of d asked.paths)) in
     let many = refused_if (nat_le (streams_within d.limits) (length rows)) TooManyStreams in
     let held = refused_if (list_any (λ (row : Row). is_text row.name asked.name) rows) NameHeld in
     let no_stray = passed (stray asked) (later d rows asked) TooManyHops
@@ -738,7 +738,7 @@ more_than_may d rows asked e =
     (other_if (list_any (λ (row : Row). is_text row.name asked.name) rows) NameHeld TooManyHops (λ f. cc))
     (neither many budget_short TooManyHops (other_if (nat_le (streams_within d.limits) (length rows)) TooManyStreams TooManyHops (λ f. cc))
     (other_at (λ l. BudgetShort l (left_on d rows (tree_of d asked.paths) (pace_of asked) l))
-    (short_link d rows (cost_of asked.octets) (pace_of asked) (tree_of d asked.paths)) TooManyHops (λ k f. cc)))) no_stray.1
+    (short_link d rows (cost_of d.overhead asked.octets) (pace_of asked) (tree_of d asked.paths)) TooManyHops (λ k f. cc)))) no_stray.1
   where
     -- if no later refusal is this one, its test holds
     due : (b : Bool) → nat_lt (hops_within d.limits) (length (tree_of d asked.paths)) ≡ b → (rest : Option Refused) →

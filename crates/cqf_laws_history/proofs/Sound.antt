@@ -24,15 +24,15 @@ use Rattle.cqf_model.specs.Table.{IsTree, cost_on, is_held, link_cost, links_of,
 use Rattle.cqf_lists.proofs.Members.{contains_cases, contains_filter, contains_from_filter, contains_from_map, contains_here, contains_later, contains_map}
 use Rattle.cqf_lists.proofs.Members.{contains_none}
 use Rattle.cqf_lists.proofs.Pairs.{pairs_none, pairs_push, pairs_weaker}
-use Rattle.cqf_lists.proofs.Places.{first_stays, slice_get_behind, slice_get_front}
+use Rattle.cqf_lists.proofs.Indices.{first_stays, slice_get_after, slice_get_front}
 use Rattle.cqf_model.proofs.Texts.{is_text_itself}
 use Rattle.cqf_laws_history.specs.StateLaws.{granted_row}
 use Rattle.cqf_model.specs.declared.topology.Hop.{Hop}
 use Rattle.cqf_model.specs.declared.topology.Pace.{Pace}
-use Rattle.cqf_laws_history.proofs.Turns.{IsPaced, cost_within_most, paced, used_is_crossed}
+use Rattle.cqf_laws_history.proofs.ActiveCycles.{IsPaced, cost_within_most, paced, used_is_crossed}
 use Rattle.cqf_laws_history.proofs.Granted.{IsGranted, granted, is_tree}
-use Rattle.cqf_laws_history.proofs.Places.{admitted_at, admitted_before, entry_at, sealed_before, sealed_more, streams_front, with_end, withdrawn_at}
-use Rattle.cqf_laws_history.proofs.Places.{withdrawn_before}
+use Rattle.cqf_laws_history.proofs.Indices.{admitted_at, admitted_before, entry_at, sealed_before, sealed_more, streams_front, with_end, withdrawn_at}
+use Rattle.cqf_laws_history.proofs.Indices.{withdrawn_before}
 
 -- ---- names
 
@@ -49,37 +49,37 @@ name_apart (x ∷ rows) name row e h s =
 -- ---- costs
 
 -- the cost of rows is the cost of the first plus that of the rest
-link_cost-cons : (y : Row) (ys : List Row) (l turn : ℕ) → link_cost (y ∷ ys) l turn ≡ cost_on y l turn + link_cost ys l turn
-link_cost-cons y ys l turn = sum_by-cons (λ (row : Row). cost_on row l turn) y ys
+link_cost-cons : (y : Row) (ys : List Row) (l active_cycle : ℕ) → link_cost (y ∷ ys) l active_cycle ≡ cost_on y l active_cycle + link_cost ys l active_cycle
+link_cost-cons y ys l active_cycle = sum_by-cons (λ (row : Row). cost_on row l active_cycle) y ys
 
 -- if more rows are kept, they cost no less
-cost_cond : (b c : Bool) (y z : Row) (ys zs : List Row) (l turn : ℕ) → (b ≡ true → c ≡ true) → cost_on y l turn ≡ cost_on z l turn → link_cost ys l turn ≤ link_cost zs l turn →
-    link_cost (cond b (y ∷ ys) ys) l turn ≤ link_cost (cond c (z ∷ zs) zs) l turn
-cost_cond true true y z ys zs l turn h e r =
-    let early : link_cost (y ∷ ys) l turn ≡ cost_on y l turn + link_cost ys l turn = link_cost-cons y ys l turn in
-    let late : link_cost (z ∷ zs) l turn ≡ cost_on z l turn + link_cost zs l turn = link_cost-cons z zs l turn in
-    let sums : link_cost (y ∷ ys) l turn ≤ link_cost (z ∷ zs) l turn = omega (arith, early, late, e, r) in
+cost_cond : (b c : Bool) (y z : Row) (ys zs : List Row) (l active_cycle : ℕ) → (b ≡ true → c ≡ true) → cost_on y l active_cycle ≡ cost_on z l active_cycle → link_cost ys l active_cycle ≤ link_cost zs l active_cycle →
+    link_cost (cond b (y ∷ ys) ys) l active_cycle ≤ link_cost (cond c (z ∷ zs) zs) l active_cycle
+cost_cond true true y z ys zs l active_cycle h e r =
+    let early : link_cost (y ∷ ys) l active_cycle ≡ cost_on y l active_cycle + link_cost ys l active_cycle = link_cost-cons y ys l active_cycle in
+    let late : link_cost (z ∷ zs) l active_cycle ≡ cost_on z l active_cycle + link_cost zs l active_cycle = link_cost-cons z zs l active_cycle in
+    let sums : link_cost (y ∷ ys) l active_cycle ≤ link_cost (z ∷ zs) l active_cycle = omega (arith, early, late, e, r) in
     sums
-cost_cond true false y z ys zs l turn h e r = absurd (both_ways false refl (h refl))
-cost_cond false true y z ys zs l turn h e r =
-    let late : link_cost (z ∷ zs) l turn ≡ cost_on z l turn + link_cost zs l turn = link_cost-cons z zs l turn in
-    let kept : link_cost ys l turn ≤ link_cost (z ∷ zs) l turn = omega (arith, late, r) in
+cost_cond true false y z ys zs l active_cycle h e r = absurd (both_ways false refl (h refl))
+cost_cond false true y z ys zs l active_cycle h e r =
+    let late : link_cost (z ∷ zs) l active_cycle ≡ cost_on z l active_cycle + link_cost zs l active_cycle = link_cost-cons z zs l active_cycle in
+    let kept : link_cost ys l active_cycle ≤ link_cost (z ∷ zs) l active_cycle = omega (arith, late, r) in
     kept
-cost_cond false false y z ys zs l turn h e r = r
+cost_cond false false y z ys zs l active_cycle h e r = r
 
 -- if fewer rows are held, they cost no more
-pub cost_less : (rows : List Row) (p q : Row → Bool) (v w : ℕ → Option Cycle) (l turn : ℕ) →
+pub cost_less : (rows : List Row) (p q : Row → Bool) (v w : ℕ → Option Cycle) (l active_cycle : ℕ) →
     ((row : Row) → Contains rows row → p (with_end v row) ≡ true → q (with_end w row) ≡ true) →
-    link_cost (filter p (map (with_end v) rows)) l turn ≤ link_cost (filter q (map (with_end w) rows)) l turn
-cost_less [] p q v w l turn h = omega arith
-cost_less (x ∷ rows) p q v w l turn h =
-    cost_cond (p (with_end v x)) (q (with_end w x)) (with_end v x) (with_end w x) (filter p (map (with_end v) rows)) (filter q (map (with_end w) rows)) l turn
-    (h x (contains_here x rows)) refl (cost_less rows p q v w l turn (λ row k. h row (contains_later x rows row k)))
+    link_cost (filter p (map (with_end v) rows)) l active_cycle ≤ link_cost (filter q (map (with_end w) rows)) l active_cycle
+cost_less [] p q v w l active_cycle h = omega arith
+cost_less (x ∷ rows) p q v w l active_cycle h =
+    cost_cond (p (with_end v x)) (q (with_end w x)) (with_end v x) (with_end w x) (filter p (map (with_end v) rows)) (filter q (map (with_end w) rows)) l active_cycle
+    (h x (contains_here x rows)) refl (cost_less rows p q v w l active_cycle (λ row k. h row (contains_later x rows row k)))
 
 -- one row under a test costs no more than itself
-link_cost_one : (b : Bool) (row : Row) (l turn : ℕ) → link_cost (cond b (row ∷ []) []) l turn ≤ cost_on row l turn
-link_cost_one true row l turn = omega arith
-link_cost_one false row l turn = omega arith
+link_cost_one : (b : Bool) (row : Row) (l active_cycle : ℕ) → link_cost (cond b (row ∷ []) []) l active_cycle ≤ cost_on row l active_cycle
+link_cost_one true row l active_cycle = omega arith
+link_cost_one false row l active_cycle = omega arith
 
 -- a link of a tree has at least the cost left
 room_on : (d : Domain) (rows : List Row) (tree : List Hop) (pace : Pace) (cost : ℕ) (links : List ℕ) (l : ℕ) → find (λ l. nat_lt (left_on d rows tree pace l) cost) links ≡ None →
@@ -137,12 +137,13 @@ pub record Sound (d : Domain) (entries : List Recorded) (n : ℕ) : Type 0 where
   pub named : (row : Row) → Contains (admitted_before d entries n) row → is_name row.name ≡ true
   pub least_octets : (row : Row) → Contains (admitted_before d entries n) row → 64 ≤ row.octets
   pub most_octets : (row : Row) → Contains (admitted_before d entries n) row → row.octets ≤ most_reserved
+  pub overheads : (row : Row) → Contains (admitted_before d entries n) row → row.overhead ≡ d.overhead
   pub ends : (number : ℕ) (x : Cycle) → withdrawn_before entries n number ≡ Some x → number < length (admitted_before d entries n)
   pub begun : (row : Row) → Contains (admitted_before d entries n) row → row.admitted.0 ≤ sealed_before entries n
   pub names : AllPairs (λ (a b : Row). held_before entries n a ≡ true → held_before entries n b ≡ true → a.name ≢ b.name) (admitted_before d entries n)
   pub paces : (row : Row) → Contains (admitted_before d entries n) row → IsPaced row.pace
-  pub loads : (l turn : ℕ) → link_cost
-      (filter (λ (row : Row). is_held row (sealed_before entries n)) (map (with_end (withdrawn_before entries n)) (admitted_before d entries n))) l turn ≤ budget d l
+  pub loads : (l active_cycle : ℕ) → link_cost
+      (filter (λ (row : Row). is_held row (sealed_before entries n)) (map (with_end (withdrawn_before entries n)) (admitted_before d entries n))) l active_cycle ≤ budget d l
 
 -- a stream that is held after an entry was held before it
 held_shrinks : (d : Domain) (entries : List Recorded) (n : ℕ) → suc n ≤ length entries → Sound d entries n → (row : Row) →
@@ -169,16 +170,17 @@ sound_kept d entries n h none ends s =
       least_octets = λ row k. s.least_octets row (back row k);
       paces = λ row k. s.paces row (back row k);
       most_octets = λ row k. s.most_octets row (back row k);
+      overheads = λ row k. s.overheads row (back row k);
       ends = λ number x e. omega (arith, ends number x e, ap (λ (xs : List Row). length xs) same);
       begun = λ row k. omega (arith, s.begun row (back row k), sealed_more entries n (suc n) (omega arith) h);
       names = subst (λ (xs : List Row). AllPairs apart_later xs) (sym same)
           (pairs_weaker apart apart_later rows (λ a b k l r t u. r (held_shrinks d entries n h s a k t) (held_shrinks d entries n h s b l u)) s.names);
-      loads = λ l turn.
+      loads = λ l active_cycle.
           let less = cost_less rows (λ (row : Row). is_held row (sealed_before entries (suc n))) (λ (row : Row). is_held row (sealed_before entries n))
-          (withdrawn_before entries (suc n)) (withdrawn_before entries n) l turn (held_shrinks d entries n h s) in
+          (withdrawn_before entries (suc n)) (withdrawn_before entries n) l active_cycle (held_shrinks d entries n h s) in
           subst (λ (xs : List Row). link_cost
-          (filter (λ (row : Row). is_held row (sealed_before entries (suc n))) (map (with_end (withdrawn_before entries (suc n))) xs)) l turn ≤ budget d l)
-          (sym same) (omega (arith, less, s.loads l turn));
+          (filter (λ (row : Row). is_held row (sealed_before entries (suc n))) (map (with_end (withdrawn_before entries (suc n))) xs)) l active_cycle ≤ budget d l)
+          (sym same) (omega (arith, less, s.loads l active_cycle));
     }
 
 -- the members of a list with one more at its end
@@ -197,30 +199,30 @@ kept_paced rows q w paces row k =
     subst (λ (r : Row). IsPaced r.pace) m.2 (paces m.0 m.1)
 
 -- one more stream that finds room on each link of its tree
-load_more : (d : Domain) (rows : List Row) (new : Row) (p q : Row → Bool) (v w : ℕ → Option Cycle) (l turn : ℕ) →
+load_more : (d : Domain) (rows : List Row) (new : Row) (p q : Row → Bool) (v w : ℕ → Option Cycle) (l active_cycle : ℕ) →
     ((row : Row) → Contains rows row → p (with_end v row) ≡ true → q (with_end w row) ≡ true) →
-    ((row : Row) → Contains rows row → IsPaced row.pace) → IsPaced new.pace → link_cost (filter q (map (with_end w) rows)) l turn ≤ budget d l →
-    short_link d (filter q (map (with_end w) rows)) (cost_of new.octets) new.pace new.tree.items ≡ None →
-    link_cost (filter p (map (with_end v) (rows ++ new ∷ []))) l turn ≤ budget d l
-load_more d rows new p q v w l turn less paces own within room =
+    ((row : Row) → Contains rows row → IsPaced row.pace) → IsPaced new.pace → link_cost (filter q (map (with_end w) rows)) l active_cycle ≤ budget d l →
+    short_link d (filter q (map (with_end w) rows)) (cost_of new.overhead new.octets) new.pace new.tree.items ≡ None →
+    link_cost (filter p (map (with_end v) (rows ++ new ∷ []))) l active_cycle ≤ budget d l
+load_more d rows new p q v w l active_cycle less paces own within room =
     let old = filter p (map (with_end v) rows) in
     let kept = filter q (map (with_end w) rows) in
     let one = filter p (with_end v new ∷ []) in
     let tree = new.tree.items in
-    let split : link_cost (filter p (map (with_end v) (rows ++ new ∷ []))) l turn ≡ link_cost old l turn + link_cost one l turn =
-    ap (λ (xs : List Row). link_cost (filter p xs) l turn) (map-append (with_end v) rows (new ∷ []))
-    ∙ ap (λ (xs : List Row). link_cost xs l turn) (filter-append p (map (with_end v) rows) (with_end v new ∷ []))
-    ∙ sum_by-append (λ (row : Row). cost_on row l turn) old one in
-    let shrunk = cost_less rows p q v w l turn less in
-    let single : link_cost one l turn ≤ cost_on new l turn = link_cost_one (p (with_end v new)) (with_end v new) l turn in
-    let fits : cost_on new l turn + link_cost kept l turn ≤ budget d l =
-    elim (cases_Bool (uses tree new.pace l turn)) [
+    let split : link_cost (filter p (map (with_end v) (rows ++ new ∷ []))) l active_cycle ≡ link_cost old l active_cycle + link_cost one l active_cycle =
+    ap (λ (xs : List Row). link_cost (filter p xs) l active_cycle) (map-append (with_end v) rows (new ∷ []))
+    ∙ ap (λ (xs : List Row). link_cost xs l active_cycle) (filter-append p (map (with_end v) rows) (with_end v new ∷ []))
+    ∙ sum_by-append (λ (row : Row). cost_on row l active_cycle) old one in
+    let shrunk = cost_less rows p q v w l active_cycle less in
+    let single : link_cost one l active_cycle ≤ cost_on new l active_cycle = link_cost_one (p (with_end v new)) (with_end v new) l active_cycle in
+    let fits : cost_on new l active_cycle + link_cost kept l active_cycle ≤ budget d l =
+    elim (cases_Bool (uses tree new.pace l active_cycle)) [
       | inl t ↦
-          let cost : cost_on new l turn ≡ cost_of new.octets = ap (λ (b : Bool). if b then cost_of new.octets else 0) t in
-          let enough = room_on d kept tree new.pace (cost_of new.octets) (links_of new) l room (used_is_crossed tree new.pace l turn t) in
-          let most = cost_within_most kept tree new.pace l turn (kept_paced rows q w paces) own t in
+          let cost : cost_on new l active_cycle ≡ cost_of new.overhead new.octets = ap (λ (b : Bool). if b then cost_of new.overhead new.octets else 0) t in
+          let enough = room_on d kept tree new.pace (cost_of new.overhead new.octets) (links_of new) l room (used_is_crossed tree new.pace l active_cycle t) in
+          let most = cost_within_most kept tree new.pace l active_cycle (kept_paced rows q w paces) own t in
           omega (arith, cost, within, enough, most)
-      | inr f ↦ (let cost : cost_on new l turn ≡ 0 = ap (λ (b : Bool). if b then cost_of new.octets else 0) f in omega (arith, cost, within))
+      | inr f ↦ (let cost : cost_on new l active_cycle ≡ 0 = ap (λ (b : Bool). if b then cost_of new.overhead new.octets else 0) f in omega (arith, cost, within))
     ] in
     omega (arith, split, shrunk, single, fits)
 
@@ -255,7 +257,7 @@ sound_admitted d entries n asked h is ends g s =
           elim (cases_lt k (length rows)) [
             | inl l ↦ s.numbers k row (sym (slice_get_front rows (new ∷ []) k l) ∙ there)
             | inr l ↦ (let last : k ≡ length rows = omega (arith, l, slice_get_within (rows ++ new ∷ []) k row there, length-append rows (new ∷ [])) in
-                let is_new : new ≡ row = same_Some new row (sym (slice_get_behind rows new [] k last) ∙ there) in
+                let is_new : new ≡ row = same_Some new row (sym (slice_get_after rows new [] k last) ∙ there) in
                 ap (λ (r : Row). r.no) (sym is_new) ∙ count ∙ sym last)
           ];
       trees = λ row k. elim (back row k) [ inl m ↦ s.trees row m | inr m ↦ subst (λ (r : Row). IsTree d r.tree.items) m tree_good ];
@@ -263,6 +265,7 @@ sound_admitted d entries n asked h is ends g s =
       paces = λ row k. elim (back row k) [ inl m ↦ s.paces row m | inr m ↦ subst (λ (r : Row). IsPaced r.pace) m new_paced ];
       least_octets = λ row k. elim (back row k) [ inl m ↦ s.least_octets row m | inr m ↦ subst (λ (r : Row). 64 ≤ r.octets) m granted_here.least_octets ];
       most_octets = λ row k. elim (back row k) [ inl m ↦ s.most_octets row m | inr m ↦ subst (λ (r : Row). r.octets ≤ most_reserved) m granted_here.most_octets ];
+      overheads = λ row k. elim (back row k) [ inl m ↦ s.overheads row m | inr m ↦ ap (λ (r : Row). r.overhead) (sym m) ];
       ends = λ number x e. omega (arith, s.ends number x (sym (ends number) ∙ e), ap (λ (xs : List Row). length xs) same, length-append rows (new ∷ []));
       begun = λ row k. elim (back row k) [ inl m ↦ omega (arith, later, s.begun row m) | inr m ↦ subst (λ (r : Row). r.admitted.0 ≤ e) m later ];
       names = subst (λ (xs : List Row). AllPairs apart_later xs) (sym same)
@@ -272,10 +275,10 @@ sound_admitted d entries n asked h is ends g s =
           let kept = contains_filter (λ (r : Row). is_held r c) (map (with_end w) rows) (with_end w row) (contains_map (with_end w) rows row k)
           (held_shrinks d entries n h s row k t) in
           name_apart held asked.name (with_end w row) granted_here.name_free kept same_name));
-      loads = λ l turn.
-          subst (λ (xs : List Row). link_cost (filter (λ (row : Row). is_held row e) (map (with_end v) xs)) l turn ≤ budget d l) (sym same)
-          (load_more d rows new (λ (row : Row). is_held row e) (λ (row : Row). is_held row c) v w l turn (held_shrinks d entries n h s)
-          s.paces new_paced (s.loads l turn) granted_here.enough);
+      loads = λ l active_cycle.
+          subst (λ (xs : List Row). link_cost (filter (λ (row : Row). is_held row e) (map (with_end v) xs)) l active_cycle ≤ budget d l) (sym same)
+          (load_more d rows new (λ (row : Row). is_held row e) (λ (row : Row). is_held row c) v w l active_cycle (held_shrinks d entries n h s)
+          s.paces new_paced (s.loads l active_cycle) granted_here.enough);
     }
 
 -- no entry but an accepted request admits a stream
@@ -389,7 +392,7 @@ entry_sound d entries n e Seals h is act reply s =
 
 -- each reply is the one that is due
 abbrev pub AreDue : Domain → List Recorded → Type 0
-AreDue d entries = (place : ℕ) (e : Recorded) → slice_get entries place ≡ Some e → e.reply ≡ reply_to d (take place entries) e.act
+AreDue d entries = (index : ℕ) (e : Recorded) → slice_get entries index ≡ Some e → e.reply ≡ reply_to d (take index entries) e.act
 
 -- all this holds before each entry of a legal history
 pub sound : (d : Domain) (entries : List Recorded) → AreDue d entries → (n : ℕ) → n ≤ length entries → Sound d entries n
@@ -400,11 +403,12 @@ sound d entries due zero h =
       named = λ row k. absurd (contains_none row k);
       least_octets = λ row k. absurd (contains_none row k);
       most_octets = λ row k. absurd (contains_none row k);
+      overheads = λ row k. absurd (contains_none row k);
       ends = λ number x e. absurd cc;
       begun = λ row k. absurd (contains_none row k);
       names = pairs_none (λ (a b : Row). held_before entries 0 a ≡ true → held_before entries 0 b ≡ true → a.name ≢ b.name);
       paces = λ row k. absurd (contains_none row k);
-      loads = λ l turn. omega arith;
+      loads = λ l active_cycle. omega arith;
     }
 sound d entries due (suc n) h =
     let e = entry_at entries n (omega (arith, h)) in

@@ -8,9 +8,9 @@ use Rattle.std.proofs.lemmas.List.Elements.{Contains-get_or}
 use Rattle.std.proofs.lemmas.Option.{same_Some, slice_get_within}
 use Rattle.cqf_lists.specs.Lists.{each_once}
 use Rattle.cqf_lists.proofs.Any.{none_member}
-use Rattle.cqf_lists.proofs.EachOnce.{flat_place, once_apart, once_covers, once_from, once_place}
-use Rattle.cqf_lists.proofs.Members.{contains_at, contains_flat, contains_from_flat, contains_from_take, place_of_member}
-use Rattle.cqf_lists.proofs.Places.{slice_get-take}
+use Rattle.cqf_lists.proofs.EachOnce.{flat_index, once_apart, once_covers, once_from, once_index}
+use Rattle.cqf_lists.proofs.Members.{contains_at, contains_flat, contains_from_flat, contains_from_take, index_of_member}
+use Rattle.cqf_lists.proofs.Indices.{slice_get-take}
 use Rattle.cqf_model.specs.declared.topology.Hop.{Hop}
 use Rattle.cqf_model.specs.declared.topology.Node.{Node}
 use Rattle.cqf_model.specs.declared.topology.Node.TheVariants.{Bridge, Station}
@@ -94,15 +94,15 @@ agree_sym xs ys h p q name e f =
 pub all_make_a_tree : (paths : List Branch) → ((branch : Branch) → Contains paths branch → NoRepeat branch) →
     ((k : ℕ) → k < length paths → is_stray paths k ≡ false) → (xs ys : Branch) → Contains paths xs → Contains paths ys → MakeATree xs ys
 all_make_a_tree paths once none xs ys cx cy =
-    let i = place_of_member paths xs cx in
-    let j = place_of_member paths ys cy in
+    let i = index_of_member paths xs cx in
+    let j = index_of_member paths ys cy in
     elim (cases_lt i.0 j.0) [
       | inl l ↦ make_tree xs ys (before i.0 j.0 xs ys l i.1 j.1) (once xs cx) (once ys cy)
       | inr g ↦ elim (cases_lt j.0 i.0) [
         | inl l ↦ (let r = make_tree ys xs (before j.0 i.0 ys xs l j.1 i.1) (once ys cy) (once xs cx) in
             record { begin = sym r.begin; agree = agree_sym ys xs r.agree })
-        | inr k ↦ (let place : i.0 ≡ j.0 = omega (arith, g, k) in
-            itself (same_Some xs ys (sym i.1 ∙ ap (λ (n : ℕ). slice_get paths n) place ∙ j.1)))
+        | inr k ↦ (let index : i.0 ≡ j.0 = omega (arith, g, k) in
+            itself (same_Some xs ys (sym i.1 ∙ ap (λ (n : ℕ). slice_get paths n) index ∙ j.1)))
       ]
     ]
   where
@@ -120,8 +120,8 @@ all_make_a_tree paths once none xs ys cx cy =
     itself e = record {
       begin = ap (λ (b : Branch). slice_get b 0) e;
       agree = λ p q name f g.
-          let place = once xs cx p q name f (ap (λ (b : Branch). slice_get b q) e ∙ g) in
-          (place, ap (λ (b : Branch). take (suc p) b) e);
+          let index = once xs cx p q name f (ap (λ (b : Branch). slice_get b q) e ∙ g) in
+          (index, ap (λ (b : Branch). take (suc p) b) e);
     }
 
 -- ---- the tree
@@ -149,9 +149,9 @@ module _ (d : Domain) (paths : List Branch) (branches : (branch : Branch) → Co
   of_all : (hop : Hop) → Contains (flat_map (hops_along d) paths) hop → Of d paths hop
   of_all hop c =
       let b = contains_from_flat (hops_along d) paths hop c in
-      let place = place_of_member (hops_along d b.0) hop b.2 in
-      let is = hop_is d b.0 (branches b.0 b.1) place.0 hop place.1 in
-      record { branch = b.0; of_paths = b.1; k = place.0; inside = is.0; is = is.1 }
+      let index = index_of_member (hops_along d b.0) hop b.2 in
+      let is = hop_is d b.0 (branches b.0 b.1) index.0 hop index.1 in
+      record { branch = b.0; of_paths = b.1; k = index.0; inside = is.0; is = is.1 }
 
   -- and a hop of one is a hop of all
   all_of : (branch : Branch) (k : ℕ) → Contains paths branch → k + 1 < length branch → Contains (flat_map (hops_along d) paths) (hop_made d branch k)
@@ -175,11 +175,11 @@ module _ (d : Domain) (paths : List Branch) (branches : (branch : Branch) → Co
       let n = name_at d ys (k + 1) b.node b.to_is in
       let name : m.0 ≡ n.0 = named_once d m.0 n.0 b.node (m.2 ∙ ap (λ (v : Node). Some v) node) n.2 in
       let r = (trees xs ys cx cy).agree (j + 1) (k + 1) n.0 (m.1 ∙ ap (λ (v : List ℕ). Some v) name) n.1 in
-      let place : j ≡ k = omega (arith, r.0) in
+      let index : j ≡ k = omega (arith, r.0) in
       sym (hop_front d xs (suc (j + 1)) j (omega arith))
       ∙ ap (λ (b : Branch). hop_made d b j) r.1
       ∙ hop_front d ys (suc (j + 1)) j (omega arith)
-      ∙ ap (hop_made d ys) place
+      ∙ ap (hop_made d ys) index
 
   -- a link is in one hop only
   one_hop : (a b : Hop) → Of d paths a → Of d paths b → end_of d a.link ≡ end_of d b.link → a ≡ b
@@ -214,13 +214,13 @@ module _ (d : Domain) (paths : List Branch) (branches : (branch : Branch) → Co
   -- ---- what holds for a tree
 
   -- each hop comes after the hop that it follows
-  behind : (place m : ℕ) (hop : Hop) → slice_get (tree_of d paths) place ≡ Some hop → hop.from ≡ Some m → (before : Hop) ×
-      Contains (take place (tree_of d paths)) before × Follows d before hop
-  behind place m hop at from =
+  following : (index m : ℕ) (hop : Hop) → slice_get (tree_of d paths) index ≡ Some hop → hop.from ≡ Some m → (before : Hop) ×
+      Contains (take index (tree_of d paths)) before × Follows d before hop
+  following index m hop at from =
       let same : Hop → Hop → Bool = λ (a b : Hop). a.link == b.link in
       let hops = flat_map (hops_along d) paths in
-      let w = once_place same hops place hop at in
-      let s = flat_place (hops_along d) paths w.0 hop w.1 in
+      let w = once_index same hops index hop at in
+      let s = flat_index (hops_along d) paths w.0 hop w.1 in
       let good = branches s.x s.of_list in
       let is = hop_is d s.x good s.k hop s.at in
       before_it s.x good s.k is.0 is.1 (λ j h.
@@ -229,7 +229,7 @@ module _ (d : Domain) (paths : List Branch) (branches : (branch : Branch) → Co
       (s.before (hop_made d s.x j) j h (hop_there d s.x good j (omega (arith, h, is.0))))))
     where
       before_it : (branch : Branch) (good : IsBranch d branch) (k : ℕ) → k + 1 < length branch → hop_made d branch k ≡ hop →
-          ((j : ℕ) → j < k → Contains (take place (tree_of d paths)) (hop_made d branch j)) → (before : Hop) × Contains (take place (tree_of d paths)) before ×
+          ((j : ℕ) → j < k → Contains (take index (tree_of d paths)) (hop_made d branch j)) → (before : Hop) × Contains (take index (tree_of d paths)) before ×
           Follows d before hop
       before_it branch good zero h e f = absurd (no_some m hop.from (sym (ap (λ (x : Hop). x.from) e)) from)
       before_it branch good (suc k) h e f =
@@ -241,15 +241,15 @@ module _ (d : Domain) (paths : List Branch) (branches : (branch : Branch) → Co
     first_is branch c = ap (λ (o : Option (List ℕ)). option_map_or (λ name. node_named d name) o None) (trees branch one c is_one).begin ∙ begins_here
 
     -- a hop that follows no link has hop number 1, and its link leaves the first bridge
-    begin : (hop : Hop) → Contains (tree_of d paths) hop → hop.from ≡ None → (hop.depth ≡ 1) × (leaves d hop.link first ≡ true)
+    begin : (hop : Hop) → Contains (tree_of d paths) hop → hop.from ≡ None → (hop.hop_number ≡ 1) × (leaves d hop.link first ≡ true)
     begin hop c none = let w = of_tree hop c in at_first w.branch w.of_paths w.k w.inside w.is
       where
-        at_first : (branch : Branch) → Contains paths branch → (k : ℕ) → k + 1 < length branch → hop_made d branch k ≡ hop → (hop.depth ≡ 1) ×
+        at_first : (branch : Branch) → Contains paths branch → (k : ℕ) → k + 1 < length branch → hop_made d branch k ≡ hop → (hop.hop_number ≡ 1) ×
             (leaves d hop.link first ≡ true)
         at_first branch b zero h e =
             let g = goes_at branch 0 b h in
             let bridge : Bridge g.bridge ≡ Bridge first = same_Some (Bridge g.bridge) (Bridge first) (sym g.from_is ∙ first_is branch b) in (
-              sym (ap (λ (x : Hop). x.depth) e),
+              sym (ap (λ (x : Hop). x.hop_number) e),
               ap (λ (x : Hop). leaves d x.link first) (sym e) ∙ g.goes.leaves_is first ∙ ap (λ (n : Node). node_is n first) bridge ∙ eq-eqb first first refl,
             )
         at_first branch b (suc k) h e =
@@ -264,8 +264,8 @@ module _ (d : Domain) (paths : List Branch) (branches : (branch : Branch) → Co
           let a = name_at d w.branch (w.k + 1) g.node g.to_is in
           let b = name_at d w.branch 0 (Bridge first) (first_is w.branch w.of_paths) in
           let name : a.0 ≡ b.0 = named_once d a.0 b.0 (Bridge first) (a.2 ∙ ap (λ (n : Node). Some n) node) b.2 in
-          let place = no_repeat d w.branch (branches w.branch w.of_paths) (w.k + 1) 0 b.0 (a.1 ∙ ap (λ (n : List ℕ). Some n) name) b.1 in
-          omega (arith, place))
+          let index = no_repeat d w.branch (branches w.branch w.of_paths) (w.k + 1) 0 b.0 (a.1 ∙ ap (λ (n : List ℕ). Some n) name) b.1 in
+          omega (arith, index))
     ]
 
     goes_on_from : (hop : Hop) (bridge : ℕ) → Contains (tree_of d paths) hop → enters d hop.link bridge ≡ true → (next : Hop) ×
@@ -290,22 +290,22 @@ module _ (d : Domain) (paths : List Branch) (branches : (branch : Branch) → Co
     tree_from =
         let tree = tree_of d paths in
         let same : Hop → Hop → Bool = λ (a b : Hop). a.link == b.link in
-        let of_place : (k : ℕ) (e : Hop) → k < length tree → Of d paths (get_or tree k e) = λ k e h. of_tree (get_or tree k e) (Contains-get_or tree k e h) in
+        let of_index : (k : ℕ) (e : Hop) → k < length tree → Of d paths (get_or tree k e) = λ k e h. of_tree (get_or tree k e) (Contains-get_or tree k e h) in
         let some = in_tree one 0 is_one (two_at_least d one (branches one is_one)) in
         record {
           first = first;
           some = omega (arith, some.1);
-          inside = λ k e h. let w = of_place k e h in
+          inside = λ k e h. let w = of_index k e h in
               subst (λ (x : Hop). x.link < length d.links) w.is (goes_at w.branch w.k w.of_paths w.inside).goes.inside;
-          deep = λ k e h. let w = of_place k e h in
-              omega (arith, ap (λ (x : Hop). x.depth) w.is, w.inside, few_nodes d w.branch (branches w.branch w.of_paths));
+          deep = λ k e h. let w = of_index k e h in
+              omega (arith, ap (λ (x : Hop). x.hop_number) w.is, w.inside, few_nodes d w.branch (branches w.branch w.of_paths));
           begins = begin;
-          follows = behind;
+          follows = following;
           reached_once = λ i j e l m same_ends.
               let a = get_or tree i e in
               let b = get_or tree j e in
-              let is : a ≡ b = one_hop a b (of_place i e (omega (arith, l, m))) (of_place j e m) same_ends in
+              let is : a ≡ b = one_hop a b (of_index i e (omega (arith, l, m))) (of_index j e m) same_ends in
               both_ways (a.link == b.link) (once_apart same (flat_map (hops_along d) paths) i j e l m) (eq-eqb a.link b.link (ap (λ (x : Hop). x.link) is));
-          first_not_reached = λ k e h. never_back (get_or tree k e) (of_place k e h);
+          first_not_reached = λ k e h. never_back (get_or tree k e) (of_index k e h);
           ends = goes_on_from;
         }

@@ -6,29 +6,29 @@ use Rattle.cqf_model.specs.declared.topology.Row.{Row}
 use Rattle.cqf_model.specs.Domain.{Domain, cycle_of}
 use Rattle.cqf_model.specs.Network.{IsLoss}
 use Rattle.cqf_model.specs.Table.{goes_on, row_of, table_of}
-use Rattle.cqf_model.specs.Traffic.{AtEdge, DroppedFor, ExceedsGate, LacksRow, Policed, Queued, Received, Relayed, Verdict, Way, came_by, police, police_all}
-use Rattle.cqf_model.specs.Traffic.{verdict_by, within_gate}
+use Rattle.cqf_model.specs.Policing.{AtEdge, DroppedFor, ExceedsGate, Ingress, LacksRow, Policed, Queued, Received, Relayed, Verdict, came_by, police, police_all}
+use Rattle.cqf_model.specs.Policing.{verdict_by, within_gate}
 use Rattle.cqf_laws_history.specs.TrafficLaws.{VerdictsHaveTheirReason, VerdictsInsideHaveTheirReason}
 
 module _ (d : Domain) (tables : List (List Row)) (bridge : ℕ) where
   -- the verdict on a frame by its way, after these policed frames
-  abbrev pub verdict_on : List Policed → Received → Way → Verdict
-  verdict_on before x way = verdict_by d (table_of tables (cycle_of d x.at)) bridge (cycle_of d x.at) (λ (row : Row). within_gate d before row x) way
+  abbrev pub verdict_on : List Policed → Received → Ingress → Verdict
+  verdict_on before x ingress = verdict_by d (table_of tables (cycle_of d x.at)) bridge (cycle_of d x.at) (λ (row : Row). within_gate d before row x) ingress
 
   -- each frame of a list has its verdict after some others
   pub judged : (xs : List Received) (earlier : List Policed) (p : Policed) → Contains (police_all d tables bridge earlier xs) p → (before : List Policed) ×
-      (p.verdict ≡ verdict_on before p.received p.received.way)
+      (p.verdict ≡ verdict_on before p.received p.received.ingress)
   judged [] earlier p h = absurd (contains_none p h)
   judged (x ∷ xs) earlier p h =
       let q = police d tables bridge earlier x in
       elim (contains_cases q (police_all d tables bridge (earlier ++ q ∷ []) xs) p h) [
-        | inl e ↦ (earlier, subst (λ (y : Policed). y.verdict ≡ verdict_on earlier y.received y.received.way) e refl)
+        | inl e ↦ (earlier, subst (λ (y : Policed). y.verdict ≡ verdict_on earlier y.received y.received.ingress) e refl)
         | inr k ↦ judged xs (earlier ++ q ∷ []) p k
       ]
 
   -- a frame that goes on leaves the bridge, regardless of its way
-  pub queued_leaves : VerdictsHaveTheirReason → VerdictsInsideHaveTheirReason → (before : List Policed) (x : Received) (way : Way) (row : Row) →
-      verdict_on before x way ≡ Queued row → goes_on d row (came_by way) bridge ≡ true
+  pub queued_leaves : VerdictsHaveTheirReason → VerdictsInsideHaveTheirReason → (before : List Policed) (x : Received) (ingress : Ingress) (row : Row) →
+      verdict_on before x ingress ≡ Queued row → goes_on d row (came_by ingress) bridge ≡ true
   queued_leaves edge inside before x (AtEdge name) row e =
       ((edge d (table_of tables (cycle_of d x.at)) bridge (cycle_of d x.at) (λ (r : Row). within_gate d before r x) name (Queued row)).0 e).1
   queued_leaves edge inside before x (Relayed m number) row e =

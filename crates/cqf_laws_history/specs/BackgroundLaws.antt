@@ -13,10 +13,10 @@ use Rattle.cqf_model.specs.Run.{Run}
 use Rattle.cqf_model.specs.declared.frames.Sent.{Sent}
 
 -- a background frame's number is its position in its list, from 1
-abbrev pub BackgroundIsNumberedByPlace : Type 0
-BackgroundIsNumberedByPlace =
-    (background : List Background) (place : ℕ) (frame : Background) → slice_get background place ≡ Some frame →
-    slice_get (numbered_background background) place ≡ Some (record { frame = place + 1; background = frame })
+abbrev pub BackgroundIsNumberedByIndex : Type 0
+BackgroundIsNumberedByIndex =
+    (background : List Background) (index : ℕ) (frame : Background) → slice_get background index ≡ Some frame →
+    slice_get (numbered_background background) index ≡ Some (record { frame = index + 1; background = frame })
 
 -- the background start of an arrival that starts at instant t
 abbrev pub start_of_arrival : ℕ → Arrival → Start
@@ -24,10 +24,10 @@ start_of_arrival t arrival = record { start = record { 0 = t }; class = arrival.
 
 -- start is the start of a frame of no stream, among the frames that a port has queued and started
 pub record IsBackgroundStart (queued : List QueuedFrame) (starts : List Transmission) (start : Start) : Type 0 where
-  pub place : ℕ
-  pub is_started : Contains starts (place, start.start.0)
-  pub of_no_stream : (slice_index_or queued place no_frame).stream ≡ None
-  pub as_it_came : start ≡ start_of_arrival start.start.0 (slice_index_or queued place no_frame).arrival
+  pub index : ℕ
+  pub is_started : Contains starts (index, start.start.0)
+  pub of_no_stream : (slice_index_or queued index no_frame).stream ≡ None
+  pub as_it_came : start ≡ start_of_arrival start.start.0 (slice_index_or queued index no_frame).arrival
 
 -- among the frames that a port starts, exactly the frames of no stream are its background frames, each with its class, octets and
 -- number

@@ -8,16 +8,16 @@ use Rattle.cqf_model.specs.History.{Asked, Branch, is_broken_at, is_loop_at, is_
 use Rattle.cqf_model.specs.Limits.{hops_within, least_reserved, most_reserved}
 
 -- two branches part at an index: they have the same nodes before it, and both have a node there, but not the same one
-pub record PartAt (xs ys : Branch) (place : ℕ) : Type 0 where
-  pub alike : take place xs ≡ take place ys
-  pub first_goes_on : place < length xs
-  pub second_goes_on : place < length ys
-  pub differ : slice_get xs place ≢ slice_get ys place
+pub record PartAt (xs ys : Branch) (index : ℕ) : Type 0 where
+  pub alike : take index xs ≡ take index ys
+  pub first_goes_on : index < length xs
+  pub second_goes_on : index < length ys
+  pub differ : slice_get xs index ≢ slice_get ys index
 
--- a branch has a node of this name at the index `place` or later
-pub record StandsFrom (branch : Branch) (place : ℕ) (name : List ℕ) : Type 0 where
+-- a branch has a node of this name at the index `index` or later
+pub record StandsFrom (branch : Branch) (index : ℕ) (name : List ℕ) : Type 0 where
   pub stand : ℕ
-  pub behind : place ≤ stand
+  pub following : index ≤ stand
   pub is : slice_get branch stand ≡ Some name
 
 -- two branches make one tree: they begin with at least one common node, then part, and from there on no node of the one is a node
@@ -28,7 +28,7 @@ pub record MakeOneTree (xs ys : Branch) : Type 0 where
   pub part_there : PartAt xs ys parting
   pub apart : (name : List ℕ) → StandsFrom xs parting name → ¬ StandsFrom ys parting name
 
--- this is what the definition tests, for any two branches
+-- the definition's test of any two branches finds exactly whether they make one tree
 abbrev pub PairsAreTested : Type 0
 PairsAreTested = (xs ys : Branch) → make_a_tree xs ys ≡ true ↔ MakeOneTree xs ys
 
@@ -41,8 +41,8 @@ pub record HasNoEarlierFault (d : Domain) (asked : Asked) : Type 0 where
   pub paced : is_pace asked.every asked.phase ≡ true
   pub some_branch : 0 < length asked.paths
   pub known : (branch : Branch) (name : List ℕ) → Contains asked.paths branch → Contains branch name → node_named d name ≢ None
-  pub whole : (branch : Branch) (place : ℕ) → Contains asked.paths branch → place ≤ length branch → is_broken_at d branch place ≡ false
-  pub simple : (branch : Branch) (place : ℕ) → Contains asked.paths branch → place ≤ length branch → is_loop_at d branch place ≡ false
+  pub whole : (branch : Branch) (index : ℕ) → Contains asked.paths branch → index ≤ length branch → is_broken_at d branch index ≡ false
+  pub simple : (branch : Branch) (index : ℕ) → Contains asked.paths branch → index ≤ length branch → is_loop_at d branch index ≡ false
 
 -- two branches begin with the same node, differ, and each node of both has the same nodes before it in both. So no node that the
 -- one branch has after another beginning is in the other
@@ -57,25 +57,25 @@ PairsHaveTheirBeginnings = (d : Domain) (asked : Asked) (xs ys : Branch) → Has
     MakeOneTree xs ys ↔ HaveTheirBeginningsOnce xs ys
 
 -- this branch is the first that makes no tree with a branch before it: each two branches before it make one tree
-pub record IsFirstStray (paths : List Branch) (place : ℕ) : Type 0 where
+pub record IsFirstStray (paths : List Branch) (index : ℕ) : Type 0 where
   pub branch : Branch
-  pub here : slice_get paths place ≡ Some branch
+  pub here : slice_get paths index ≡ Some branch
   pub earlier : ℕ
-  pub before : earlier < place
+  pub before : earlier < index
   pub other : Branch
   pub there : slice_get paths earlier ≡ Some other
   pub no_tree : ¬ MakeOneTree other branch
-  pub first : (i j : ℕ) (xs ys : Branch) → i < j → j < place → slice_get paths i ≡ Some xs → slice_get paths j ≡ Some ys → MakeOneTree xs ys
+  pub first : (i j : ℕ) (xs ys : Branch) → i < j → j < index → slice_get paths i ≡ Some xs → slice_get paths j ≡ Some ys → MakeOneTree xs ys
 
 -- a request is refused for a branch as no tree exactly if no earlier refusal applies and the branch is the first such
 abbrev pub RefusedAsNoTree : Type 0
-RefusedAsNoTree = (d : Domain) (rows : List Row) (asked : Asked) (place : ℕ) →
-    refusal_of d rows asked ≡ Some (NotATree place) ↔ (HasNoEarlierFault d asked × IsFirstStray asked.paths place)
+RefusedAsNoTree = (d : Domain) (rows : List Row) (asked : Asked) (index : ℕ) →
+    refusal_of d rows asked ≡ Some (NotATree index) ↔ (HasNoEarlierFault d asked × IsFirstStray asked.paths index)
 
 -- so if no earlier refusal applies, a request is refused for no branch exactly if each two of its branches make one tree
 abbrev pub TreesAreMadeOfPairs : Type 0
 TreesAreMadeOfPairs = (d : Domain) (rows : List Row) (asked : Asked) → HasNoEarlierFault d asked →
-    ((place : ℕ) → refusal_of d rows asked ≢ Some (NotATree place)) ↔ AllPairs MakeOneTree asked.paths
+    ((index : ℕ) → refusal_of d rows asked ≢ Some (NotATree index)) ↔ AllPairs MakeOneTree asked.paths
 
 -- if a tree may have as many hops as the domain has links, no request is refused for its hops
 abbrev pub LinksBoundHops : Type 0

@@ -19,16 +19,17 @@ one_link limits = record {
   cycle_time = 250000;
   guard = 5000;
   sync = 0;
+  overhead = 0;
   bridges = codes "a" ∷ [];
   stations = codes "s" ∷ [];
   links = record { from = 0; to = Station 0; rate = Mb1000; delay = 500; least = 500; guard = None } ∷ [];
 }
 
--- a request for a stream over this link that takes two thirds of the link's budget in the stream's own cycles
+-- a request for a stream over this link. Its 20,000 octets cost 26,240 of the link's budget of 30,625 in the stream's own cycles
 abbrev pub asked_as : List ℕ → ℕ → ℕ → Asked
 asked_as name every phase = record { name = name; octets = 20000; every = every; phase = phase; paths = (codes "a" ∷ codes "s" ∷ []) ∷ [] }
 
--- x is held; it uses the fourth of each 16 cycles
+-- x is held; the fourth of each 16 cycles is its own
 abbrev pub held : List Row
 held = granted_row (one_link profile) 0 0 (asked_as (codes "x") 16 3) ∷ []
 

@@ -26,7 +26,7 @@ TablesAscend =
 abbrev pub GrantedIsATree : Type 0
 GrantedIsATree = (d : Domain) (rows : List Row) (asked : Asked) → refusal_of d rows asked ≡ None → IsTree d (tree_of d asked.paths)
 
--- and this tree contains exactly the hops of the branches
+-- the tree of a request that isn't refused contains exactly the hops of the branches
 abbrev pub TreeIsItsBranches : Type 0
 TreeIsItsBranches =
     (d : Domain) (rows : List Row) (asked : Asked) (hop : Hop) → refusal_of d rows asked ≡ None →

@@ -28,6 +28,7 @@ granted_row d number effect asked = record {
   no = number;
   name = asked.name;
   octets = asked.octets;
+  overhead = d.overhead;
   pace = pace_of asked;
   tree = record { items = tree_of d asked.paths };
   admitted = record { 0 = effect };
@@ -88,8 +89,8 @@ SealClosesTable =
     table_at d (with_entry entries seat Seals Sealed) (seals entries) ≡ rows
 
 -- what holds for held streams: each has a tree of the domain, a valid name and a reservation within the limits, and was admitted by
--- now; the numbers ascend and are below the next number; the names differ; and in any cycle they cost no more of a link than the
--- link's budget
+-- now; the numbers ascend and are below the next number; the names differ; in any cycle they cost no more of a link than the link's
+-- budget; and each row has the domain's overhead
 pub record AreHeld (d : Domain) (rows : List Row) (next effect : ℕ) : Type 0 where
   pub trees : (row : Row) → Contains rows row → IsTree d row.tree.items
   pub named : (row : Row) → Contains rows row → is_name row.name ≡ true
@@ -100,6 +101,7 @@ pub record AreHeld (d : Domain) (rows : List Row) (next effect : ℕ) : Type 0 w
   pub numbers : AllPairs (λ (a b : Row). a.no < b.no) rows
   pub names : AllPairs (λ (a b : Row). a.name ≢ b.name) rows
   pub loads : (l cycle : ℕ) → link_cost rows l cycle ≤ budget d l
+  pub overheads : (row : Row) → Contains rows row → row.overhead ≡ d.overhead
 
 -- all this holds for the streams that are held after a legal history
 abbrev pub HeldAreSound : Type 0

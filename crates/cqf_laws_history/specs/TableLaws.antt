@@ -8,8 +8,8 @@ use Rattle.cqf_model.specs.History.{Act, Recorded, seals, table_at}
 use Rattle.cqf_model.specs.Table.{is_held, is_live, residence}
 use Rattle.cqf_laws_history.specs.StateLaws.{with_entry}
 
--- a withdrawn stream is held from its admission until `residence` cycles after its withdrawal: as many cycles as the hop number of
--- its deepest link, and not a cycle longer
+-- a withdrawn stream is held from its admission until `residence` cycles after its withdrawal: as many cycles as the greatest hop number of
+-- its links, and not a cycle longer
 abbrev pub WithdrawnIsHeldForItsTree : Type 0
 WithdrawnIsHeldForItsTree =
     (row : Row) (cycle : ℕ) (w : Cycle) → row.withdrawn ≡ Some w →

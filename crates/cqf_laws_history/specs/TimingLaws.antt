@@ -3,7 +3,7 @@ use Rattle.std.specs.Prelude.{ℕ, ◌≡◌, ◌+◌, ◌*◌, ◌≤◌, ◌<�
 use Rattle.cqf_units.specs.Timing.{ending_of, idle_after, time_of, wire_of}
 use Rattle.cqf_model.specs.declared.frames.Sent.{Sent}
 use Rattle.cqf_model.specs.Domain.{Domain, delay_of, octet_time_of}
-use Rattle.cqf_model.specs.Traffic.{whole_at}
+use Rattle.cqf_model.specs.Policing.{whole_at}
 
 -- a frame has fully arrived in the next node when its 8 octets of preamble and start delimiter and its own octets have been sent
 -- and the link's delay has passed
@@ -21,7 +21,7 @@ pub record IsFirstBy (start octets octet_time instant : ℕ) : Type 0 where
 abbrev pub EndingIsCounted : Type 0
 EndingIsCounted = (start octets octet_time : ℕ) → IsFirstBy start (octets + 8) octet_time (ending_of start octets octet_time)
 
--- and the link is free 12 octets of gap later
+-- after a frame is over, the link is free 12 octets of gap later
 abbrev pub GapIsCounted : Type 0
 GapIsCounted =
     (start octets octet_time : ℕ) → IsFirstBy start (octets + 8 + 12) octet_time (idle_after start octets octet_time)

@@ -6,8 +6,8 @@ use Rattle.cqf_model.specs.Domain.{Domain, cycle_of}
 use Rattle.cqf_model.specs.Network.{IsLoss, queued_frame, queued_to}
 use Rattle.cqf_model.specs.Run.{Run}
 use Rattle.cqf_model.specs.Table.{begins_at, goes_on, goes_to, is_live, row_named, row_of, table_of}
-use Rattle.cqf_model.specs.Traffic.{AtEdge, Carried, DroppedFor, ExceedsGate, LacksRow, Policed, Queued, Received, Relayed, Verdict, came_by, policed_before}
-use Rattle.cqf_model.specs.Traffic.{verdict_by}
+use Rattle.cqf_model.specs.Policing.{AtEdge, Carried, DroppedFor, ExceedsGate, LacksRow, Policed, Queued, Received, Relayed, Verdict, came_by, policed_before}
+use Rattle.cqf_model.specs.Policing.{verdict_by}
 
 -- the row of a name exists and is live in the cycle
 pub record HasLiveRow (named : Option Row) (cycle : ℕ) (row : Row) : Type 0 where
@@ -53,18 +53,18 @@ VerdictsInsideHaveTheirReason =
 abbrev pub QueuedFramesLeaveTheirBridge : Type 0
 QueuedFramesLeaveTheirBridge =
     (run : Run) (carried : Carried) (bridge end : ℕ) (p : Policed) (row : Row) → Contains (policed_before run carried bridge end) p →
-    p.verdict ≡ Queued row → goes_on run.domain row (came_by p.received.way) bridge ≡ true
+    p.verdict ≡ Queued row → goes_on run.domain row (came_by p.received.ingress) bridge ≡ true
 
 -- a frame that goes on with a row is queued, once, at each port whose link the row's stream takes next
 abbrev pub FramesGoToEachPort : Type 0
 FramesGoToEachPort =
-    (d : Domain) (received : Received) (row : Row) (l : ℕ) → Contains (goes_to row (came_by received.way)) l →
+    (d : Domain) (received : Received) (row : Row) (l : ℕ) → Contains (goes_to row (came_by received.ingress)) l →
     queued_to d l (record { received = received; verdict = Queued row } ∷ []) ≡ queued_frame d received row ∷ []
 
--- and at no other port
+-- a frame that goes on with a row is queued at no port whose link the row's stream doesn't take next
 abbrev pub FramesGoToNoOtherPort : Type 0
 FramesGoToNoOtherPort =
-    (d : Domain) (received : Received) (row : Row) (l : ℕ) → ¬ Contains (goes_to row (came_by received.way)) l →
+    (d : Domain) (received : Received) (row : Row) (l : ℕ) → ¬ Contains (goes_to row (came_by received.ingress)) l →
     queued_to d l (record { received = received; verdict = Queued row } ∷ []) ≡ []
 
 -- a frame that doesn't go on is queued nowhere
@@ -76,5 +76,5 @@ OtherFramesGoNowhere =
 abbrev pub RelayedFramesAreQueuedOrLost : Type 0
 RelayedFramesAreQueuedOrLost =
     (run : Run) (carried : Carried) (bridge end : ℕ) (p : Policed) (m number : ℕ) → Contains (policed_before run carried bridge end) p →
-    p.received.way ≡ Relayed m number → ¬ IsLoss p.verdict →
+    p.received.ingress ≡ Relayed m number → ¬ IsLoss p.verdict →
     (row : Row) × (row_of (table_of run.tables (cycle_of run.domain p.received.at)) number ≡ Some row) × (p.verdict ≡ Queued row)

@@ -7,7 +7,7 @@
 //! - Frames at a bridge: [`verdicts_have_their_reason`], [`queued_frames_leave_their_bridge`],
 //!   [`frames_go_to_each_port`], [`relayed_frames_are_queued_or_lost`].
 //! - Streams and tables: [`trees_say_where_streams_go`], [`streams_let_go_in_time`], [`closed_tables_stay`].
-//! - Background frames: [`background_is_told`].
+//! - Background frames: [`background_is_reported`].
 //! - Times: [`delay_counts`].
 //! - Paces and limits by an example: [`second_stream_is_judged`].
 //!
@@ -16,7 +16,7 @@
 //! cqf_laws_history::verdicts_have_their_reason();
 //! ```
 
-ghost use Rattle.cqf_laws_history.specs.BackgroundLaws.{BackgroundIsNumberedByPlace, BooksSayTheBackground, PortsSayTheirBackground};
+ghost use Rattle.cqf_laws_history.specs.BackgroundLaws.{BackgroundIsNumberedByIndex, BooksSayTheBackground, PortsSayTheirBackground};
 ghost use Rattle.cqf_laws_history.specs.Example.{IsSaidOfTheSecond};
 ghost use Rattle.cqf_laws_history.specs.TableLaws.{
   WithdrawnIsHeldForItsTree,
@@ -40,7 +40,7 @@ ghost use Rattle.cqf_laws_history.specs.TreeLaws.{
   FramesGoOnWhereALinkLeaves,
   GatesStandWhereLinksLeave,
   OneGateABridge,
-  ResidenceIsTheGreatestDepth,
+  ResidenceIsTheGreatestHopNumber,
   StreamsCostOnceALink,
   StreamsCostNothingElsewhere,
 };
@@ -75,7 +75,7 @@ pub fn frames_go_to_each_port()
 ///
 /// - From a bridge, a frame goes on by the tree's links that follow the link by which it came and that leave this bridge.
 /// - A stream has exactly one gate at each bridge that its links leave.
-/// - The stream's residence, in cycles, is the hop number of its deepest link.
+/// - The stream's residence, in cycles, is the greatest hop number of its links.
 /// - On each link of its tree, and in each cycle in which its frames go by that link, a stream costs the cost of its reservation,
 ///   once. In every other cycle it costs nothing there, and on a link outside its tree it costs nothing.
 pub fn trees_say_where_streams_go()
@@ -83,13 +83,13 @@ pub fn trees_say_where_streams_go()
     ensures bridges { FramesGoOnWhereALinkLeaves }
     ensures gates { GatesStandWhereLinksLeave }
     ensures one_gate { OneGateABridge }
-    ensures deepest { ResidenceIsTheGreatestDepth }
+    ensures greatest_hop_number { ResidenceIsTheGreatestHopNumber }
     ensures costs { StreamsCostOnceALink }
     ensures costs_nothing { StreamsCostNothingElsewhere }
 {}
 
-/// Proves that a stream is live from the cycle of its admission until the cycle of its withdrawal, which is excluded, and that it
-/// is held for as many cycles more as the hop number of its deepest link.
+/// Proves that a stream is live from the cycle of its admission up to the cycle of its withdrawal, exclusive. It is then held for as many
+/// more cycles as the greatest hop number of its links.
 pub fn streams_let_go_in_time()
     ensures held_for { WithdrawnIsHeldForItsTree }
     ensures held_on { OtherwiseItIsHeldOn }
@@ -114,8 +114,8 @@ pub fn delay_counts()
 ///
 /// Among the frames that a port starts, exactly those of no stream are its background frames. A book has every background frame
 /// that the links send in the run, with its cycle, link, number, octets and instant.
-pub fn background_is_told()
-    ensures numbers { BackgroundIsNumberedByPlace }
+pub fn background_is_reported()
+    ensures numbers { BackgroundIsNumberedByIndex }
     ensures ports { PortsSayTheirBackground }
     ensures books { BooksSayTheBackground }
 {}
@@ -132,8 +132,8 @@ pub fn relayed_frames_are_queued_or_lost()
     verdicts_have_their_reason();
 }
 
-/// Proves some worked examples: beside a stream of every 16 cycles that takes two thirds of a link's budget, the phases in which a
-/// second such stream is granted, and the lower limits that refuse it.
+/// Proves some worked examples. A link carries a stream of every 16 cycles that takes most of the link's budget in its cycles. The examples
+/// give periods and phases with which a second stream of that size is granted or refused, and lower limits that refuse it.
 pub fn second_stream_is_judged()
     ensures { IsSaidOfTheSecond }
 {}

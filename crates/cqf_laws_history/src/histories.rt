@@ -34,9 +34,12 @@ ghost use Rattle.cqf_laws_history.specs.StateLaws.{
 /// Proves that a legal history has one table for each closed cycle, that these tables are orderly, and that their rows are sorted
 /// by number.
 ///
-/// Orderly means that the trees are trees of the domain, that numbers and names identify one stream, that a live stream stays until
-/// its last frame has left the last bridge of its deepest branch, and that the streams of a table cost no more of a link than the
-/// link's budget.
+/// Tables are orderly if:
+///
+/// - The trees are trees of the domain.
+/// - Numbers and names identify one stream.
+/// - A live stream stays until its last frame has left the last bridge of its longest branch.
+/// - The streams of a table cost no more of a link than the link's budget.
 pub fn tables_are_orderly()
     ensures orderly { TablesAreOrderly }
     ensures ascend { TablesAscend }

@@ -11,7 +11,7 @@
 //! - **Frames at a bridge**, in a planner's words: [`verdicts_have_their_reason`], [`queued_frames_leave_their_bridge`],
 //!   [`frames_go_to_each_port`], [`relayed_frames_are_queued_or_lost`].
 //! - **Streams and tables**: [`trees_say_where_streams_go`], [`streams_let_go_in_time`], [`closed_tables_stay`].
-//! - **Background frames**: [`background_is_told`].
+//! - **Background frames**: [`background_is_reported`].
 //! - **Times**: [`delay_counts`].
 //! - **Paces and limits by an example**: [`second_stream_is_judged`].
 //!
@@ -26,7 +26,7 @@ mod histories;
 mod seals;
 
 pub use definitions::{
-    background_is_told, closed_tables_stay, delay_counts, frames_go_to_each_port,
+    background_is_reported, closed_tables_stay, delay_counts, frames_go_to_each_port,
     queued_frames_leave_their_bridge, relayed_frames_are_queued_or_lost, second_stream_is_judged,
     streams_let_go_in_time, trees_say_where_streams_go, verdicts_have_their_reason,
 };

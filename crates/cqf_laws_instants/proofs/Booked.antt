@@ -8,7 +8,7 @@ use Rattle.cqf_model.specs.Book.{started}
 use Rattle.cqf_model.specs.Domain.{bridge_of}
 use Rattle.cqf_model.specs.Network.{QueuedFrame, queued_in, sent_by}
 use Rattle.cqf_model.specs.Run.{Run, end_of_run}
-use Rattle.cqf_model.specs.Traffic.{Carried}
+use Rattle.cqf_model.specs.Policing.{Carried}
 use Rattle.cqf_lists.proofs.Members.{contains_here, contains_later}
 use Rattle.cqf_laws_shift.specs.Alone.{IsRunAlone}
 use Rattle.cqf_laws_shift.specs.Run.{RunBesideIsRunAlone}
@@ -24,14 +24,14 @@ pub sent_one : (t : ℕ) (x : Arrival) (stream : Option ℕ) (number : ℕ) → 
 sent_one t x stream number e = ap (sent_by t x) e
 
 -- the book records streams' frames in turn, one after the other
-turns_told : (cycle link t octet_time : ℕ) (xs : List QueuedFrame) → ((x : QueuedFrame) → Contains xs x → (number : ℕ) × (x.stream ≡ Some number)) →
+due_starts_reported : (cycle link t octet_time : ℕ) (xs : List QueuedFrame) → ((x : QueuedFrame) → Contains xs x → (number : ℕ) × (x.stream ≡ Some number)) →
     map (started cycle link) (in_turn_from t octet_time xs) ≡ starts_from cycle link t octet_time xs
-turns_told cycle link t octet_time [] of_streams = refl
-turns_told cycle link t octet_time (x ∷ xs) of_streams =
+due_starts_reported cycle link t octet_time [] of_streams = refl
+due_starts_reported cycle link t octet_time (x ∷ xs) of_streams =
     let next = t + slot_of x.arrival.octets octet_time in
     let s = of_streams x (contains_here x xs) in
     let one = sent_one t x.arrival x.stream s.0 s.1 in
-    let rest = turns_told cycle link next octet_time xs (λ y c. of_streams y (contains_later x xs y c)) in
+    let rest = due_starts_reported cycle link next octet_time xs (λ y c. of_streams y (contains_later x xs y c)) in
     let own : Started = record { cycle = record { 0 = cycle }; link = link; frame = x.arrival.frame; octets = x.arrival.octets; start = record { 0 = t } } in
     ap (λ (ys : List Sent). map (started cycle link) (ys ++ in_turn_from next octet_time xs)) one ∙ ap (λ (ys : List Started). own ∷ ys) rest
 
@@ -48,5 +48,5 @@ module _ (laws : CycleLaws) (run : Run) (carried : Carried) (alone : IsRunAlone 
 pub starts_are_in_turn : CycleLaws → RunBesideIsRunAlone → StartsAreInTurn
 starts_are_in_turn laws beside run net l cycle legal in_run =
     ap (map (started (cycle + 1) l)) (batch_is_due laws beside run net l cycle legal in_run)
-    ∙ turns_told (cycle + 1) l _ _ (queued_in run net.carried l cycle)
+    ∙ due_starts_reported (cycle + 1) l _ _ (queued_in run net.carried l cycle)
     (queued_of_stream laws run net.carried (beside run net legal) l cycle (omega (arith, in_run)))

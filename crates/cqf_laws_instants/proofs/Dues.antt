@@ -17,8 +17,8 @@ use Rattle.cqf_model.specs.Domain.{Domain, bridge_of, cycle_of, octet_time_of}
 use Rattle.cqf_model.specs.Network.{QueuedFrame, arrivals_of, no_frame, queued_before, queued_in, sent_of}
 use Rattle.cqf_model.specs.Port.{Transmission, no_arrival}
 use Rattle.cqf_model.specs.Run.{Run, end_of_run}
-use Rattle.cqf_model.specs.Traffic.{Carried}
-use Rattle.cqf_model.specs.Turn.{busy, cycle_of_place, due, is_streams, load, slot_in, wire_in}
+use Rattle.cqf_model.specs.Policing.{Carried}
+use Rattle.cqf_model.specs.Due.{busy, cycle_of_index, due, is_streams, load, slot_in, wire_in}
 use Rattle.cqf_model.proofs.Links.{octet_positive}
 use Rattle.cqf_model.proofs.Sending.{sent_then}
 use Rattle.cqf_lists.specs.Lists.{each_below}
@@ -35,11 +35,11 @@ use Rattle.cqf_laws_shift.proofs.CycleLaws.{CycleLaws}
 use Rattle.cqf_laws_shift.proofs.Fed.{queue_class, some_time}
 use Rattle.cqf_laws_shift.proofs.Queues.{gives_streams, queued_from}
 use Rattle.cqf_laws_shift.proofs.QueuesByCycles.{queue_by_cycles}
-use Rattle.cqf_laws_shift.proofs.Runs.{place_timed, ports_due, sends, sent_timed, start_due, start_in_queue}
+use Rattle.cqf_laws_shift.proofs.Runs.{index_timed, ports_due, sends, sent_timed, start_due, start_in_queue}
 use Rattle.cqf_laws_shift.proofs.Trees.{goes_inside}
-use Rattle.cqf_laws_shift.proofs.Ways.{queued_member}
+use Rattle.cqf_laws_shift.proofs.Paths.{queued_member}
 use Rattle.cqf_laws_instants.specs.Instants.{BatchIsDue, FirstBatchIsEmpty, in_turn_from}
-use Rattle.cqf_laws_instants.proofs.Turns.{is_turn, slot, turn_is, turns, turns_ascend, turns_send, wire}
+use Rattle.cqf_laws_instants.proofs.DueStarts.{due_start_is, due_starts, due_starts_ascend, due_starts_send, is_due_start, slot, wire}
 
 -- a list without members is empty
 nil_of_none : {X : Type 0} (xs : List X) → ((x : X) → Contains xs x → ⊥) → xs ≡ []
@@ -122,8 +122,8 @@ module _ (laws : CycleLaws) (run : Run) (carried : Carried) (alone : IsRunAlone 
         ∙ append_assoc before now after
 
     -- a frame of the queue after those queued before the cycle
-    behind : (k : ℕ) → get_or queue (length before + k) no_frame ≡ get_or (now ++ after) k no_frame
-    behind k = ap (λ (xs : List QueuedFrame). get_or xs (length before + k) no_frame) parts ∙ get_or-append-add before (now ++ after) k no_frame
+    following : (k : ℕ) → get_or queue (length before + k) no_frame ≡ get_or (now ++ after) k no_frame
+    following k = ap (λ (xs : List QueuedFrame). get_or xs (length before + k) no_frame) parts ∙ get_or-append-add before (now ++ after) k no_frame
 
     -- the queue is as long as the three parts
     long : length queue ≡ length before + (length now + length after)
@@ -131,12 +131,12 @@ module _ (laws : CycleLaws) (run : Run) (carried : Carried) (alone : IsRunAlone 
 
     -- a frame that is queued in the cycle
     at_now : (k : ℕ) → k < length now → get_or queue (length before + k) no_frame ≡ get_or now k no_frame
-    at_now k less = behind k ∙ get_or_append_left now after no_frame k less
+    at_now k less = following k ∙ get_or_append_left now after no_frame k less
 
     -- a frame of the cycle is at such an index
-    place_in : (p : ℕ) → p < length queue → cycle_of d (get_or queue p no_frame).arrival.at.0 ≡ cycle →
+    index_in : (p : ℕ) → p < length queue → cycle_of d (get_or queue p no_frame).arrival.at.0 ≡ cycle →
         (k : ℕ) × (k < length now) × (p ≡ length before + k)
-    place_in p inside is = elim (cases_lt p (length before)) [
+    index_in p inside is = elim (cases_lt p (length before)) [
       | inl early ↦
           let same : get_or queue p no_frame ≡ get_or before p no_frame =
           ap (λ (xs : List QueuedFrame). get_or xs p no_frame) parts ∙ get_or_append_left before (now ++ after) no_frame p early in
@@ -148,10 +148,10 @@ module _ (laws : CycleLaws) (run : Run) (carried : Carried) (alone : IsRunAlone 
         | inr more ↦
             let k = p - length before in
             let j = k - length now in
-            let place : p ≡ length before + (length now + j) = omega (arith, late, more) in
+            let index : p ≡ length before + (length now + j) = omega (arith, late, more) in
             let same : get_or queue p no_frame ≡ get_or after j no_frame =
-            ap (λ (z : ℕ). get_or queue z no_frame) place ∙ behind (length now + j) ∙ get_or-append-add now after j no_frame in
-            let short : j < length after = omega (arith, place, inside, long) in
+            ap (λ (z : ℕ). get_or queue z no_frame) index ∙ following (length now + j) ∙ get_or-append-add now after j no_frame in
+            let short : j < length after = omega (arith, index, inside, long) in
             let from = front.late (get_or after j no_frame) (Contains-get_or after j no_frame short) in
             let at = came_in run carried l from.0 (get_or after j no_frame) from.3 in
             absurd (omega (arith, from.1, at, is, ap (λ (q : QueuedFrame). cycle_of d q.arrival.at.0) same))
@@ -222,7 +222,7 @@ module _ (laws : CycleLaws) (run : Run) (carried : Carried) (alone : IsRunAlone 
     inside_at k less = omega (arith, less, long)
 
     -- it is of the cycle
-    cycle_there : (k : ℕ) → k < length now → cycle_of_place n (arrivals_of queue) (length before + k) ≡ cycle
+    cycle_there : (k : ℕ) → k < length now → cycle_of_index n (arrivals_of queue) (length before + k) ≡ cycle
     cycle_there k less =
         ap (λ (a : Arrival). cycle_at n a.at.0) (seen (length before + k) (inside_at k less))
         ∙ ap (λ (q : QueuedFrame). cycle_at n q.arrival.at.0) (at_now k less)
@@ -244,14 +244,14 @@ module _ (laws : CycleLaws) (run : Run) (carried : Carried) (alone : IsRunAlone 
 
     -- those in turn
     abbrev expected : List Transmission
-    expected = turns (length before) ((cycle + 1) * n) r now
+    expected = due_starts (length before) ((cycle + 1) * n) r now
 
     -- a frame of the cycle that starts in its turn is one of them
     in_turn : (z : Transmission) (k : ℕ) → k < length now → z.0 ≡ length before + k → z.1 ≡ (cycle + 1) * n + sum_by (slot r) (take k now) →
         Contains expected z
-    in_turn z k less place instant =
-        subst (λ (x : Transmission). Contains expected x) (sym (ap₂ (λ (a b : ℕ). (a, b)) place instant))
-        (is_turn (length before) ((cycle + 1) * n) r now k less)
+    in_turn z k less index instant =
+        subst (λ (x : Transmission). Contains expected x) (sym (ap₂ (λ (a b : ℕ). (a, b)) index instant))
+        (is_due_start (length before) ((cycle + 1) * n) r now k less)
 
     -- each transmission of the next cycle is in turn
     is_expected : (z : Transmission) → Contains mine z → Contains expected z
@@ -259,10 +259,10 @@ module _ (laws : CycleLaws) (run : Run) (carried : Carried) (alone : IsRunAlone 
         let m = contains_from_filter (λ (x : Transmission). cycle_of d x.1 == cycle + 1) starts z c in
         let inside = start_in_queue laws run carried alone l is_link z.0 z.1 m.0 in
         let here : cycle_of d z.1 ≡ cycle + 1 = eqb-true (cycle_of d z.1) (cycle + 1) m.1 in
-        let timed = place_timed laws run carried alone l is_link z.0 z.1 m.0 in
+        let timed = index_timed laws run carried alone l is_link z.0 z.1 m.0 in
         let at : cycle_of d (get_or queue z.0 no_frame).arrival.at.0 ≡ cycle =
         omega (arith, here, timed, ap (λ (a : Arrival). cycle_at n a.at.0) (seen z.0 inside)) in
-        let k = place_in z.0 inside at in
+        let k = index_in z.0 inside at in
         let instant : z.1 ≡ (cycle + 1) * n + sum_by (slot r) (take k.0 now) =
         start_due laws run carried alone l is_link z.0 z.1 m.0 ∙ ap (due n r (arrivals_of queue)) k.2 ∙ due_at k.0 k.1 in
         in_turn z k.0 k.1 k.2 instant
@@ -270,7 +270,7 @@ module _ (laws : CycleLaws) (run : Run) (carried : Carried) (alone : IsRunAlone 
     -- and each transmission in turn is of the next cycle
     from_expected : cycle + 1 < length run.tables → (z : Transmission) → Contains expected z → Contains mine z
     from_expected goes_on z c =
-        let t = turn_is (length before) ((cycle + 1) * n) r now z.0 z.1 c in
+        let t = due_start_is (length before) ((cycle + 1) * n) r now z.0 z.1 c in
         let p = length before + t.k in
         let inside : p < length (arrivals_of queue) =
         omega (arith, inside_at t.k t.inside, length-map queue (λ (q : QueuedFrame). q.arrival)) in
@@ -279,10 +279,10 @@ module _ (laws : CycleLaws) (run : Run) (carried : Carried) (alone : IsRunAlone 
         (high (get_or queue p no_frame) (Contains-get_or queue p no_frame (inside_at t.k t.inside))) in
         let of_cycle = cycle_there t.k t.inside in
         let dues = ports_due laws run carried alone l is_link in
-        let early : cycle_of_place n (arrivals_of queue) p + 1 < length run.tables = omega (arith, of_cycle, goes_on) in
+        let early : cycle_of_index n (arrivals_of queue) p + 1 < length run.tables = omega (arith, of_cycle, goes_on) in
         let started = dues.each p inside streams (omega (arith, early)) early in
         let next = dues.next p inside streams (omega (arith, early)) in
-        let is : (p, due n r (arrivals_of queue) p) ≡ z = ap₂ (λ (a b : ℕ). (a, b)) (sym t.is_place) (due_at t.k t.inside ∙ sym t.is_instant) in
+        let is : (p, due n r (arrivals_of queue) p) ≡ z = ap₂ (λ (a b : ℕ). (a, b)) (sym t.is_index) (due_at t.k t.inside ∙ sym t.is_instant) in
         subst (λ (x : Transmission). Contains mine x) is
         (contains_filter (λ (x : Transmission). cycle_of d x.1 == cycle + 1) starts (p, due n r (arrivals_of queue) p) started
         (eq-eqb (cycle_of d (due n r (arrivals_of queue) p)) (cycle + 1) (omega (arith, next, of_cycle))))
@@ -293,7 +293,7 @@ module _ (laws : CycleLaws) (run : Run) (carried : Carried) (alone : IsRunAlone 
         let earlier = λ (a b : Transmission). a.1 < b.1 in
         same_ordered earlier (λ a b x y. omega (arith, x, y)) mine expected
         (AllPairs-filter earlier (λ (x : Transmission). cycle_of d x.1 == cycle + 1) starts (sends laws run carried alone l is_link).legal.in_order)
-        (turns_ascend (length before) ((cycle + 1) * n) r now (octet_positive d l is_link)) is_expected (from_expected goes_on)
+        (due_starts_ascend (length before) ((cycle + 1) * n) r now (octet_positive d l is_link)) is_expected (from_expected goes_on)
 
     -- and so the link sends it in turn
     sent_in_turn : cycle + 1 < length run.tables → batch run.domain carried l (cycle + 1)
@@ -302,7 +302,7 @@ module _ (laws : CycleLaws) (run : Run) (carried : Carried) (alone : IsRunAlone 
         ap (filter (λ (sent : Sent). cycle_of d sent.start.0 == cycle + 1)) (sends laws run carried alone l is_link).are_sent
         ∙ sent_then (λ t. cycle_of d t == cycle + 1) queue starts
         ∙ ap (flat_map (sent_of queue)) (same_starts goes_on)
-        ∙ turns_send queue before now after (length before) ((cycle + 1) * n) r parts refl
+        ∙ due_starts_send queue before now after (length before) ((cycle + 1) * n) r parts refl
 
   -- the same if the domain doesn't have the link
   pub alone_is_due : (l cycle : ℕ) → cycle + 1 < length run.tables → batch run.domain carried l (cycle + 1)

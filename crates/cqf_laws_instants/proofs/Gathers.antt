@@ -17,7 +17,7 @@ use Rattle.cqf_model.specs.declared.frames.Sent.{Sent}
 use Rattle.cqf_model.specs.Domain.{cycle_of, enters}
 use Rattle.cqf_model.specs.Network.{Network, compiled_lists}
 use Rattle.cqf_model.specs.Run.{Run}
-use Rattle.cqf_model.specs.Traffic.{Carried, Received, is_offered_at, numbered, offer_received, offered_at, received_at, relayed_at, sent_received, whole_at}
+use Rattle.cqf_model.specs.Policing.{Carried, Received, is_offered_at, numbered, offer_received, offered_at, received_at, relayed_at, sent_received, whole_at}
 use Rattle.cqf_model.proofs.Coming.{offered_when}
 use Rattle.cqf_model.proofs.Represented.{few_links}
 use Rattle.cqf_laws_cycle.specs.BridgeCycle.{BatchIsWholeInItsCycle, CycleBringsItsBatches, FramesKeepTheirOrder, IsCompiledNetwork, received_in}
@@ -117,7 +117,7 @@ module _ (run : Run) (batches : Carried) (bridge cycle : ℕ) where
         let d = run.domain in
         let links = length d.links in
         let R = Either IsTakenBefore in
-        let source : (m : ℕ) (x : Received) → Contains (brought m) x → source_of x.way ≡ m =
+        let source : (m : ℕ) (x : Received) → Contains (brought m) x → source_of x.ingress ≡ m =
         λ m x c. link_source d m (batches m) x (contains_if (enters d m bridge) (map (sent_received d m) (batches m)) x c) in
         pairs_append R (each_below brought links) (map offer_received offers)
         (pairs_below R brought links

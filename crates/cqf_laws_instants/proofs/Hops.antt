@@ -1,4 +1,4 @@
--- A frame is in a lane according to its stream's tree.
+-- A frame is in a queue according to its stream's tree.
 use Rattle.cqf_model.specs.declared.topology.Pace.{Pace}
 use Rattle.std.specs.Prelude.{find}
 use Rattle.std.specs.Option.{option_map_or}
@@ -21,8 +21,8 @@ use Rattle.cqf_model.specs.Network.{Network, QueuedFrame, queued_frame}
 use Rattle.cqf_model.specs.Run.{Run, end_of_run}
 use Rattle.cqf_model.specs.Shift.{IsCovered}
 use Rattle.cqf_model.specs.StreamGate.{gate_class, stream_list}
-use Rattle.cqf_model.specs.Table.{SameStream, links_in, row_of, same_way, table_of}
-use Rattle.cqf_model.specs.Traffic.{AtEdge, Carried, Policed, Received, came_by, numbered, offer_received, police, police_all, policed_before, sent_received}
+use Rattle.cqf_model.specs.Table.{SameStream, links_in, row_of, same_ingress, table_of}
+use Rattle.cqf_model.specs.Policing.{AtEdge, Carried, Policed, Received, came_by, numbered, offer_received, police, police_all, policed_before, sent_received}
 use Rattle.cqf_model.specs.Promise.{MeansTheShift}
 use Rattle.cqf_laws_history.specs.TrafficLaws.{RelayedFramesAreQueuedOrLost}
 use Rattle.cqf_laws_shift.specs.Run.{IsLegalRun}
@@ -30,8 +30,8 @@ use Rattle.cqf_laws_cycle.specs.BridgeCycle.{BatchIsWholeInItsCycle, CycleBrings
 use Rattle.cqf_laws_cycle.specs.RunSteps.{RunIsItsCycles}
 use Rattle.cqf_laws_cycle.specs.Gathered.{offered_for}
 use Rattle.cqf_laws_instants.specs.QueueLaws.{covering, goes_by, goes_with, offered_as, row_with_name}
-use Rattle.cqf_laws_instants.specs.LaneLaws.{GoesByTree}
-use Rattle.cqf_laws_instants.proofs.Behind.{at_port, covering_covers}
+use Rattle.cqf_laws_instants.specs.GatheredLaws.{GoesByTree}
+use Rattle.cqf_laws_instants.proofs.After.{at_port, covering_covers}
 use Rattle.cqf_laws_instants.proofs.Gathers.{brought, gathered_has}
 
 -- there is a verdict on each frame
@@ -48,32 +48,32 @@ policed_each d tables at earlier (y ∷ xs) x h =
 
 -- a frame as a port sees it, by its stream's reservation, pace, hop number and number
 abbrev frame_by : Domain → Received → ℕ → Pace → ℕ → ℕ → QueuedFrame
-frame_by d x octets pace depth number = record {
-  arrival = record { at = record { 0 = x.at }; class = gate_class (stream_list d.cycle_time octets pace depth) x.at; octets = x.octets; frame = x.frame };
+frame_by d x octets pace hop_number number = record {
+  arrival = record { at = record { 0 = x.at }; class = gate_class (stream_list d.cycle_time octets pace hop_number) x.at; octets = x.octets; frame = x.frame };
   stream = Some number;
 }
 
 -- the hop number of a frame in its stream's tree
-abbrev depth_by : List Hop → Option ℕ → ℕ
-depth_by tree None = 0
-depth_by tree (Some m) = option_map_or (λ (hop : Hop). hop.depth) (find (λ (hop : Hop). hop.link == m) tree) 0
+abbrev hop_number_by : List Hop → Option ℕ → ℕ
+hop_number_by tree None = 0
+hop_number_by tree (Some m) = option_map_or (λ (hop : Hop). hop.hop_number) (find (λ (hop : Hop). hop.link == m) tree) 0
 
--- whether a tree has a link after the way by which a frame came
-abbrev has_behind : ℕ → Received → List Hop → Bool
-has_behind l x tree = list_any (λ next. next == l) (links_in (filter (λ (hop : Hop). same_way hop.from (came_by x.way)) tree))
+-- whether a tree has a link after the ingress by which a frame came
+abbrev has_after : ℕ → Received → List Hop → Bool
+has_after l x tree = list_any (λ next. next == l) (links_in (filter (λ (hop : Hop). same_ingress hop.from (came_by x.ingress)) tree))
 
 -- a frame that goes on with a row goes on by the tree of each row of its stream
-goes_by_tree : (run : Run) (l : ℕ) (x : Received) (found row : Row) → row_with_name run (bridge_of run.domain l) x x.way ≡ Some found → SameStream found row →
+goes_by_tree : (run : Run) (l : ℕ) (x : Received) (found row : Row) → row_with_name run (bridge_of run.domain l) x x.ingress ≡ Some found → SameStream found row →
     found.no ≡ row.no → GoesByTree run l x row
 goes_by_tree run l x found row is same number =
     let d = run.domain in
     record {
-      goes = ap (goes_with l x.way) is ∙ ap (has_behind l x) same.tree;
+      goes = ap (goes_with l x.ingress) is ∙ ap (has_after l x) same.tree;
       queued =
           ap (at_port run l x) is
-          ∙ ap (λ (tree : List Hop). cond (has_behind l x tree) (queued_frame d x found ∷ []) []) same.tree
-          ∙ ap (λ (frame : QueuedFrame). cond (has_behind l x row.tree.items) (frame ∷ []) []) (λ i.
-          frame_by d x (same.octets i) (same.pace i) (depth_by (same.tree i) (came_by x.way)) (number i));
+          ∙ ap (λ (tree : List Hop). cond (has_after l x tree) (queued_frame d x found ∷ []) []) same.tree
+          ∙ ap (λ (frame : QueuedFrame). cond (has_after l x row.tree.items) (frame ∷ []) []) (λ i.
+          frame_by d x (same.octets i) (same.pace i) (hop_number_by (same.tree i) (came_by x.ingress)) (number i));
     }
 
 module _ (whole : BatchIsWholeInItsCycle) (brings : CycleBringsItsBatches) (keeps : FramesKeepTheirOrder) (cycles : RunIsItsCycles)
@@ -112,7 +112,7 @@ module _ (whole : BatchIsWholeInItsCycle) (brings : CycleBringsItsBatches) (keep
       let came : Contains (policed_before run net.carried bridge (end_of_run run)) p.0 =
       subst (λ (ps : List Policed). Contains ps p.0) (sym (cycles run net.carried bridge (length run.tables)))
       (contains_below (policed_of run net.carried bridge) (length run.tables) cycle p.0 within p.1) in
-      let r = relayed run net.carried bridge (end_of_run run) p.0 m sent.stream came (ap (λ (y : Received). y.way) p.2)
+      let r = relayed run net.carried bridge (end_of_run run) p.0 m sent.stream came (ap (λ (y : Received). y.ingress) p.2)
       (λ lost. means.none_lost bridge p.0 (record { came = came; lost = lost })) in
       let found : row_of (table_of run.tables (cycle_of d x.at)) sent.stream ≡ Some r.0 =
       subst (λ (y : Received). row_of (table_of run.tables (cycle_of d y.at)) sent.stream ≡ Some r.0) p.2 r.1 in

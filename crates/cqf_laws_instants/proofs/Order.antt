@@ -14,7 +14,7 @@ use Rattle.cqf_model.specs.declared.frames.Offered.{Offered}
 use Rattle.cqf_model.specs.declared.frames.Sent.{Sent}
 use Rattle.cqf_model.specs.Domain.{Domain, enters}
 use Rattle.cqf_model.specs.Run.{Run}
-use Rattle.cqf_model.specs.Traffic.{Carried, Received, is_offered_at, numbered, offer_received, offered_at, received_at, relayed_at, sent_received, whole_at}
+use Rattle.cqf_model.specs.Policing.{Carried, Received, is_offered_at, numbered, offer_received, offered_at, received_at, relayed_at, sent_received, whole_at}
 use Rattle.cqf_model.proofs.Coming.{offered_when, received_when, relayed_when}
 use Rattle.cqf_laws_shift.proofs.Came.{numbers_ascend}
 use Rattle.cqf_laws_cycle.specs.BridgeCycle.{received_in}
@@ -26,7 +26,7 @@ pub one_way : (a b : Received) → IsTakenBefore a b → IsTakenBefore b a → �
 one_way a b h k = omega (arith, h, k)
 
 -- frames of different sources never tie
-pub by_sources : (a b : Received) → source_of a.way < source_of b.way → Either IsTakenBefore a b
+pub by_sources : (a b : Received) → source_of a.ingress < source_of b.ingress → Either IsTakenBefore a b
 by_sources a b l = elim (cases_order a.at b.at) [
   | inl e ↦ inl (inr (e, inl l))
   | inr o ↦ elim o [ inl sooner ↦ inl (inl sooner) | inr later ↦ inr (inl later) ]
@@ -53,21 +53,21 @@ offers_at_in_order offers bridge t =
     (AllPairs-filter (λ (a b : Offered). a.frame < b.frame) (is_offered_at bridge t) (numbered offers) (numbers_ascend offers)))
 
 -- what a link brings has the link's number as its source
-pub link_source : (d : Domain) (m : ℕ) (sents : List Sent) (x : Received) → Contains (map (sent_received d m) sents) x → source_of x.way ≡ m
+pub link_source : (d : Domain) (m : ℕ) (sents : List Sent) (x : Received) → Contains (map (sent_received d m) sents) x → source_of x.ingress ≡ m
 link_source d m sents x h =
     let w = contains_from_map (sent_received d m) sents x h in
-    sym (ap (λ (y : Received). source_of y.way) w.2)
+    sym (ap (λ (y : Received). source_of y.ingress) w.2)
 
 -- and the source number of an offer is greater than that of every link
-pub offer_source : (offers : List Offered) (x : Received) → Contains (map offer_received offers) x → source_of x.way ≡ 4096
+pub offer_source : (offers : List Offered) (x : Received) → Contains (map offer_received offers) x → source_of x.ingress ≡ 4096
 offer_source offers x h =
     let w = contains_from_map offer_received offers x h in
-    sym (ap (λ (y : Received). source_of y.way) w.2)
+    sym (ap (λ (y : Received). source_of y.ingress) w.2)
 
 module _ (run : Run) (carried : Carried) (bridge : ℕ) (few : length run.domain.links ≤ 4096)
     (ordered : (m : ℕ) → AllPairs (λ (a b : Sent). whole_at run.domain m a < whole_at run.domain m b) (carried m)) where
   -- what a link brings at an instant has the link's number as its source
-  relayed_source : (t m : ℕ) (x : Received) → Contains (relayed_at run.domain carried bridge t m) x → source_of x.way ≡ m
+  relayed_source : (t m : ℕ) (x : Received) → Contains (relayed_at run.domain carried bridge t m) x → source_of x.ingress ≡ m
   relayed_source t m x h =
       let d = run.domain in
       let whole = filter (λ (sent : Sent). whole_at d m sent == t) (carried m) in

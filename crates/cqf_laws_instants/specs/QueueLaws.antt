@@ -11,7 +11,7 @@ use Rattle.cqf_model.specs.Network.{Network, QueuedFrame, queued_frame, queued_i
 use Rattle.cqf_model.specs.Run.{Run}
 use Rattle.cqf_model.specs.Shift.{IsCovered, asked_with, offer_cycle, row_for}
 use Rattle.cqf_model.specs.Table.{begins_at, goes_to, is_live, row_of, table_of}
-use Rattle.cqf_model.specs.Traffic.{AtEdge, Carried, Received, Relayed, Way, came_by, numbered}
+use Rattle.cqf_model.specs.Policing.{AtEdge, Carried, Ingress, Received, Relayed, came_by, numbered}
 use Rattle.cqf_laws_shift.specs.Run.{IsLegalRun}
 use Rattle.cqf_laws_cycle.specs.BridgeCycle.{received_in}
 use Rattle.cqf_laws_cycle.specs.Gathered.{gathered_in}
@@ -32,7 +32,7 @@ if_passes test (Some row) = if test row then Some row else None
 abbrev pub covering : Run → Offered → Option Row
 covering run x = if_passes (covers run x) (row_for run.domain run.tables x)
 
--- it is the row that covers the offer in the sense of the shift
+-- `covering` finds exactly the row that covers the offer in the sense of the shift
 abbrev pub CoveringCovers : Type 0
 CoveringCovers = (run : Run) (x : Offered) (row : Row) → Contains (numbered run.offers) x → covering run x ≡ Some row ↔ IsCovered run x row
 
@@ -43,18 +43,18 @@ offered_as bridge x name =
 
 -- the row with which a frame goes on from a bridge: for an offer the one that covers it, for a frame that a link brought the one of
 -- its stream's number in the table of the cycle
-abbrev pub row_with_name : Run → ℕ → Received → Way → Option Row
+abbrev pub row_with_name : Run → ℕ → Received → Ingress → Option Row
 row_with_name run bridge x (AtEdge name) = covering run (offered_as bridge x name)
 row_with_name run bridge x (Relayed m number) = row_of (table_of run.tables (cycle_of run.domain x.at)) number
 
 -- whether it goes on by a link with such a row
-abbrev pub goes_with : ℕ → Way → Option Row → Bool
-goes_with l way None = false
-goes_with l way (Some row) = list_any (λ next. next == l) (goes_to row (came_by way))
+abbrev pub goes_with : ℕ → Ingress → Option Row → Bool
+goes_with l ingress None = false
+goes_with l ingress (Some row) = list_any (λ next. next == l) (goes_to row (came_by ingress))
 
 -- whether a frame at the bridge that a link leaves goes on by that link
 abbrev pub goes_by : Run → ℕ → Received → Bool
-goes_by run l x = goes_with l x.way (row_with_name run (bridge_of run.domain l) x x.way)
+goes_by run l x = goes_with l x.ingress (row_with_name run (bridge_of run.domain l) x x.ingress)
 
 -- the frame as the link's port sees it
 abbrev pub queued_with : Domain → Received → Option Row → List QueuedFrame
@@ -62,18 +62,18 @@ queued_with d x None = []
 queued_with d x (Some row) = queued_frame d x row ∷ []
 
 -- what a frame adds to the queue of a link's port
-abbrev pub behind : Run → ℕ → Received → List QueuedFrame
-behind run l x =
-    if goes_by run l x then queued_with run.domain x (row_with_name run (bridge_of run.domain l) x x.way) else []
+abbrev pub following : Run → ℕ → Received → List QueuedFrame
+following run l x =
+    if goes_by run l x then queued_with run.domain x (row_with_name run (bridge_of run.domain l) x x.ingress) else []
 
 -- in a legal run, a cycle queues to a link exactly those of its bridge's frames that go on by it, in order of arrival
 abbrev pub WhatACycleQueues : Type 0
 WhatACycleQueues = (run : Run) (net : Network) (l cycle : ℕ) → IsLegalRun run net → cycle < length run.tables →
-    queued_in run net.carried l cycle ≡ flat_map (behind run l) (received_in run net.carried (bridge_of run.domain l) cycle)
+    queued_in run net.carried l cycle ≡ flat_map (following run l) (received_in run net.carried (bridge_of run.domain l) cycle)
 
--- so by any sort, the gathered frames that go on by it are what the cycle queues
+-- so the gathered frames that go on by it, sorted in any way that keeps this order, are what the cycle queues
 abbrev pub SortedIsQueued : Type 0
 SortedIsQueued = (run : Run) (net : Network) (l cycle : ℕ) (batches : Carried) (sorted : List Received) →
     IsLegalRun run net → cycle < length run.tables → AreItsBatches run net (bridge_of run.domain l) cycle batches →
     IsPermutation (filter (goes_by run l) (gathered_in run batches (bridge_of run.domain l) cycle)) sorted → StandAsTaken sorted →
-    queued_in run net.carried l cycle ≡ flat_map (behind run l) sorted
+    queued_in run net.carried l cycle ≡ flat_map (following run l) sorted

@@ -5,12 +5,12 @@ use Rattle.cqf_model.specs.Book.{batch}
 use Rattle.cqf_model.specs.Domain.{enters}
 use Rattle.cqf_model.specs.Network.{Network}
 use Rattle.cqf_model.specs.Run.{Run}
-use Rattle.cqf_model.specs.Traffic.{AtEdge, Carried, Received, Relayed, Way}
+use Rattle.cqf_model.specs.Policing.{AtEdge, Carried, Ingress, Received, Relayed}
 use Rattle.cqf_laws_cycle.specs.BridgeCycle.{IsCompiledNetwork, received_in}
 use Rattle.cqf_laws_cycle.specs.Gathered.{gathered_in}
 
 -- the number of the link by which a frame came. An offer comes after every link; a domain has at most 4096 links
-abbrev pub source_of : Way → ℕ
+abbrev pub source_of : Ingress → ℕ
 source_of (AtEdge name) = 4096
 source_of (Relayed m number) = m
 
@@ -20,7 +20,7 @@ abbrev pub IsTakenBefore : Received → Received → Type 0
 IsTakenBefore a b =
     (a.at < b.at)
     ⊎ ((a.at ≡ b.at)
-    × ((source_of a.way < source_of b.way) ⊎ ((source_of a.way ≡ source_of b.way) × (a.frame < b.frame))))
+    × ((source_of a.ingress < source_of b.ingress) ⊎ ((source_of a.ingress ≡ source_of b.ingress) × (a.frame < b.frame))))
 
 -- what arrives at a bridge in a cycle is in this order, and no two of its frames tie
 abbrev pub CycleIsTakenInOrder : Type 0

@@ -3,15 +3,15 @@
 //! - The frames of a cycle are taken in order of their keys, and no two have the same key, so any sort will do
 //!   ([`sorted_is_taken`]).
 //! - Whether a cycle queues a frame to a link is decided for each frame alone ([`what_a_cycle_queues`]).
-//! - So a link's lane, which is put together link by link and then offer by offer, and sorted by one number for each frame, is what
-//!   the cycle queues to the link. Each frame is in it according to its stream's tree ([`lane_is_queued`]).
+//! - So a link's queue, its queue for the next cycle, is what the cycle queues to the link. The queue is gathered link by link and then offer
+//!   by offer, and sorted by one number for each frame. Each frame is in it according to its stream's tree ([`gathered_is_queued`]).
 //!
 //! ```
 //! // from here on, a proof knows that the frames of a cycle, sorted by their keys, are in the order in which they are taken
 //! cqf_laws_instants::sorted_is_taken();
 //! ```
 
-ghost use Rattle.cqf_laws_instants.specs.LaneLaws.{CoveredGoByTheirTree, LaneIsQueued, RelayedGoByTheirTree, UncoveredGoNowhere};
+ghost use Rattle.cqf_laws_instants.specs.GatheredLaws.{CoveredGoByTheirTree, GatheredIsQueued, RelayedGoByTheirTree, UncoveredGoNowhere};
 ghost use Rattle.cqf_laws_instants.specs.QueueLaws.{CoveringCovers, SortedIsQueued, WhatACycleQueues};
 ghost use Rattle.cqf_laws_instants.specs.TakenLaws.{CycleIsTakenInOrder, SortedIsTaken};
 
@@ -39,10 +39,10 @@ pub fn what_a_cycle_queues()
     sorted_is_taken();
 }
 
-/// Proves that a link's lane, sorted by keys, is what a cycle queues to the link. A frame is in it exactly if its stream's tree has
-/// the link there.
-pub fn lane_is_queued()
-    ensures lane { LaneIsQueued }
+/// Proves that a link's queue, its queue for the next cycle, sorted by keys, is what a cycle queues to the link. A frame is in it exactly if
+/// the frame goes on by the link in its stream's tree.
+pub fn gathered_is_queued()
+    ensures queue { GatheredIsQueued }
     ensures relayed { RelayedGoByTheirTree }
     ensures covered { CoveredGoByTheirTree }
     ensures uncovered { UncoveredGoNowhere }

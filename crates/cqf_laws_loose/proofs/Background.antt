@@ -13,7 +13,7 @@ pub shift_with : (run : Run) (background : List Background) (cycles frame link c
 shift_with run background cycles frame link cycle s = record {
   x = s.x;
   row = s.row;
-  depth = s.depth;
+  hop_number = s.hop_number;
   covered = record {
     offered = s.covered.offered;
     named = s.covered.named;
@@ -32,7 +32,7 @@ pub shift_without : (run : Run) (background : List Background) (cycles frame lin
 shift_without run background cycles frame link cycle s = record {
   x = s.x;
   row = s.row;
-  depth = s.depth;
+  hop_number = s.hop_number;
   covered = record {
     offered = s.covered.offered;
     named = s.covered.named;

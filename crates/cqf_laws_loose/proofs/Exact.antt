@@ -7,7 +7,7 @@ use Rattle.cqf_model.specs.Domain.{Domain, bridge_of, delay_of, octet_time_of}
 use Rattle.cqf_model.specs.Loose.{ComesWithin, Slack, slack_of}
 use Rattle.cqf_model.proofs.Links.{accepted_with, least_within}
 use Rattle.cqf_model.specs.Run.{Run, end_of_run}
-use Rattle.cqf_model.specs.Traffic.{Carried, Policed}
+use Rattle.cqf_model.specs.Policing.{Carried, Policed}
 use Rattle.cqf_laws_shift.specs.Alone.{IsRunAs}
 use Rattle.cqf_laws_shift.proofs.Came.{policed}
 use Rattle.cqf_laws_shift.proofs.CycleLaws.{CycleLaws}

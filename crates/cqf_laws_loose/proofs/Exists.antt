@@ -17,8 +17,8 @@ use Rattle.cqf_model.specs.Network.{IsNetworkBy, Network, QueuedFrame, Sends, ar
 use Rattle.cqf_model.specs.Network.{sent_of}
 use Rattle.cqf_model.specs.Port.{AreLegal, PortRules, Transmission}
 use Rattle.cqf_model.specs.Run.{Run}
-use Rattle.cqf_model.specs.Traffic.{Carried, Received, offered_at, police_all, received_at, relayed_at, sent_received}
-use Rattle.cqf_model.specs.Traffic.{whole_at}
+use Rattle.cqf_model.specs.Policing.{Carried, Received, offered_at, police_all, received_at, relayed_at, sent_received}
+use Rattle.cqf_model.specs.Policing.{whole_at}
 use Rattle.cqf_model.proofs.Coming.{backed_in_late}
 use Rattle.cqf_model.proofs.Legal.{none_at_0}
 use Rattle.cqf_laws_network.specs.PortLaws.{LateArrivalChangesNothing, LegalStartsExist}

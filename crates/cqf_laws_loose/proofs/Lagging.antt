@@ -4,11 +4,11 @@ use Rattle.cqf_units.specs.Timing.{ending_of, time_of}
 use Rattle.cqf_model.specs.declared.frames.Sent.{Sent}
 use Rattle.cqf_model.specs.Domain.{Domain, delay_of, octet_time_of}
 use Rattle.cqf_model.specs.Loose.{ComesWithin, Slack}
-use Rattle.cqf_model.specs.Traffic.{whole_at}
-use Rattle.cqf_laws_loose.specs.LagLaws.{ComesBehind, LaggingIsLoose, StartsWithin}
+use Rattle.cqf_model.specs.Policing.{whole_at}
+use Rattle.cqf_laws_loose.specs.LagLaws.{ComesAfter, LaggingIsLoose, StartsWithin}
 
 -- what is heard of a start that lags is within the bounds of the start of the exact port
-comes_within : (d : Domain) (slack : Slack) (lag l : ℕ) (sent begun heard : Sent) → StartsWithin lag sent begun → ComesBehind d slack lag l begun heard →
+comes_within : (d : Domain) (slack : Slack) (lag l : ℕ) (sent begun heard : Sent) → StartsWithin lag sent begun → ComesAfter d slack lag l begun heard →
     ComesWithin d slack l sent heard
 comes_within d slack lag l sent begun heard starts comes =
     let own = time_of (sent.octets + 8) (octet_time_of d l) in

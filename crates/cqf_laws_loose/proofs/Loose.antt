@@ -5,7 +5,7 @@ use Rattle.cqf_model.specs.Domain.{Domain}
 use Rattle.cqf_model.specs.Loose.{ComesWithin, IsAcceptedWith, Slack}
 use Rattle.cqf_model.specs.Network.{Network}
 use Rattle.cqf_model.specs.Run.{Run}
-use Rattle.cqf_model.specs.Traffic.{Carried, whole_at}
+use Rattle.cqf_model.specs.Policing.{Carried, whole_at}
 use Rattle.cqf_units.proofs.Cycles.{cycles_ordered}
 use Rattle.cqf_laws_shift.specs.Heard.{IsHeardAs, IsHeardRun}
 use Rattle.cqf_laws_shift.proofs.CycleLaws.{CycleLaws}

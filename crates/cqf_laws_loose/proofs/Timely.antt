@@ -16,8 +16,8 @@ use Rattle.cqf_model.specs.Network.{Network, QueuedFrame, arrivals_of, no_frame}
 use Rattle.cqf_model.specs.Port.{no_arrival}
 use Rattle.cqf_model.specs.Run.{Run, end_of_run}
 use Rattle.cqf_model.specs.Table.{link_cost, table_of}
-use Rattle.cqf_model.specs.Traffic.{Carried, whole_at}
-use Rattle.cqf_model.specs.Turn.{busy, is_streams, load, slot_in, wire_in}
+use Rattle.cqf_model.specs.Policing.{Carried, whole_at}
+use Rattle.cqf_model.specs.Due.{busy, is_streams, load, slot_in, wire_in}
 use Rattle.cqf_model.proofs.Spans.{busy_within}
 use Rattle.cqf_lists.proofs.Members.{contains_from_map, contains_none}
 use Rattle.cqf_laws_shift.specs.Alone.{IsRunAs}
@@ -25,7 +25,7 @@ use Rattle.cqf_laws_shift.proofs.Came.{came, policed, queued}
 use Rattle.cqf_laws_shift.proofs.CycleLaws.{CycleLaws}
 use Rattle.cqf_laws_shift.proofs.Fed.{facts, least, queue_class, queued_least}
 use Rattle.cqf_laws_shift.proofs.Queues.{gives_streams, load_within_cost}
-use Rattle.cqf_laws_shift.proofs.Runs.{fed, place_timed, sent_for, start_due}
+use Rattle.cqf_laws_shift.proofs.Runs.{fed, index_timed, sent_for, start_due}
 use Rattle.cqf_laws_shift.proofs.RunsBeside.{run_as}
 use Rattle.cqf_laws_shift.proofs.Singles.{sent_once}
 use Rattle.cqf_laws_loose.specs.LooseLaws.{IsLatencyAbout, IsWholeAbout, LooseFramesAreTimely, LooseLatencyIsWithin}
@@ -41,10 +41,10 @@ own_part r n c xs p inside high in_cycle =
     let own : slot_in r n c a ≡ slot_of a.octets r =
     cond-true (a.at.0 / n == c) (if is_streams a then slot_of a.octets r else 0) 0 (eq-eqb (a.at.0 / n) c in_cycle)
     ∙ cond-true (is_streams a) (slot_of a.octets r) 0 (le-leb 6 a.class high) in
-    behind (busy r n c (take p xs)) (slot_in r n c a) (slot_of a.octets r) (busy r n c xs) (sum_by_more_le (slot_in r n c) xs p no_arrival inside) own
+    following (busy r n c (take p xs)) (slot_in r n c a) (slot_of a.octets r) (busy r n c xs) (sum_by_more_le (slot_in r n c) xs p no_arrival inside) own
   where
-    behind : (before part slot all : ℕ) → before + part ≤ all → part ≡ slot → before + slot ≤ all
-    behind before part slot all more own = omega (arith, more, own)
+    following : (before part slot all : ℕ) → before + part ≤ all → part ≡ slot → before + slot ≤ all
+    following before part slot all more own = omega (arith, more, own)
 
 -- and its wire octets are among those of its cycle
 own_wire : (n c : ℕ) (xs : List Arrival) (p : ℕ) → p < length xs → 6 ≤ (get_or xs p no_arrival).class → (get_or xs p no_arrival).at.0 / n ≡ c →
@@ -54,10 +54,10 @@ own_wire n c xs p inside high in_cycle =
     let own : wire_in n c a ≡ wire_of a.octets =
     cond-true (a.at.0 / n == c) (if is_streams a then wire_of a.octets else 0) 0 (eq-eqb (a.at.0 / n) c in_cycle)
     ∙ cond-true (is_streams a) (wire_of a.octets) 0 (le-leb 6 a.class high) in
-    behind (load n c (take p xs)) (wire_in n c a) (wire_of a.octets) (load n c xs) (sum_by_more_le (wire_in n c) xs p no_arrival inside) own
+    following (load n c (take p xs)) (wire_in n c a) (wire_of a.octets) (load n c xs) (sum_by_more_le (wire_in n c) xs p no_arrival inside) own
   where
-    behind : (before part wire all : ℕ) → before + part ≤ all → part ≡ wire → wire ≤ all
-    behind before part wire all more own = omega (arith, more, own)
+    following : (before part wire all : ℕ) → before + part ≤ all → part ≡ wire → wire ≤ all
+    following before part wire all more own = omega (arith, more, own)
 
 -- a start after what is before it, and its own slot, are within the span of the cost
 over_by : (begins start before slot all span : ℕ) → start ≡ begins + before → before + slot ≤ all → all ≤ span → start + slot ≤ begins + span
@@ -79,37 +79,38 @@ module _ (laws : CycleLaws) (run : Run) (carried : Carried) {heard : Carried} (a
       let queue = queued run heard (end_of_run run) link in
       let xs = arrivals_of queue in
       let s = sent_for laws run carried alone link is_link sent c in
-      let place = s.0.place in
-      let q = get_or queue place no_frame in
-      let arrival : get_or xs place no_arrival ≡ q.arrival = get_or-map (λ (q : QueuedFrame). q.arrival) queue place no_frame no_arrival s.0.in_queue in
-      let timed = place_timed laws run carried alone link is_link place sent.start.0 s.1 in
-      let in_cycle : (get_or xs place no_arrival).at.0 / n ≡ before = omega (arith, timed, is) in
-      let due = start_due laws run carried alone link is_link place sent.start.0 s.1 in
-      let due_at : sent.start.0 ≡ (before + 1) * n + busy r n before (take place xs) =
-      due ∙ ap (λ z. (z + 1) * n + busy r n z (take place xs)) in_cycle in
-      let given = queue_class laws run heard alone.planned link q (Contains-get_or queue place no_frame s.0.in_queue) in
-      let high : 6 ≤ (get_or xs place no_arrival).class =
+      let index = s.0.index in
+      let q = get_or queue index no_frame in
+      let arrival : get_or xs index no_arrival ≡ q.arrival = get_or-map (λ (q : QueuedFrame). q.arrival) queue index no_frame no_arrival s.0.in_queue in
+      let timed = index_timed laws run carried alone link is_link index sent.start.0 s.1 in
+      let in_cycle : (get_or xs index no_arrival).at.0 / n ≡ before = omega (arith, timed, is) in
+      let due = start_due laws run carried alone link is_link index sent.start.0 s.1 in
+      let due_at : sent.start.0 ≡ (before + 1) * n + busy r n before (take index xs) =
+      due ∙ ap (λ z. (z + 1) * n + busy r n z (take index xs)) in_cycle in
+      let given = queue_class laws run heard alone.planned link q (Contains-get_or queue index no_frame s.0.in_queue) in
+      let high : 6 ≤ (get_or xs index no_arrival).class =
       subst (λ (a : Arrival). 6 ≤ a.class) (sym arrival) (subst (λ z. 6 ≤ z) (sym given) (gives_streams (cycle_of d q.arrival.at.0))) in
-      let inside : place < length xs = omega (arith, s.0.in_queue, length-map queue (λ (q : QueuedFrame). q.arrival)) in
-      let octets : (get_or xs place no_arrival).octets ≡ sent.octets =
+      let inside : index < length xs = omega (arith, s.0.in_queue, length-map queue (λ (q : QueuedFrame). q.arrival)) in
+      let octets : (get_or xs index no_arrival).octets ≡ sent.octets =
       ap (λ (a : Arrival). a.octets) arrival ∙ ap (λ (z : Sent). z.octets) s.0.is in
-      let part = own_part r n before xs place inside high in_cycle in
+      let part = own_part r n before xs index inside high in_cycle in
       let bridge = bridge_of d link in
       let fed_so = fed laws run carried alone in
       let short = least laws run heard alone.planned alone.meets fed_so bridge in
       let cost = link_cost (table_of run.tables before) link (before + 1) in
       let within = load_within_cost d run.tables bridge (came run heard (end_of_run run) bridge) (policed run heard (end_of_run run) bridge)
-      (facts laws run heard alone.planned bridge) link alone.planned.orderly.trees short before in
+      (facts laws run heard alone.planned bridge) link alone.planned.accepted.overhead_short alone.planned.orderly.trees
+      alone.planned.orderly.overheads short before in
       let slots = busy_within r n before xs (λ a c.
       let from = contains_from_map (λ (q : QueuedFrame). q.arrival) queue a c in
       subst (λ (x : Arrival). 64 ≤ x.octets) from.2 (queued_least laws run heard alone.planned alone.meets fed_so link from.0 from.1)) in
       let span = time_in_span cost r (busy r n before xs) (le_trans slots (mul-le-mul_right (shortest_of r) within)) in
-      let over = over_by ((before + 1) * n) sent.start.0 (busy r n before (take place xs)) (slot_of (get_or xs place no_arrival).octets r) (busy r n before xs)
+      let over = over_by ((before + 1) * n) sent.start.0 (busy r n before (take index xs)) (slot_of (get_or xs index no_arrival).octets r) (busy r n before xs)
       (span_of cost r) due_at part span in (
         omega (arith, due_at),
         subst (λ (z : ℕ). sent.start.0 + slot_of z r ≤ (before + 1) * n + span_of cost r) octets over,
-        some_cost (get_or xs place no_arrival).octets sent.octets (load n before xs) cost octets (sent_least laws run carried alone link sent is_link c)
-            (own_wire n before xs place inside high in_cycle) within,
+        some_cost (get_or xs index no_arrival).octets sent.octets (load n before xs) cost octets (sent_least laws run carried alone link sent is_link c)
+            (own_wire n before xs index inside high in_cycle) within,
       )
     where
       some_cost : (octets whole takes cost : ℕ) → octets ≡ whole → 64 ≤ whole → wire_of octets ≤ takes → takes ≤ cost → 84 ≤ cost
@@ -169,9 +170,9 @@ pub loose_frames_are_timely : CycleLaws → LooseFramesAreTimely
 loose_frames_are_timely laws run slack net heard link before sent h is c ch frames at = timely laws run slack net heard is link before sent h c ch frames at
 
 -- the hop number times the cycle time after the offer
-pub latency_about : (d : Domain) (slack : Slack) (link depth cost at cycle whole : ℕ) → 0 < d.cycle_time → cycle ≡ cycle_of d at + depth →
-    IsWholeAbout d slack link cycle cost whole → IsLatencyAbout d slack link depth cost at whole
-latency_about d slack link depth cost at cycle whole some is about =
+pub latency_about : (d : Domain) (slack : Slack) (link hop_number cost at cycle whole : ℕ) → 0 < d.cycle_time → cycle ≡ cycle_of d at + hop_number →
+    IsWholeAbout d slack link cycle cost whole → IsLatencyAbout d slack link hop_number cost at whole
+latency_about d slack link hop_number cost at cycle whole some is about =
     let n = d.cycle_time in
     let scaled = ap (λ z. z * n) is in
     record {
@@ -182,6 +183,6 @@ latency_about d slack link depth cost at cycle whole some is about =
 -- the law
 pub loose_latency_is_within : CycleLaws → LooseLatencyIsWithin
 loose_latency_is_within laws run slack net heard link before sent h is c ch frames at shift =
-    latency_about run.domain slack link shift.depth (link_cost (table_of run.tables before) link (before + 1)) shift.x.offer.at.0 (before + 1)
+    latency_about run.domain slack link shift.hop_number (link_cost (table_of run.tables before) link (before + 1)) shift.x.offer.at.0 (before + 1)
     (whole_at run.domain link h) (omega (arith, is.accepted.accepted.cycle_least)) (sym at ∙ shift.is_cycle)
     (timely laws run slack net heard is link before sent h c ch frames at)

@@ -6,7 +6,7 @@ use Rattle.cqf_model.specs.Domain.{Domain, delay_of, octet_time_of}
 use Rattle.cqf_model.specs.Loose.{IsLooseNetwork, Slack}
 use Rattle.cqf_model.specs.Network.{IsNetworkBy, Network, compiled_lists}
 use Rattle.cqf_model.specs.Run.{Run}
-use Rattle.cqf_model.specs.Traffic.{Carried, whole_at}
+use Rattle.cqf_model.specs.Policing.{Carried, whole_at}
 
 -- a frame as an exact port starts it, and as it is started here: no sooner, and at most `lag` later
 pub record StartsWithin (lag : ℕ) (sent begun : Sent) : Type 0 where
@@ -17,7 +17,7 @@ pub record StartsWithin (lag : ℕ) (sent begun : Sent) : Type 0 where
   pub no_later : begun.start.0 ≤ sent.start.0 + lag
 
 -- how a frame that lags is heard at the link's end: the greatest delay that the domain states has room for the lag
-pub record ComesBehind (d : Domain) (slack : Slack) (lag l : ℕ) (begun heard : Sent) : Type 0 where
+pub record ComesAfter (d : Domain) (slack : Slack) (lag l : ℕ) (begun heard : Sent) : Type 0 where
   pub frame : heard.frame ≡ begun.frame
   pub stream : heard.stream ≡ begun.stream
   pub octets : heard.octets ≡ begun.octets
@@ -34,9 +34,9 @@ pub record IsLaggingNetwork (run : Run) (slack : Slack) (lag : ℕ → ℕ) (net
   pub are : (l : ℕ) → heard l ≡ map (λ (sent : Sent). noted l (begun l sent)) (net.carried l)
   pub starts : (l : ℕ) (sent : Sent) → l < length run.domain.links → Contains (net.carried l) sent → StartsWithin (lag l) sent (begun l sent)
   pub each : (l : ℕ) (sent : Sent) → l < length run.domain.links → Contains (net.carried l) sent →
-      ComesBehind run.domain slack (lag l) l (begun l sent) (noted l (begun l sent))
+      ComesAfter run.domain slack (lag l) l (begun l sent) (noted l (begun l sent))
 
--- it is a loose network, so all that holds for loose networks holds for it, by the starts of exact ports
+-- a network whose ports lag in this way is a loose network. So all that holds for loose networks holds for it, by the starts of exact ports
 abbrev pub LaggingIsLoose : Type 0
 LaggingIsLoose = (run : Run) (slack : Slack) (lag : ℕ → ℕ) (net : Network) (heard : Carried) → IsLaggingNetwork run slack lag net heard →
     IsLooseNetwork run slack net heard

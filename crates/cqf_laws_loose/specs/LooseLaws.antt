@@ -15,7 +15,7 @@ use Rattle.cqf_model.specs.HistoryBook.{run_of_history}
 use Rattle.cqf_model.specs.Run.{AreBackground, AreOffers, Run}
 use Rattle.cqf_model.specs.Shift.{InShift}
 use Rattle.cqf_model.specs.Table.{AreOrderly, link_cost, table_of}
-use Rattle.cqf_model.specs.Traffic.{Carried, whole_at}
+use Rattle.cqf_model.specs.Policing.{Carried, whole_at}
 use Rattle.cqf_laws_shift.specs.Run.{IsLegalRun, with_background}
 use Rattle.cqf_laws_loose.specs.LooseRuns.{IsLooseRun, IsTransit, heard_by}
 
@@ -39,40 +39,41 @@ abbrev pub ExactIsLoose : Type 0
 ExactIsLoose = (run : Run) (slack : Slack) (net : Network) → IsLegalRun run net → IsAcceptedWith run.domain slack →
     ((l : ℕ) → slack.least l ≤ delay_of run.domain l) → IsLooseRun run slack net net.carried
 
--- and so with the slack that the domain states
+-- the exact network is a loose one with the slack that the domain states
 abbrev pub ExactHasItsSlack : Type 0
 ExactHasItsSlack = (run : Run) (net : Network) → IsLegalRun run net → IsLooseRun run (slack_of run.domain) net net.carried
 
--- when a frame has fully arrived at a link's end, by the clock there, if it starts in a cycle and this cost is held on its link.
--- Not before a shortest frame that is the first of the cycle, after the least delay. Not after the last of frames that take all of
--- the cost, after the greatest delay. Both up to the clocks' difference. The cost has room for a shortest frame
+-- when a frame that starts in a cycle has fully arrived at the link's end, by the clock there, if this cost is held on the link. Up to the
+-- clocks' difference, it arrives no sooner than a shortest frame that starts with the cycle and takes the least delay. It arrives no later
+-- than the last of frames that take all of the cost, with the greatest delay. The cost has room for a shortest frame
 pub record IsWholeAbout (d : Domain) (slack : Slack) (link cycle cost whole : ℕ) : Type 0 where
   pub earliest : cycle * d.cycle_time + time_of 72 (octet_time_of d link) + slack.least link ≤ whole + slack.sync
   pub latest : whole + gap_of d link ≤ cycle * d.cycle_time + span_of cost (octet_time_of d link) + delay_of d link + slack.sync
   pub some_cost : 84 ≤ cost
 
--- so the latency, from the offer by the edge bridge's clock to the frame's full arrival by the clock at the link's end, has these
--- bounds. It is at least (depth - 1) cycle times and 1, plus the time of a shortest frame and the least delay, minus the clocks'
--- difference. It is at most depth cycle times, plus the time of the held cost without the last gap, plus the greatest delay, plus
--- the clocks' difference
-pub record IsLatencyAbout (d : Domain) (slack : Slack) (link depth cost at whole : ℕ) : Type 0 where
-  pub least : at + depth * d.cycle_time + 1 + time_of 72 (octet_time_of d link) + slack.least link ≤ whole + d.cycle_time + slack.sync
-  pub most : whole + gap_of d link ≤ at + depth * d.cycle_time + span_of cost (octet_time_of d link) + delay_of d link + slack.sync
+-- so the latency, from the offer by the edge bridge's clock to the frame's full arrival by the clock at the link's end, has these bounds,
+-- in nanoseconds. With the hop number `hop_number`, it is at least `hop_number` - 1 cycle times and 1, plus the time of a shortest frame and the
+-- least delay, minus the clocks' difference. It is at most `hop_number` cycle times, plus the time of the held cost without the last gap, plus
+-- the greatest delay, plus the clocks' difference
+pub record IsLatencyAbout (d : Domain) (slack : Slack) (link hop_number cost at whole : ℕ) : Type 0 where
+  pub least : at + hop_number * d.cycle_time + 1 + time_of 72 (octet_time_of d link) + slack.least link ≤ whole + d.cycle_time + slack.sync
+  pub most : whole + gap_of d link ≤ at + hop_number * d.cycle_time + span_of cost (octet_time_of d link) + delay_of d link + slack.sync
 
--- this holds for each frame that a link sends, by the table of the cycle in which it was queued
+-- each frame that a link of a loose network sends arrives within these bounds, with the cost by the table of the cycle in which it was
+-- queued
 abbrev pub LooseFramesAreTimely : Type 0
 LooseFramesAreTimely = (run : Run) (slack : Slack) (net : Network) (heard : Carried) (link before : ℕ) (sent h : Sent) → IsLooseRun run slack net heard →
     Contains (net.carried link) sent → Contains (heard link) h → h.frame ≡ sent.frame → cycle_of run.domain sent.start.0 ≡ before + 1 →
     IsWholeAbout run.domain slack link (before + 1) (link_cost (table_of run.tables before) link (before + 1)) (whole_at run.domain link h)
 
--- and each such frame has this latency
+-- each frame that a link of a loose network sends has such a latency, with the cost by the table of the cycle in which it was queued
 abbrev pub LooseLatencyIsWithin : Type 0
 LooseLatencyIsWithin = (run : Run) (slack : Slack) (net : Network) (heard : Carried) (link before : ℕ) (sent h : Sent) → IsLooseRun run slack net heard →
     Contains (net.carried link) sent → Contains (heard link) h → h.frame ≡ sent.frame → cycle_of run.domain sent.start.0 ≡ before + 1 →
     (shift : InShift run (length run.tables) sent.frame link (cycle_of run.domain sent.start.0)) →
-    IsLatencyAbout run.domain slack link shift.depth (link_cost (table_of run.tables before) link (before + 1)) shift.x.offer.at.0 (whole_at run.domain link h)
+    IsLatencyAbout run.domain slack link shift.hop_number (link_cost (table_of run.tables before) link (before + 1)) shift.x.offer.at.0 (whole_at run.domain link h)
 
--- for any way in which frames can arrive within the bounds, there is a network in which they arrive so
+-- for any way in which frames can arrive within the bounds, there is a loose network in which they arrive in this way
 abbrev pub LooseNetworkExists : Type 0
 LooseNetworkExists = (run : Run) (slack : Slack) (noted : ℕ → Sent → Sent) → IsAcceptedWith run.domain slack → AreOrderly run.domain run.tables →
     AreOffers run.domain run.offers → AreBackground run.domain run.background → IsTransit run.domain slack noted →

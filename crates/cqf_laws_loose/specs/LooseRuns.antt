@@ -6,7 +6,7 @@ use Rattle.cqf_model.specs.Loose.{ComesWithin, IsAcceptedWith, IsLooseNetwork, S
 use Rattle.cqf_model.specs.Network.{Network}
 use Rattle.cqf_model.specs.Run.{AreBackground, AreOffers, Run}
 use Rattle.cqf_model.specs.Table.{AreOrderly}
-use Rattle.cqf_model.specs.Traffic.{Carried}
+use Rattle.cqf_model.specs.Policing.{Carried}
 use Rattle.cqf_laws_shift.specs.Heard.{IsHeardAs}
 
 -- a loose network of an accepted domain, with the tables of a history and any offers, beside any background frames

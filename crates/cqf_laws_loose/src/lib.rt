@@ -38,8 +38,8 @@ pub fn exact_is_loose()
     cqf_laws_cycle::gate_counts_cycles();
 }
 
-/// Proves when each frame has fully arrived at a link's end: within the cost that was held when the frame was queued, and the
-/// slack.
+/// Proves bounds of the instant at which a frame has fully arrived at a link's end, and of its latency. They depend on the cost that was
+/// held when the frame was queued, and on the slack.
 pub fn loose_frames_are_timely()
     ensures whole { LooseFramesAreTimely }
     ensures latency { LooseLatencyIsWithin }
@@ -58,7 +58,7 @@ pub fn loose_history_means_the_shift()
     cqf_laws_history::tables_are_orderly();
 }
 
-/// Proves that for any way in which frames can arrive within the bounds, there is a network in which they arrive so.
+/// Proves that for any way in which frames can arrive within the bounds, there is a network in which they arrive in this way.
 pub fn loose_network_exists()
     ensures { LooseNetworkExists }
 {

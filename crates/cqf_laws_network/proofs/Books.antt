@@ -18,12 +18,12 @@ use Rattle.cqf_model.specs.declared.frames.Sent.{Sent}
 use Rattle.cqf_model.specs.declared.frames.Started.{Started}
 use Rattle.cqf_model.specs.declared.ports.Start.{Start}
 use Rattle.cqf_model.specs.declared.topology.Row.{Row}
-use Rattle.cqf_model.specs.Book.{Contents, IsBook, background_of, drop_by, drops_in, drops_of, is_of_place, started, started_backed, starts_of}
+use Rattle.cqf_model.specs.Book.{Contents, IsBook, background_of, drop_by, drops_in, drops_of, is_of_index, started, started_backed, starts_of}
 use Rattle.cqf_model.specs.Domain.{Domain, cycle_of}
 use Rattle.cqf_model.specs.GateList.{Entry}
 use Rattle.cqf_model.specs.Network.{IsLegalNetwork, Network}
 use Rattle.cqf_model.specs.Run.{Run}
-use Rattle.cqf_model.specs.Traffic.{Carried, Policed, policed_before}
+use Rattle.cqf_model.specs.Policing.{Carried, Policed, policed_before}
 use Rattle.cqf_model.proofs.Coming.{policed_front}
 use Rattle.cqf_model.proofs.Drops.{dropped_at, drops_at}
 use Rattle.cqf_model.proofs.Sending.{backed_in_run, sent_in_run}
@@ -70,11 +70,11 @@ module _ {A : Type 0} (at : A → ℕ) (by : ℕ → ℕ → A → Started) (bea
       lt-ltb (at x) end (before_cycle d.cycle_time (at x) cycle cycles some (eqb-true (cycle_of d (at x)) cycle e) k)))))
 
 -- the drops of a cycle have that cycle
-drop_cycle : (d : Domain) (places : ℕ) (policed : ℕ → List Policed) (cycle bridges : ℕ) (x : Dropped) →
-    Contains (each_below (drops_in d places policed cycle) bridges) x → x.cycle.0 ≡ cycle
-drop_cycle d places policed cycle bridges x h =
-    let w = contains_from_below (drops_in d places policed cycle) bridges x h in
-    sym (ap (λ (y : Dropped). y.cycle.0) (dropped_at d places policed cycle w.0 x w.2).is)
+drop_cycle : (d : Domain) (indices : ℕ) (policed : ℕ → List Policed) (cycle bridges : ℕ) (x : Dropped) →
+    Contains (each_below (drops_in d indices policed cycle) bridges) x → x.cycle.0 ≡ cycle
+drop_cycle d indices policed cycle bridges x h =
+    let w = contains_from_below (drops_in d indices policed cycle) bridges x h in
+    sym (ap (λ (y : Dropped). y.cycle.0) (dropped_at d indices policed cycle w.0 x w.2).is)
 
 module _ (run : Run) (others : List (List Row)) (lists : ℕ → List Entry) (cycles longer : ℕ) (net : Network)
     (shorter : IsShorter cycles longer run.tables others) (legal : IsLegalNetwork run lists longer net) where
@@ -97,19 +97,19 @@ module _ (run : Run) (others : List (List Row)) (lists : ℕ → List Entry) (cy
       record { tables = shorter.tables_same; links = λ l h. sym (sent_before_less n n (net.carried l) (omega arith)) }
 
   -- in a cycle of the shorter run the frames at a bridge come before its end
-  filter_same : (bridge cycle place : ℕ) → cycle < cycles →
-      filter (is_of_place run.domain cycle place) (policed bridge) ≡ filter (is_of_place run.domain cycle place) (policed_short bridge)
-  filter_same bridge cycle place k =
+  filter_same : (bridge cycle index : ℕ) → cycle < cycles →
+      filter (is_of_index run.domain cycle index) (policed bridge) ≡ filter (is_of_index run.domain cycle index) (policed_short bridge)
+  filter_same bridge cycle index k =
       let d = run.domain in
       let n = cycles * d.cycle_time in
       let m = longer * d.cycle_time in
-      let test = is_of_place d cycle place in
+      let test = is_of_index d cycle index in
       let front = policed_before run net.carried bridge n in
       let f = policed_front run net.carried bridge n m (mul-le-mul_right d.cycle_time shorter.fewer) in
       let later : (p : Policed) → Contains f.rest p → test p ≡ false =
       λ p h. let late = f.late p h in
       let after : cycles ≤ cycle_of d p.received.at = le-div cycles p.received.at d.cycle_time (takes_time d.cycle_time p.received.at longer late.1) late.0 in
-      and_left (cycle_of d p.received.at == cycle) (p.received.frame == place + 1)
+      and_left (cycle_of d p.received.at == cycle) (p.received.frame == index + 1)
       (ne_eqb (cycle_of d p.received.at) cycle (λ e. omega (arith, e, after, k))) in
       ap (filter test) f.is ∙ filter-append test front f.rest ∙ ap (λ (ps : List Policed). filter test front ++ ps) (filter_none test f.rest later)
       ∙ append-nil (filter test front)
@@ -121,15 +121,15 @@ module _ (run : Run) (others : List (List Row)) (lists : ℕ → List Entry) (cy
   drops_beginning =
       let d = run.domain in
       let bridges = length d.bridges in
-      let places = length run.offers in
-      let each = λ (cycle : ℕ). each_below (drops_in d places policed cycle) bridges in
-      let each_short = λ (cycle : ℕ). each_below (drops_in d places policed_short cycle) bridges in
+      let indices = length run.offers in
+      let each = λ (cycle : ℕ). each_below (drops_in d indices policed cycle) bridges in
+      let each_short = λ (cycle : ℕ). each_below (drops_in d indices policed_short cycle) bridges in
       filter_front (λ (x : Dropped). nat_lt x.cycle.0 cycles) each cycles longer shorter.fewer
-      (λ k x l h. lt-ltb x.cycle.0 cycles (omega (arith, drop_cycle d places policed k bridges x h, l)))
-      (λ k x l h. le-ltb x.cycle.0 cycles (omega (arith, drop_cycle d places policed k bridges x h, l)))
-      ∙ same_below each each_short cycles (λ cycle k. same_below (drops_in d places policed cycle) (drops_in d places policed_short cycle) bridges (λ bridge h.
-      same_below (drops_at d policed cycle bridge) (drops_at d policed_short cycle bridge) places (λ place g.
-      ap (flat_map (λ (p : Policed). drop_by cycle bridge p.received p.verdict)) (filter_same bridge cycle place k))))
+      (λ k x l h. lt-ltb x.cycle.0 cycles (omega (arith, drop_cycle d indices policed k bridges x h, l)))
+      (λ k x l h. le-ltb x.cycle.0 cycles (omega (arith, drop_cycle d indices policed k bridges x h, l)))
+      ∙ same_below each each_short cycles (λ cycle k. same_below (drops_in d indices policed cycle) (drops_in d indices policed_short cycle) bridges (λ bridge h.
+      same_below (drops_at d policed cycle bridge) (drops_at d policed_short cycle bridge) indices (λ index g.
+      ap (flat_map (λ (p : Policed). drop_by cycle bridge p.received p.verdict)) (filter_same bridge cycle index k))))
 
   -- and so are its starts of streams' frames
   sent_beginning : starts_before_cycle cycles (starts_of run.domain longer net.carried) ≡ starts_of run.domain cycles short

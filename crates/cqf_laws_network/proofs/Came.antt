@@ -6,7 +6,7 @@ use Rattle.std.proofs.lemmas.Bool.{cases_lt, lt-ltb}
 use Rattle.std.proofs.lemmas.Nat.{div_below}
 use Rattle.cqf_lists.proofs.EachBelow.{same_below}
 use Rattle.cqf_lists.proofs.Filters.{filter_weaker}
-use Rattle.cqf_lists.proofs.Fronts.{Front, front_behind, front_filter, front_more, front_whole}
+use Rattle.cqf_lists.proofs.Fronts.{Front, front_after, front_filter, front_more, front_whole}
 use Rattle.cqf_units.specs.Timing.{ending_of}
 use Rattle.cqf_units.proofs.Cycles.{takes_time}
 use Rattle.cqf_units.proofs.Times.{time_some}
@@ -16,8 +16,8 @@ use Rattle.cqf_model.specs.Domain.{Domain, bridge_of, cycle_of, enters, octet_ti
 use Rattle.cqf_model.specs.Network.{QueuedFrame, backed_in, comes_before, comes_in, queued_before, queued_in, queued_to}
 use Rattle.cqf_model.specs.Run.{Run}
 use Rattle.cqf_model.specs.Table.{table_of}
-use Rattle.cqf_model.specs.Traffic.{Carried, Received, offered_at, police_all, policed_before, received_at, received_before, relayed_at, sent_received}
-use Rattle.cqf_model.specs.Traffic.{whole_at}
+use Rattle.cqf_model.specs.Policing.{Carried, Received, offered_at, police_all, policed_before, received_at, received_before, relayed_at, sent_received}
+use Rattle.cqf_model.specs.Policing.{whole_at}
 use Rattle.cqf_model.proofs.Coming.{before_when, comes_in_late, queued_front}
 use Rattle.cqf_model.proofs.Links.{octet_positive}
 use Rattle.cqf_model.proofs.Policing.{police_same}
@@ -125,8 +125,8 @@ comes_front run carried l cycle n le =
     let of_cycle = λ (x : QueuedFrame). cycle_of run.domain x.arrival.at.0 == cycle in
     let own = backed_in run.domain run.background l cycle in
     let queued = front_filter of_cycle (queued_before run carried l last) (queued_before run carried l n) (Late n) (queued_front run carried l n last le) in
-    front_behind (comes_before run carried l cycle) (comes_in run carried l cycle) (own ++ filter of_cycle (queued_before run carried l n)) (Late n)
-    (front_behind own (queued_in run carried l cycle) (filter of_cycle (queued_before run carried l n)) (Late n) queued)
+    front_after (comes_before run carried l cycle) (comes_in run carried l cycle) (own ++ filter of_cycle (queued_before run carried l n)) (Late n)
+    (front_after own (queued_in run carried l cycle) (filter of_cycle (queued_before run carried l n)) (Late n) queued)
 
 -- if two networks carry the same before an instant, the queues of a port have one front up to it
 pub one_front : (run : Run) (carried other : Carried) (t : ℕ) → CarryTheSame run.domain t carried other → (l n cycles : ℕ) → n ≤ suc t →

@@ -5,55 +5,55 @@ use Rattle.std.proofs.lemmas.Bool.{cases_lt}
 use Rattle.std.proofs.lemmas.List.Elements.{All-contains, All-from_get_or, Contains-get_or}
 
 -- it is decided whether a statement holds
-abbrev pub Told : Type 0 → Type 0
-Told P = P ⊎ (P → ⊥)
+abbrev pub Decided : Type 0 → Type 0
+Decided P = P ⊎ (P → ⊥)
 
 -- a conjunction is decided if both statements are
-pub told_both : {P Q : Type 0} → Told P → Told Q → Told (P × Q)
-told_both (inl p) (inl q) = inl (p, q)
-told_both (inl p) (inr never) = inr (λ w. never w.1)
-told_both (inr never) q = inr (λ w. never w.0)
+pub decided_both : {P Q : Type 0} → Decided P → Decided Q → Decided (P × Q)
+decided_both (inl p) (inl q) = inl (p, q)
+decided_both (inl p) (inr never) = inr (λ w. never w.1)
+decided_both (inr never) q = inr (λ w. never w.0)
 
 -- an implication is decided if both statements are
-pub told_if : {P Q : Type 0} → Told P → Told Q → Told (P → Q)
-told_if p (inl q) = inl (λ x. q)
-told_if (inl p) (inr never) = inr (λ f. never (f p))
-told_if (inr other) (inr never) = inl (λ p. absurd (other p))
+pub decided_if : {P Q : Type 0} → Decided P → Decided Q → Decided (P → Q)
+decided_if p (inl q) = inl (λ x. q)
+decided_if (inl p) (inr never) = inr (λ f. never (f p))
+decided_if (inr other) (inr never) = inl (λ p. absurd (other p))
 
 -- a negation is decided if the statement is
-pub told_not : {P : Type 0} → Told P → Told (P → ⊥)
-told_not (inl p) = inr (λ f. f p)
-told_not (inr never) = inl never
+pub decided_not : {P : Type 0} → Decided P → Decided (P → ⊥)
+decided_not (inl p) = inr (λ f. f p)
+decided_not (inr never) = inl never
 
 -- a statement is decided if an equivalent one is
-pub told_like : {P Q : Type 0} → (P → Q) → (Q → P) → Told P → Told Q
-told_like to from (inl p) = inl (to p)
-told_like to from (inr never) = inr (λ q. never (from q))
+pub decided_like : {P Q : Type 0} → (P → Q) → (Q → P) → Decided P → Decided Q
+decided_like to from (inl p) = inl (to p)
+decided_like to from (inr never) = inr (λ q. never (from q))
 
 -- a strict inequality is decided
-pub told_lt : (m n : ℕ) → Told (m < n)
-told_lt m n = elim (cases_lt m n) [ inl l ↦ inl l | inr g ↦ inr (λ l. omega (arith, l, g)) ]
+pub decided_lt : (m n : ℕ) → Decided (m < n)
+decided_lt m n = elim (cases_lt m n) [ inl l ↦ inl l | inr g ↦ inr (λ l. omega (arith, l, g)) ]
 
 -- an inequality is decided
-pub told_le : (m n : ℕ) → Told (m ≤ n)
-told_le m n = elim (cases_lt n m) [ inl l ↦ inr (λ g. omega (arith, l, g)) | inr g ↦ inl g ]
+pub decided_le : (m n : ℕ) → Decided (m ≤ n)
+decided_le m n = elim (cases_lt n m) [ inl l ↦ inr (λ g. omega (arith, l, g)) | inr g ↦ inl g ]
 
 -- a statement about all numbers below a bound is decided if it is for each
-pub told_below : (P : ℕ → Type 0) → ((k : ℕ) → Told (P k)) → (n : ℕ) → Told ((k : ℕ) → k < n → P k)
-told_below P told zero = inl (λ k l. absurd (omega (arith, l)))
-told_below P told (suc n) =
-    told_like {P = ((k : ℕ) → k < n → P k) × P n}
+pub decided_below : (P : ℕ → Type 0) → ((k : ℕ) → Decided (P k)) → (n : ℕ) → Decided ((k : ℕ) → k < n → P k)
+decided_below P decided zero = inl (λ k l. absurd (omega (arith, l)))
+decided_below P decided (suc n) =
+    decided_like {P = ((k : ℕ) → k < n → P k) × P n}
     (λ w k l. elim (cases_lt k n) [ inl m ↦ w.0 k m | inr g ↦ let e : n ≡ k = omega (arith, l, g) in subst P e w.1 ])
     (λ f. (λ k l. f k (omega (arith, l)), f n (omega arith)))
-    (told_both (told_below P told n) (told n))
+    (decided_both (decided_below P decided n) (decided n))
 
 -- a statement about all members of a list is decided if it is for each
-pub told_members : {X : Type 0} (P : X → Type 0) → ((x : X) → Told (P x)) → X → (xs : List X) → Told ((x : X) → Contains xs x → P x)
-told_members P told d xs =
-    told_like {P = (k : ℕ) → k < length xs → P (slice_index_or xs k d)}
+pub decided_members : {X : Type 0} (P : X → Type 0) → ((x : X) → Decided (P x)) → X → (xs : List X) → Decided ((x : X) → Contains xs x → P x)
+decided_members P decided d xs =
+    decided_like {P = (k : ℕ) → k < length xs → P (slice_index_or xs k d)}
     (λ f x h. All-contains P xs x (All-from_get_or P xs d f) h)
     (λ f k l. f (slice_index_or xs k d) (Contains-get_or xs k d l))
-    (told_below (λ k. P (slice_index_or xs k d)) (λ k. told (slice_index_or xs k d)) (length xs))
+    (decided_below (λ k. P (slice_index_or xs k d)) (λ k. decided (slice_index_or xs k d)) (length xs))
 
 -- of the numbers below a bound with a property, one with the greatest measure
 pub record IsBest (P : ℕ → Type 0) (measure : ℕ → ℕ) (n k : ℕ) : Type 0 where
@@ -62,12 +62,12 @@ pub record IsBest (P : ℕ → Type 0) (measure : ℕ → ℕ) (n k : ℕ) : Typ
   pub best : (j : ℕ) → j < n → P j → measure j ≤ measure k
 
 -- among the numbers below a bound, there is a best one with the property, or none has it
-pub best_below : (P : ℕ → Type 0) (measure : ℕ → ℕ) → ((k : ℕ) → Told (P k)) → (n : ℕ) → ((k : ℕ) × IsBest P measure n k) ⊎ ((k : ℕ) → k < n → P k → ⊥)
-best_below P measure told zero = inr (λ k l p. omega (arith, l))
-best_below P measure told (suc n) = further P measure n (best_below P measure told n) (told n)
+pub best_below : (P : ℕ → Type 0) (measure : ℕ → ℕ) → ((k : ℕ) → Decided (P k)) → (n : ℕ) → ((k : ℕ) × IsBest P measure n k) ⊎ ((k : ℕ) → k < n → P k → ⊥)
+best_below P measure decided zero = inr (λ k l p. omega (arith, l))
+best_below P measure decided (suc n) = further P measure n (best_below P measure decided n) (decided n)
   where
     -- the same with one more number
-    further : (P : ℕ → Type 0) (measure : ℕ → ℕ) (n : ℕ) → ((k : ℕ) × IsBest P measure n k) ⊎ ((k : ℕ) → k < n → P k → ⊥) → Told (P n) →
+    further : (P : ℕ → Type 0) (measure : ℕ → ℕ) (n : ℕ) → ((k : ℕ) × IsBest P measure n k) ⊎ ((k : ℕ) → k < n → P k → ⊥) → Decided (P n) →
         ((k : ℕ) × IsBest P measure (suc n) k) ⊎ ((k : ℕ) → k < suc n → P k → ⊥)
     further P measure n (inl w) (inr never) =
         inl (

@@ -7,48 +7,48 @@ use Rattle.cqf_model.specs.declared.ports.Arrival.{Arrival}
 use Rattle.cqf_model.specs.GateList.{Entry, IsOpen, IsOpenThrough}
 use Rattle.cqf_model.specs.Port.{AreLegal, IsEligible, IsFirst, IsIdle, PortRules, Transmission, Waits, class_of, free_from, instant_of, octets_of}
 use Rattle.cqf_model.proofs.Starts.{legal_skip, legal_start}
-use Rattle.cqf_laws_network.proofs.Decide.{IsBest, Told, best_below, told_below, told_both, told_if, told_le, told_like, told_lt, told_members, told_not}
+use Rattle.cqf_laws_network.proofs.Decide.{Decided, IsBest, best_below, decided_below, decided_both, decided_if, decided_le, decided_like, decided_lt, decided_members, decided_not}
 
 -- whether a class is open is decided
-told_open : (entries : List Entry) (class t : ℕ) → Told (IsOpen entries class t)
-told_open entries class t = told_not (cases_eq _ _)
+decided_open : (entries : List Entry) (class t : ℕ) → Decided (IsOpen entries class t)
+decided_open entries class t = decided_not (cases_eq _ _)
 
 -- whether it stays open is decided
-told_through : (entries : List Entry) (class first last : ℕ) → Told (IsOpenThrough entries class first last)
-told_through entries class first last =
-    told_like {P = (t : ℕ) → t < last → first ≤ t → IsOpen entries class t}
+decided_through : (entries : List Entry) (class first last : ℕ) → Decided (IsOpenThrough entries class first last)
+decided_through entries class first last =
+    decided_like {P = (t : ℕ) → t < last → first ≤ t → IsOpen entries class t}
     (λ f t g l. f t l g) (λ f t l g. f t g l)
-    (told_below (λ t. first ≤ t → IsOpen entries class t) (λ t. told_if (told_le first t) (told_open entries class t)) last)
+    (decided_below (λ t. first ≤ t → IsOpen entries class t) (λ t. decided_if (decided_le first t) (decided_open entries class t)) last)
 
 -- whether an arrival waits is decided
-told_waits : (xs : List Arrival) (starts : List Transmission) (p t : ℕ) → Told (Waits xs starts p t)
-told_waits xs starts p t =
-    told_like {P = (p < length xs) × (instant_of xs p ≤ t) × ((x : Transmission) → Contains starts x → x.0 ≡ p → t ≤ x.1)}
+decided_waits : (xs : List Arrival) (starts : List Transmission) (p t : ℕ) → Decided (Waits xs starts p t)
+decided_waits xs starts p t =
+    decided_like {P = (p < length xs) × (instant_of xs p ≤ t) × ((x : Transmission) → Contains starts x → x.0 ≡ p → t ≤ x.1)}
     (λ w. record { inside = w.0; come = w.1; not_started = λ s h. w.2 (p, s) h refl })
     (λ w. (w.inside, w.come, λ x h e. w.not_started x.1 (subst (λ (q : ℕ). Contains starts (q, x.1)) e h)))
-    (told_three (told_lt p (length xs)) (told_le (instant_of xs p) t)
-    (told_members (λ (x : Transmission). x.0 ≡ p → t ≤ x.1) (λ x. told_if (cases_eq x.0 p) (told_le t x.1)) (0, 0) starts))
+    (decided_three (decided_lt p (length xs)) (decided_le (instant_of xs p) t)
+    (decided_members (λ (x : Transmission). x.0 ≡ p → t ≤ x.1) (λ x. decided_if (cases_eq x.0 p) (decided_le t x.1)) (0, 0) starts))
   where
     -- a conjunction of three is decided if all three are
-    told_three : {P Q R : Type 0} → Told P → Told Q → Told R → Told (P × Q × R)
-    told_three p q r = told_like (λ w. (w.0, w.1.0, w.1.1)) (λ w. (w.0, (w.1, w.2))) (told_both p (told_both q r))
+    decided_three : {P Q R : Type 0} → Decided P → Decided Q → Decided R → Decided (P × Q × R)
+    decided_three p q r = decided_like (λ w. (w.0, w.1.0, w.1.1)) (λ w. (w.0, (w.1, w.2))) (decided_both p (decided_both q r))
 
 -- whether it is the first that waits is decided
-told_first : (xs : List Arrival) (starts : List Transmission) (p t : ℕ) → Told (IsFirst xs starts p t)
-told_first xs starts p t =
-    told_like {P = Waits xs starts p t × ((other : ℕ) → other < p → class_of xs other ≡ class_of xs p → Waits xs starts other t → ⊥)}
+decided_first : (xs : List Arrival) (starts : List Transmission) (p t : ℕ) → Decided (IsFirst xs starts p t)
+decided_first xs starts p t =
+    decided_like {P = Waits xs starts p t × ((other : ℕ) → other < p → class_of xs other ≡ class_of xs p → Waits xs starts other t → ⊥)}
     (λ w. record { waits = w.0; none_before = w.1 })
     (λ w. (w.waits, w.none_before))
-    (told_both (told_waits xs starts p t)
-    (told_below (λ other. class_of xs other ≡ class_of xs p → Waits xs starts other t → ⊥)
-    (λ other. told_if (cases_eq (class_of xs other) (class_of xs p)) (told_not (told_waits xs starts other t))) p))
+    (decided_both (decided_waits xs starts p t)
+    (decided_below (λ other. class_of xs other ≡ class_of xs p → Waits xs starts other t → ⊥)
+    (λ other. decided_if (cases_eq (class_of xs other) (class_of xs p)) (decided_not (decided_waits xs starts other t))) p))
 
 -- whether the port is idle is decided
-told_idle : (rules : PortRules) (xs : List Arrival) (starts : List Transmission) (t : ℕ) → Told (IsIdle rules xs starts t)
-told_idle rules xs starts t =
-    told_like {P = (x : Transmission) → Contains starts x → x.1 < t → free_from rules xs x.0 x.1 ≤ t}
+decided_idle : (rules : PortRules) (xs : List Arrival) (starts : List Transmission) (t : ℕ) → Decided (IsIdle rules xs starts t)
+decided_idle rules xs starts t =
+    decided_like {P = (x : Transmission) → Contains starts x → x.1 < t → free_from rules xs x.0 x.1 ≤ t}
     (λ f p s h l. f (p, s) h l) (λ f x h l. f x.0 x.1 h l)
-    (told_members (λ (x : Transmission). x.1 < t → free_from rules xs x.0 x.1 ≤ t) (λ x. told_if (told_lt x.1 t) (told_le (free_from rules xs x.0 x.1) t))
+    (decided_members (λ (x : Transmission). x.1 < t → free_from rules xs x.0 x.1 ≤ t) (λ x. decided_if (decided_lt x.1 t) (decided_le (free_from rules xs x.0 x.1) t))
     (0, 0) starts)
 
 -- what may start at an instant, if no other class has precedence
@@ -56,9 +56,9 @@ abbrev MayStart : PortRules → List Arrival → List Transmission → ℕ → �
 MayStart rules xs starts t p = IsFirst xs starts p t × IsEligible rules xs p t
 
 -- whether an arrival may start is decided
-told_may_start : (rules : PortRules) (xs : List Arrival) (starts : List Transmission) (t p : ℕ) → Told (MayStart rules xs starts t p)
-told_may_start rules xs starts t p =
-    told_both (told_first xs starts p t) (told_through rules.entries (class_of xs p) t (ending_of t (octets_of xs p) rules.octet_time))
+decided_may_start : (rules : PortRules) (xs : List Arrival) (starts : List Transmission) (t p : ℕ) → Decided (MayStart rules xs starts t p)
+decided_may_start rules xs starts t p =
+    decided_both (decided_first xs starts p t) (decided_through rules.entries (class_of xs p) t (ending_of t (octets_of xs p) rules.octet_time))
 
 -- if nothing may start at the end, the starts are legal one instant longer
 legal_without : (rules : PortRules) (xs : List Arrival) (end : ℕ) (starts : List Transmission) → AreLegal rules xs end starts →
@@ -82,9 +82,9 @@ legal_with rules xs end starts p legal idle best =
 legal_longer : (rules : PortRules) (xs : List Arrival) (end : ℕ) (starts : List Transmission) → AreLegal rules xs end starts → (more : List Transmission) ×
     AreLegal rules xs (suc end) more
 legal_longer rules xs end starts legal =
-    elim (told_idle rules xs starts end) [
+    elim (decided_idle rules xs starts end) [
       | inr busy ↦ (starts, legal_without rules xs end starts legal (λ idle p may. busy idle))
-      | inl idle ↦ elim (best_below (MayStart rules xs starts end) (class_of xs) (told_may_start rules xs starts end) (length xs)) [
+      | inl idle ↦ elim (best_below (MayStart rules xs starts end) (class_of xs) (decided_may_start rules xs starts end) (length xs)) [
         | inl w ↦ (starts ++ (w.0, end) ∷ [], legal_with rules xs end starts w.0 legal idle w.1)
         | inr none ↦ (starts, legal_without rules xs end starts legal (λ i p may. none p may.0.waits.inside may))
       ]

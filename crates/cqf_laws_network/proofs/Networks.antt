@@ -17,7 +17,7 @@ use Rattle.cqf_model.specs.GateList.{Entry}
 use Rattle.cqf_model.specs.Network.{IsLegalNetwork, Network, QueuedFrame, Sends, arrivals_of, backed_of, comes_before, comes_in, sent_of}
 use Rattle.cqf_model.specs.Port.{AreLegal, PortRules}
 use Rattle.cqf_model.specs.Run.{Run}
-use Rattle.cqf_model.specs.Traffic.{Carried}
+use Rattle.cqf_model.specs.Policing.{Carried}
 use Rattle.cqf_model.proofs.Coming.{comes_in_late}
 use Rattle.cqf_model.proofs.Legal.{none_at_0}
 use Rattle.cqf_laws_network.specs.PortLaws.{LegalPartIsLegalForTheSamePast, LegalStartsExist, OnlyThePastCounts}

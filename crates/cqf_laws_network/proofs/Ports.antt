@@ -7,7 +7,7 @@ use Rattle.std.proofs.lemmas.List.{get_or-map, get_or_append_left, length-map}
 use Rattle.cqf_lists.proofs.EachBelow.{filter_each}
 use Rattle.cqf_lists.proofs.Fronts.{Front}
 use Rattle.cqf_lists.proofs.Members.{contains_from_filter}
-use Rattle.cqf_lists.proofs.Places.{in_either}
+use Rattle.cqf_lists.proofs.Indices.{in_either}
 use Rattle.cqf_model.specs.declared.frames.Sent.{Sent}
 use Rattle.cqf_model.specs.declared.ports.Arrival.{Arrival}
 use Rattle.cqf_model.specs.declared.ports.Start.{Start}
@@ -35,25 +35,25 @@ arrival_at : (queued : List QueuedFrame) (p : ℕ) → p < length queued →
 arrival_at queued p l = get_or-map (λ (x : QueuedFrame). x.arrival) queued p no_frame no_arrival l
 
 -- the indices of arrivals are those of queued frames
-place_of : (queued : List QueuedFrame) (p : ℕ) → p < length (arrivals_of queued) → p < length queued
-place_of queued p l = omega (arith, l, length-map queued (λ (x : QueuedFrame). x.arrival))
+index_of : (queued : List QueuedFrame) (p : ℕ) → p < length (arrivals_of queued) → p < length queued
+index_of queued p l = omega (arith, l, length-map queued (λ (x : QueuedFrame). x.arrival))
 
 -- an arrival before the instant is of a frame in the front
 arrived_in_front : (n : ℕ) (queued front : List QueuedFrame) → Front queued front (Late n) → (p : ℕ) → p < length (arrivals_of queued) →
     instant_of (arrivals_of queued) p < n → (p < length front) × (slice_index_or queued p no_frame ≡ slice_index_or front p no_frame)
 arrived_in_front n queued front f p l came =
-    let inside : p < length (front ++ f.rest) = omega (arith, place_of queued p l, ap (length {A = QueuedFrame}) f.is) in
+    let inside : p < length (front ++ f.rest) = omega (arith, index_of queued p l, ap (length {A = QueuedFrame}) f.is) in
     let at : slice_index_or queued p no_frame ≡ slice_index_or (front ++ f.rest) p no_frame =
     ap (λ (xs : List QueuedFrame). slice_index_or xs p no_frame) f.is in
     let before : (slice_index_or (front ++ f.rest) p no_frame).arrival.at.0 < n =
-    omega (arith, came, ap (λ (x : Arrival). x.at.0) (arrival_at queued p (place_of queued p l)), ap (λ (x : QueuedFrame). x.arrival.at.0) at) in
+    omega (arith, came, ap (λ (x : Arrival). x.at.0) (arrival_at queued p (index_of queued p l)), ap (λ (x : QueuedFrame). x.arrival.at.0) at) in
     let k = in_front n front f.rest f.late p inside before in
     (k, at ∙ get_or_append_left front f.rest no_frame p k)
 
 -- an index of the front is one of the queue, with the same frame
-front_place : (n : ℕ) (queued front : List QueuedFrame) → Front queued front (Late n) → (p : ℕ) → p < length front → (p < length queued) ×
+front_index : (n : ℕ) (queued front : List QueuedFrame) → Front queued front (Late n) → (p : ℕ) → p < length front → (p < length queued) ×
     (slice_index_or queued p no_frame ≡ slice_index_or front p no_frame)
-front_place n queued front f p l = (
+front_index n queued front f p l = (
   omega (arith, l, ap (length {A = QueuedFrame}) f.is, length-append front f.rest),
   ap (λ (xs : List QueuedFrame). slice_index_or xs p no_frame) f.is ∙ get_or_append_left front f.rest no_frame p l,
 )
@@ -62,9 +62,9 @@ front_place n queued front f p l = (
 same_before : (n : ℕ) (xs ys front : List QueuedFrame) → Front xs front (Late n) → Front ys front (Late n) → HasAllBefore n (arrivals_of xs) (arrivals_of ys)
 same_before n xs ys front f g p l came =
     let h = arrived_in_front n xs front f p l came in
-    let k = front_place n ys front g p h.0 in (
+    let k = front_index n ys front g p h.0 in (
       omega (arith, k.0, length-map ys (λ (x : QueuedFrame). x.arrival)),
-      arrival_at xs p (place_of xs p l) ∙ ap (λ (x : QueuedFrame). x.arrival) (h.1 ∙ sym k.1) ∙ sym (arrival_at ys p k.0),
+      arrival_at xs p (index_of xs p l) ∙ ap (λ (x : QueuedFrame). x.arrival) (h.1 ∙ sym k.1) ∙ sym (arrival_at ys p k.0),
     )
 
 -- a transmission before the instant is of the same frame in both queues
@@ -76,7 +76,7 @@ same_frame n end rules xs ys front starts f g legal x h =
     let waits = (legal.first x.0 x.1 w.0).waits in
     let came : instant_of (arrivals_of xs) x.0 < n = omega (arith, waits.come, ltb-true x.1 n w.1) in
     let a = arrived_in_front n xs front f x.0 waits.inside came in
-    let b = front_place n ys front g x.0 a.0 in
+    let b = front_index n ys front g x.0 a.0 in
     a.1 ∙ sym b.1
 
 module _ (d : Domain) (entries : List Entry) (l : ℕ) where

@@ -14,8 +14,8 @@ pub round_cons : (e : Entry) (es : List Entry) → round_of (e ∷ es) ≡ e.1 +
 round_cons e es = sum_by-cons (λ (x : Entry). x.1) e es
 
 -- the beginnings of the later entries' spans
-begins_cons : (e : Entry) (es : List Entry) (place offset : ℕ) → round_of (take (suc place) (e ∷ es)) + offset ≡ e.1 + (round_of (take place es) + offset)
-begins_cons e es place offset = let cons : round_of (take (suc place) (e ∷ es)) ≡ e.1 + round_of (take place es) = round_cons e (take place es) in
+begins_cons : (e : Entry) (es : List Entry) (index offset : ℕ) → round_of (take (suc index) (e ∷ es)) + offset ≡ e.1 + (round_of (take index es) + offset)
+begins_cons e es index offset = let cons : round_of (take (suc index) (e ∷ es)) ≡ e.1 + round_of (take index es) = round_cons e (take index es) in
     omega (arith, cons)
 
 -- 0 and a number
@@ -33,44 +33,44 @@ states_there e es x y h =
     ap (λ (b : Bool). cond b e.0 (states_in es (x - e.1))) (le-ltb x e.1 (omega (arith, h))) ∙ ap (states_in es) same
 
 -- the states within the span of an entry are that entry's
-states_in_span : (entries : List Entry) (place offset : ℕ) → offset < (slice_index_or entries place (0, 0)).1 →
-    states_in entries (round_of (take place entries) + offset) ≡ (slice_index_or entries place (0, 0)).0
-states_in_span [] place offset h = absurd (omega (arith, h))
+states_in_span : (entries : List Entry) (index offset : ℕ) → offset < (slice_index_or entries index (0, 0)).1 →
+    states_in entries (round_of (take index entries) + offset) ≡ (slice_index_or entries index (0, 0)).0
+states_in_span [] index offset h = absurd (omega (arith, h))
 states_in_span (e ∷ es) zero offset h =
     let l : offset < e.1 = h in
     states_here e es (0 + offset) (omega (arith, l))
-states_in_span (e ∷ es) (suc place) offset h =
-    states_there e es (round_of (take (suc place) (e ∷ es)) + offset) (round_of (take place es) + offset) (begins_cons e es place offset)
-    ∙ states_in_span es place offset h
+states_in_span (e ∷ es) (suc index) offset h =
+    states_there e es (round_of (take (suc index) (e ∷ es)) + offset) (round_of (take index es) + offset) (begins_cons e es index offset)
+    ∙ states_in_span es index offset h
 
 -- the span of an entry ends within the round
-span_in_round : (entries : List Entry) (place offset : ℕ) → offset < (slice_index_or entries place (0, 0)).1 →
-    round_of (take place entries) + offset < round_of entries
-span_in_round [] place offset h = absurd (omega (arith, h))
+span_in_round : (entries : List Entry) (index offset : ℕ) → offset < (slice_index_or entries index (0, 0)).1 →
+    round_of (take index entries) + offset < round_of entries
+span_in_round [] index offset h = absurd (omega (arith, h))
 span_in_round (e ∷ es) zero offset h =
     let l : offset < e.1 = h in
     let begin : round_of (take zero (e ∷ es)) ≡ 0 = refl in
     omega (arith, l, begin, round_cons e es)
-span_in_round (e ∷ es) (suc place) offset h =
-    omega (arith, begins_cons e es place offset, round_cons e es, span_in_round es place offset h)
+span_in_round (e ∷ es) (suc index) offset h =
+    omega (arith, begins_cons e es index offset, round_cons e es, span_in_round es index offset h)
 
 -- an instant of the round as an entry's index and an offset within its span
-record At (entries : List Entry) (x place offset : ℕ) : Type 0 where
-  inside : place < length entries
-  is : x ≡ round_of (take place entries) + offset
-  within : offset < (slice_index_or entries place (0, 0)).1
+record At (entries : List Entry) (x index offset : ℕ) : Type 0 where
+  inside : index < length entries
+  is : x ≡ round_of (take index entries) + offset
+  within : offset < (slice_index_or entries index (0, 0)).1
 
 -- an instant within the first entry
 at_here : (e : Entry) (es : List Entry) (x : ℕ) → x < e.1 → At (e ∷ es) x zero x
 at_here e es x l = record { inside = omega arith; is = sym (zero_add x); within = l }
 
 -- an instant after the first entry
-at_there : (e : Entry) (es : List Entry) (x place offset : ℕ) → e.1 ≤ x → At es (x - e.1) place offset → At (e ∷ es) x (suc place) offset
-at_there e es x place offset g a =
-    record { inside = omega (arith, a.inside); is = omega (arith, a.is, g, begins_cons e es place offset); within = a.within }
+at_there : (e : Entry) (es : List Entry) (x index offset : ℕ) → e.1 ≤ x → At es (x - e.1) index offset → At (e ∷ es) x (suc index) offset
+at_there e es x index offset g a =
+    record { inside = omega (arith, a.inside); is = omega (arith, a.is, g, begins_cons e es index offset); within = a.within }
 
 -- each instant of a round is in an entry
-some_at : (entries : List Entry) (x : ℕ) → x < round_of entries → (place : ℕ) × (offset : ℕ) × At entries x place offset
+some_at : (entries : List Entry) (x : ℕ) → x < round_of entries → (index : ℕ) × (offset : ℕ) × At entries x index offset
 some_at [] x h = absurd (omega (arith, h))
 some_at (e ∷ es) x h =
     elim (cases_lt x e.1) [
@@ -95,25 +95,25 @@ one_at (x ∷ xs) (suc p) o (suc q) u h k e =
     let r = one_at xs p o q u h k (omega (arith, e, begins_cons x xs p o, begins_cons x xs q u)) in (ap suc r.0, r.1)
 
 -- an instant modulo the round is its entry's beginning and the offset
-in_round : (entries : List Entry) (t place offset : ℕ) → InForce entries t place offset → t % round_of entries ≡ round_of (take place entries) + offset
-in_round entries t place offset f =
-    let x = round_of (take place entries) + offset in
+in_round : (entries : List Entry) (t index offset : ℕ) → InForce entries t index offset → t % round_of entries ≡ round_of (take index entries) + offset
+in_round entries t index offset f =
+    let x = round_of (take index entries) + offset in
     let r = round_of entries in
     let same : t ≡ f.round * r + x = omega (arith, f.spans) in
-    ap (λ (z : ℕ). z % r) same ∙ mod-mul-add f.round r x (span_in_round entries place offset f.within)
+    ap (λ (z : ℕ). z % r) same ∙ mod-mul-add f.round r x (span_in_round entries index offset f.within)
 
 -- the states at an instant are those of the entry in force
-pub states_of_entry : (entries : List Entry) (t place offset : ℕ) → InForce entries t place offset →
-    states_at entries t ≡ (slice_index_or entries place (0, 0)).0
-states_of_entry entries t place offset f =
-    ap (states_in entries) (in_round entries t place offset f) ∙ states_in_span entries place offset f.within
+pub states_of_entry : (entries : List Entry) (t index offset : ℕ) → InForce entries t index offset →
+    states_at entries t ≡ (slice_index_or entries index (0, 0)).0
+states_of_entry entries t index offset f =
+    ap (states_in entries) (in_round entries t index offset f) ∙ states_in_span entries index offset f.within
 
 -- a round takes time if any entry does
-pub round_takes_time : (entries : List Entry) (place : ℕ) → place < length entries → 0 < (slice_index_or entries place (0, 0)).1 → 0 < round_of entries
-round_takes_time entries place l h = omega (arith, h, get_or-le-sum_by (λ (x : Entry). x.1) entries place (0, 0) l)
+pub round_takes_time : (entries : List Entry) (index : ℕ) → index < length entries → 0 < (slice_index_or entries index (0, 0)).1 → 0 < round_of entries
+round_takes_time entries index l h = omega (arith, h, get_or-le-sum_by (λ (x : Entry). x.1) entries index (0, 0) l)
 
 -- some entry is in force
-pub some_in_force : (entries : List Entry) (t : ℕ) → 0 < round_of entries → (place : ℕ) × (offset : ℕ) × InForce entries t place offset
+pub some_in_force : (entries : List Entry) (t : ℕ) → 0 < round_of entries → (index : ℕ) × (offset : ℕ) × InForce entries t index offset
 some_in_force entries t h =
     let r = round_of entries in
     let w = some_at entries (t % r) (mod_below t r h) in

@@ -8,21 +8,21 @@ use Rattle.cqf_model.specs.GateList.{Entry, InForce, IsOpenFor, IsOpenThrough, r
 -- the states in force at an instant are those of the entry whose span, repeated without end from instant 0, contains the instant
 abbrev pub StatesAreOfTheEntry : Type 0
 StatesAreOfTheEntry =
-    (entries : List Entry) (t place offset : ℕ) → InForce entries t place offset → states_at entries t ≡ (slice_index_or entries place (0, 0)).0
+    (entries : List Entry) (t index offset : ℕ) → InForce entries t index offset → states_at entries t ≡ (slice_index_or entries index (0, 0)).0
 
 -- a round has a positive duration if any entry has
 abbrev pub RoundTakesTime : Type 0
-RoundTakesTime = (entries : List Entry) (place : ℕ) → place < length entries → 0 < (slice_index_or entries place (0, 0)).1 → 0 < round_of entries
+RoundTakesTime = (entries : List Entry) (index : ℕ) → index < length entries → 0 < (slice_index_or entries index (0, 0)).1 → 0 < round_of entries
 
 -- if a round has a positive duration, some entry is in force at each instant
 abbrev pub SomeEntryIsInForce : Type 0
 SomeEntryIsInForce =
-    (entries : List Entry) (t : ℕ) → 0 < round_of entries → (place : ℕ) × (offset : ℕ) × InForce entries t place offset
+    (entries : List Entry) (t : ℕ) → 0 < round_of entries → (index : ℕ) × (offset : ℕ) × InForce entries t index offset
 
 -- at most one entry is in force at an instant, at one offset
 abbrev pub OneEntryIsInForce : Type 0
 OneEntryIsInForce =
-    (entries : List Entry) (t place offset other other_offset : ℕ) → InForce entries t place offset → InForce entries t other other_offset → (place ≡ other) ×
+    (entries : List Entry) (t index offset other other_offset : ℕ) → InForce entries t index offset → InForce entries t other other_offset → (index ≡ other) ×
     (offset ≡ other_offset)
 
 -- a frame with this ending is sent before the next close of its gate

@@ -11,7 +11,7 @@ use Rattle.cqf_model.specs.GateList.{Entry}
 use Rattle.cqf_model.specs.Network.{IsLegalNetwork, Network, QueuedFrame, Sends, comes_before}
 use Rattle.cqf_model.specs.Run.{Run}
 use Rattle.cqf_model.specs.Table.{table_of}
-use Rattle.cqf_model.specs.Traffic.{Carried, policed_before}
+use Rattle.cqf_model.specs.Policing.{Carried, policed_before}
 
 -- a domain can always continue: some network is legal, regardless of the gate lists, tables, offers and background frames
 abbrev pub LegalNetworkExists : Type 0
@@ -54,7 +54,7 @@ pub record SendTheSame (end : ℕ) (sents others : List Sent) (backed other_back
   pub sent : sent_before end sents ≡ sent_before end others
   pub background : backed_before end backed ≡ backed_before end other_backed
 
--- what a port sends depends only on the past: if two queues have the same front, and the rest of each comes at an instant or later, the
+-- what a port sends depends only on the past: if two queues have the same beginning, and the rest of each comes at an instant or later, the
 -- same is sent before that instant
 abbrev pub PortGoesByThePast : Type 0
 PortGoesByThePast = (d : Domain) (entries : List Entry) (l end : ℕ) (front rest other_rest : List QueuedFrame) →
@@ -86,7 +86,7 @@ BridgesGoByThePast = (run : Run) (others : List (List Row)) (carried other : Car
     policed_before run carried bridge (cycles * run.domain.cycle_time)
     ≡ policed_before (with_tables run others) other bridge (cycles * run.domain.cycle_time)
 
--- and the same frames arrive at each port
+-- if two runs have one past before a cycle, the same frames arrive at each port before it
 abbrev pub PortsGetThePast : Type 0
 PortsGetThePast = (run : Run) (others : List (List Row)) (carried other : Carried) (cycles l : ℕ) →
     HaveOnePast run others carried other cycles →
@@ -104,7 +104,7 @@ BeginningIsLegal = (run : Run) (others : List (List Row)) (lists : ℕ → List 
     IsShorter cycles longer run.tables others → IsLegalNetwork run lists longer net →
     IsLegalNetwork (with_tables run others) lists cycles (network_before (cycles * run.domain.cycle_time) net)
 
--- and the shorter run sends nothing else
+-- a shorter run sends nothing but what the longer run sends before the shorter one's end, regardless of the tables of later cycles
 abbrev pub ShorterRunIsTheBeginning : Type 0
 ShorterRunIsTheBeginning = (run : Run) (others : List (List Row)) (lists : ℕ → List Entry) (cycles longer : ℕ) (net shorter : Network) →
     IsShorter cycles longer run.tables others → IsLegalNetwork run lists longer net →

@@ -27,8 +27,8 @@ LegalPartIsLegal =
 -- each arrival of one list that comes before an instant is in the other list, at the same index
 abbrev pub HasAllBefore : ℕ → List Arrival → List Arrival → Type 0
 HasAllBefore earlier arrivals others =
-    (place : ℕ) → place < length arrivals → instant_of arrivals place < earlier → (place < length others) ×
-    (slice_index_or arrivals place no_arrival ≡ slice_index_or others place no_arrival)
+    (index : ℕ) → index < length arrivals → instant_of arrivals index < earlier → (index < length others) ×
+    (slice_index_or arrivals index no_arrival ≡ slice_index_or others index no_arrival)
 
 -- the part of a port's legal transmissions before an instant is legal up to it for any arrivals that are the same before it
 abbrev pub LegalPartIsLegalForTheSamePast : Type 0

@@ -32,9 +32,9 @@ ghost use Rattle.cqf_laws_network.specs.PortLaws.{
   LateArrivalChangesNothing,
 };
 
-/// Says that the states at an instant are those of the entry whose span, repeated without end from instant 0, contains
-/// the instant. If a round has a positive duration, as it has if any entry has, there is exactly one such entry, at one
-/// offset (IEEE 802.1Q, 8.6.8.4).
+/// Proves that the states at an instant are those of the entry whose span, repeated without end from instant 0,
+/// contains the instant. If a round has a positive duration, as it has if any entry has, there is exactly one such
+/// entry, at one offset (IEEE 802.1Q, 8.6.8.4).
 pub fn mask_is_in_force()
     ensures states { StatesAreOfTheEntry }
     ensures round { RoundTakesTime }
@@ -42,35 +42,35 @@ pub fn mask_is_in_force()
     ensures one { OneEntryIsInForce }
 {}
 
-/// Says that a class is open for a whole frame from an instant on if and only if it stays open for good, or until the
+/// Proves that a class is open for a whole frame from an instant on if and only if it stays open for good, or until the
 /// frame's end or later: there is time to send the frame before the next gate-close event (IEEE 802.1Q, 8.6.8.4).
 pub fn eligible_by_open_for()
     ensures { FrameFitsWhileOpen }
 {}
 
-/// Says that no two lists of transmissions are legal up to an end for the same gate list, link and arrivals.
+/// Proves that no two lists of transmissions are legal up to an end for the same gate list, link and arrivals.
 pub fn legal_starts_are_unique()
     ensures { LegalStartsAreUnique }
 {}
 
-/// Says that some list of transmissions is legal, for any gate list, link, arrivals and end.
+/// Proves that some list of transmissions is legal, for any gate list, link, arrivals and end.
 pub fn legal_starts_exist()
     ensures { LegalStartsExist }
 {}
 
-/// Says that the part of legal transmissions before an earlier end is legal up to that end, also for any arrivals that
-/// are the same before it.
+/// Proves that the part of legal transmissions before an earlier end is legal up to that end, also for any arrivals
+/// that are the same before it.
 pub fn legal_part_is_legal()
     ensures part { LegalPartIsLegal }
     ensures same_past { LegalPartIsLegalForTheSamePast }
 {}
 
-/// Says that two ports with the same rules and the same arrivals before an instant send the same before it.
+/// Proves that two ports with the same rules and the same arrivals before an instant send the same before it.
 pub fn only_the_past_counts()
     ensures { OnlyThePastCounts }
 {}
 
-/// Says that an arrival that is reported late changes nothing if its class has been closed at each instant since it
+/// Proves that an arrival that is reported late changes nothing if its class has been closed at each instant since it
 /// came: what was legal without it is legal with it.
 pub fn late_arrival_changes_nothing()
     ensures { LateArrivalChangesNothing }

@@ -31,7 +31,7 @@ ghost use Rattle.cqf_laws_network.specs.NetworkLaws.{
   ShorterBookIsTheBeginning,
 };
 
-/// Says that some network is legal, for any run, gate lists and number of cycles.
+/// Proves that some network is legal, for any run, gate lists and number of cycles.
 pub fn legal_network_exists()
     ensures { LegalNetworkExists }
 {
@@ -40,16 +40,16 @@ pub fn legal_network_exists()
     crate::legal_starts_exist();
 }
 
-/// Says that no two networks are legal for the same run, gate lists and number of cycles.
+/// Proves that no two networks are legal for the same run, gate lists and number of cycles.
 pub fn legal_network_is_unique()
     ensures { LegalNetworkIsUnique }
 {
     crate::only_the_past_counts();
 }
 
-/// Says that what a port sends before an instant depends on what arrives at it before the instant, and that what
-/// arrives at the bridges and ports before a cycle depends on what the links carry before it and on the tables of the
-/// cycles before it.
+/// Proves two things about the past. What a port sends before an instant depends on what arrives at it before the
+/// instant. What arrives at the bridges and ports before a cycle depends on what the links carry before it and on the
+/// tables of the cycles before it.
 pub fn the_past_alone_matters()
     ensures sends { PortGoesByThePast }
     ensures bridges { BridgesGoByThePast }
@@ -58,7 +58,7 @@ pub fn the_past_alone_matters()
     crate::only_the_past_counts();
 }
 
-/// Says that what a legal network sends before an earlier cycle begins is the legal network of the shorter run, and
+/// Proves that what a legal network sends before an earlier cycle begins is the legal network of the shorter run, and
 /// that the tables from that cycle on don't matter for it: the first tables alone give the same.
 pub fn shorter_run_is_the_beginning()
     ensures legal { BeginningIsLegal }
@@ -69,21 +69,21 @@ pub fn shorter_run_is_the_beginning()
     legal_network_is_unique();
 }
 
-/// Says that no two books are of the same run, gate lists and number of cycles.
+/// Proves that no two books are of the same run, gate lists and number of cycles.
 pub fn book_is_unique()
     ensures { BookIsUnique }
 {
     legal_network_is_unique();
 }
 
-/// Says that there is a book, for any run, gate lists and number of cycles.
+/// Proves that there is a book, for any run, gate lists and number of cycles.
 pub fn book_exists()
     ensures { BookExists }
 {
     legal_network_exists();
 }
 
-/// Says that the part of a run's book about its first cycles is the book of the run of those cycles, with the same
+/// Proves that the part of a run's book about its first cycles is the book of the run of those cycles, with the same
 /// tables or only the tables of those cycles.
 pub fn shorter_book_is_the_beginning()
     ensures { ShorterBookIsTheBeginning }

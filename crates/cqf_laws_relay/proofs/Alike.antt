@@ -8,10 +8,10 @@ use Rattle.cqf_lists.proofs.Members.{contains_here, contains_later}
 pub kept_alike : {X A B Q : Type 0} (f : X → A) (g : X → B) (p : A → Bool) (q : B → Bool) (u : A → Q) (v : B → Q) (xs : List X) →
     ((x : X) → Contains xs x → p (f x) ≡ q (g x)) → ((x : X) → Contains xs x → q (g x) ≡ true → u (f x) ≡ v (g x)) →
     map u (filter p (map f xs)) ≡ map v (map g (filter (λ (x : X). q (g x)) xs))
-kept_alike f g p q u v [] tests told = refl
-kept_alike {X} {A} {B} {Q} f g p q u v (x ∷ xs) tests told =
-    by_tests (p (f x)) (q (g x)) (tests x (contains_here x xs)) (told x (contains_here x xs))
-    (kept_alike f g p q u v xs (λ z c. tests z (contains_later x xs z c)) (λ z c. told z (contains_later x xs z c)))
+kept_alike f g p q u v [] tests reported = refl
+kept_alike {X} {A} {B} {Q} f g p q u v (x ∷ xs) tests reported =
+    by_tests (p (f x)) (q (g x)) (tests x (contains_here x xs)) (reported x (contains_here x xs))
+    (kept_alike f g p q u v xs (λ z c. tests z (contains_later x xs z c)) (λ z c. reported z (contains_later x xs z c)))
   where
     more : List A
     more = filter p (map f xs)

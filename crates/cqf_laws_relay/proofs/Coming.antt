@@ -117,9 +117,9 @@ module _ (says : RowsSayTheTables) (begin : RowsStandAsTheyBegin) (d : Domain) (
       ]
 
   -- and follows those of all earlier tables
-  new_is_behind : (cycle later : ℕ) (row other : Row) → cycle < later → Contains (table_of tables cycle) row → Contains (table_of tables later) other →
+  new_is_after : (cycle later : ℕ) (row other : Row) → cycle < later → Contains (table_of tables cycle) row → Contains (table_of tables later) other →
       ((before : ℕ) → before < later → list_any (λ (it : Row). it.no == other.no) (table_of tables before) ≡ false) → row.no < other.no
-  new_is_behind cycle later row other earlier in_row in_other none =
+  new_is_after cycle later row other earlier in_row in_other none =
       let early = row_has_stream cycle row in_row in
       let late = row_has_stream later other in_other in
       let begun = (held_since_admission early.stream cycle early.held).0 in
@@ -132,5 +132,5 @@ pub tables_may_come : TablesAreOrderly → TablesAscend → RowsSayTheTables →
 tables_may_come orderly ascend says begin d entries cycles legal few = record {
   orderly = orderly d entries cycles legal few;
   by_number = λ cycle. ascend d entries cycles cycle legal few;
-  behind = new_is_behind says begin d entries cycles legal few;
+  following = new_is_after says begin d entries cycles legal few;
 }

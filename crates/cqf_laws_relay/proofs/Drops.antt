@@ -11,14 +11,14 @@ use Rattle.cqf_lists.proofs.Pairs.{pairs_below, pairs_none, pairs_one, pairs_wea
 use Rattle.cqf_model.specs.declared.frames.Dropped.{Dropped}
 use Rattle.cqf_model.specs.declared.frames.Offered.{Offered}
 use Rattle.cqf_model.specs.declared.frames.Reason.{Reason}
-use Rattle.cqf_model.specs.Book.{drop_by, drops_in, is_of_place}
+use Rattle.cqf_model.specs.Book.{drop_by, drops_in, is_of_index}
 use Rattle.cqf_model.specs.Domain.{cycle_of}
 use Rattle.cqf_model.specs.Network.{IsLoss, Network}
 use Rattle.cqf_model.specs.Promise.{IsDecided, MeansTheShift}
 use Rattle.cqf_model.specs.Run.{Run, end_of_run}
 use Rattle.cqf_model.specs.Shift.{offer_cycle}
-use Rattle.cqf_model.specs.Traffic.{AtEdge, DroppedFor, ExceedsGate, LacksRow, Policed, Queued, Received, Relayed, Verdict, Way, came_by}
-use Rattle.cqf_model.specs.Traffic.{offer_received, policed_before}
+use Rattle.cqf_model.specs.Policing.{AtEdge, DroppedFor, ExceedsGate, Ingress, LacksRow, Policed, Queued, Received, Relayed, Verdict, came_by}
+use Rattle.cqf_model.specs.Policing.{offer_received, policed_before}
 use Rattle.cqf_model.proofs.Drops.{drop_for, dropped_at, dropped_for, drops_at}
 use Rattle.cqf_laws_cycle.specs.Gathered.{offered_for}
 use Rattle.cqf_laws_history.specs.TrafficLaws.{RelayedFramesAreQueuedOrLost}
@@ -27,7 +27,7 @@ use Rattle.cqf_laws_shift.specs.MainLaw.{GatesMeanTheShift}
 use Rattle.cqf_laws_shift.proofs.Came.{numbered_member}
 use Rattle.cqf_laws_shift.proofs.Decided.{covered_judged, judged, uncovered_judged}
 use Rattle.cqf_laws_instants.proofs.Ordered.{Either, sorted_is_one}
-use Rattle.cqf_laws_coverage.proofs.Single.{drop_of_place, one_drop}
+use Rattle.cqf_laws_coverage.proofs.Single.{drop_of_index, one_drop}
 use Rattle.cqf_laws_relay.specs.Following.{DroppedAreTheRuns}
 use Rattle.cqf_laws_relay.proofs.Kept.{NumbersDiffer, dropped_by_verdicts, offer_of, offer_there, offers_differ}
 
@@ -74,24 +74,24 @@ module _ (relayed : RelayedFramesAreQueuedOrLost) (run : Run) (net : Network) (m
       let p : Policed = record { received = offer_received x; verdict = e.0 } in
       let there : Contains (given bridge) p = subst (λ (b : ℕ). Contains (given b) p) o.here e.1.come in
       let number = numbered_member run.offers x o.inside in
-      let place = x.frame - 1 in
+      let index = x.frame - 1 in
       let drop : Contains (drop_by cycle bridge (offer_received x) e.0) y =
       subst (λ (v : Verdict). Contains (drop_by cycle bridge (offer_received x) v) y) (decided_judged run x e.0 e.1.decided) w.2 in
-      contains_below (drops_at d given cycle bridge) (length run.offers) place y (omega (arith, number.1, number.2))
-      (contains_flat (λ (q : Policed). drop_by cycle bridge q.received q.verdict) (filter (is_of_place d cycle place) (given bridge)) p y
-      (contains_filter (is_of_place d cycle place) (given bridge) p there
-      (and_from (cycle_of d x.offer.at.0 == cycle) (x.frame == place + 1) (eq-eqb (cycle_of d x.offer.at.0) cycle o.when)
-      (eq-eqb x.frame (place + 1) (omega (arith, number.1)))))
+      contains_below (drops_at d given cycle bridge) (length run.offers) index y (omega (arith, number.1, number.2))
+      (contains_flat (λ (q : Policed). drop_by cycle bridge q.received q.verdict) (filter (is_of_index d cycle index) (given bridge)) p y
+      (contains_filter (is_of_index d cycle index) (given bridge) p there
+      (and_from (cycle_of d x.offer.at.0 == cycle) (x.frame == index + 1) (eq-eqb (cycle_of d x.offer.at.0) cycle o.when)
+      (eq-eqb x.frame (index + 1) (omega (arith, number.1)))))
       drop)
 
   -- what is dropped arrived by no link
-  at_edge : (p : Policed) (reason : Reason) → Contains (given bridge) p → p.verdict ≡ DroppedFor reason → came_by p.received.way ≡ None
-  at_edge p reason c verdict = by_way p.received.way refl
+  at_edge : (p : Policed) (reason : Reason) → Contains (given bridge) p → p.verdict ≡ DroppedFor reason → came_by p.received.ingress ≡ None
+  at_edge p reason c verdict = by_ingress p.received.ingress refl
     where
       -- a frame that a link brought goes on or is lost
-      by_way : (way : Way) → p.received.way ≡ way → came_by way ≡ None
-      by_way (AtEdge name) is = refl
-      by_way (Relayed m number) is =
+      by_ingress : (ingress : Ingress) → p.received.ingress ≡ ingress → came_by ingress ≡ None
+      by_ingress (AtEdge name) is = refl
+      by_ingress (Relayed m number) is =
           let q = relayed run net.carried bridge (end_of_run run) p m number c is (λ loss. subst IsLoss verdict loss) in
           let both : DroppedFor reason ≡ Queued q.0 = sym verdict ∙ q.2 in
           absurd (cc)
@@ -104,7 +104,7 @@ module _ (relayed : RelayedFramesAreQueuedOrLost) (run : Run) (net : Network) (m
       let w = means.edge_only bridge r.p r.inside (at_edge r.p r.reason r.inside r.verdict) in
       let x = w.0 in
       let decided : IsDecided run x (DroppedFor r.reason) = subst (IsDecided run x) r.verdict w.3 in
-      let both = and_parts (cycle_of d r.p.received.at == cycle) (r.p.received.frame == r.place + 1) r.of_place in
+      let both = and_parts (cycle_of d r.p.received.at == cycle) (r.p.received.frame == r.index + 1) r.of_index in
       let when : offer_cycle d x ≡ cycle = ap (λ (z : Received). cycle_of d z.at) w.2 ∙ eqb-true (cycle_of d r.p.received.at) cycle both.0 in
       let is_drop : drop_by cycle bridge (offer_received x) (judged run x) ≡ y ∷ [] =
       ap (drop_by cycle bridge (offer_received x)) (uncovered_judged run x r.reason decided)
@@ -138,10 +138,10 @@ module _ (relayed : RelayedFramesAreQueuedOrLost) (run : Run) (net : Network) (m
       let d = run.domain in
       let end = length run.tables * run.domain.cycle_time in
       pairs_below Ascend (drops_at d given cycle bridge) (length run.offers)
-      (λ place l. pairs_weaker (λ (a b : Dropped). ⊥) Ascend (drops_at d given cycle bridge place) (λ x z cx cz never. absurd never)
-      (one_drop run net.carried end cycle bridge place))
+      (λ index l. pairs_weaker (λ (a b : Dropped). ⊥) Ascend (drops_at d given cycle bridge index) (λ x z cx cz never. absurd never)
+      (one_drop run net.carried end cycle bridge index))
       (λ j k a b less l ca cb.
-      omega (arith, less, (drop_of_place d given cycle bridge j a ca).of_place, (drop_of_place d given cycle bridge k b cb).of_place))
+      omega (arith, less, (drop_of_index d given cycle bridge j a ca).of_index, (drop_of_index d given cycle bridge k b cb).of_index))
 
   -- so the offers' drops, brought into that order, are the run's
   own_by_frame : (fresh : List Dropped) → IsPermutation own fresh → IsNonDecreasingBy (λ (x : Dropped). x.frame) fresh → fresh ≡ runs

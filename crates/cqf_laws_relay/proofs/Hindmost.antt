@@ -1,4 +1,4 @@
--- Among links that haven't reached the end, a link that is least far waits for none.
+-- Among links that haven't reached the end, the one that has sent the fewest cycles waits for none.
 use Rattle.std.proofs.Common.{◌≡◌, ℕ, zero, suc, ◌-◌, ◌≤◌, length, inl, inr, arith, subst}
 use Rattle.std.proofs.lemmas.Bool.{cases_lt}
 use Rattle.cqf_model.specs.Domain.{bridge_of}

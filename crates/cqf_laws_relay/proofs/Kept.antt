@@ -20,6 +20,8 @@ use Rattle.cqf_lists.proofs.Members.{contains_filter, contains_from_filter, cont
 use Rattle.cqf_lists.proofs.Pairs.{one_of_pairs, one_parting, pairs_below, pairs_weaker}
 use Rattle.cqf_lists.proofs.Sums.{sum_filter, sum_flat}
 use Rattle.cqf_units.proofs.Cycles.{cycle_from, cycle_is, cycle_upto}
+use Rattle.std.proofs.Common.{zero-add}
+use Rattle.cqf_units.specs.Timing.{counted_of}
 use Rattle.cqf_model.specs.declared.frames.Dropped.{Dropped}
 use Rattle.cqf_model.specs.declared.frames.Offer.{Offer}
 use Rattle.cqf_model.specs.declared.frames.Offered.{Offered}
@@ -31,7 +33,7 @@ use Rattle.cqf_model.specs.Promise.{IsDecided}
 use Rattle.cqf_model.specs.Run.{Run}
 use Rattle.cqf_model.specs.Shift.{IsCovered, offer_cycle, offers_at, offers_before, taken_by}
 use Rattle.cqf_model.specs.Table.{AreOrderly, begins_at, is_live, reserved_in, row_named, table_of}
-use Rattle.cqf_model.specs.Traffic.{DroppedFor, ExceedsGate, LacksRow, Queued, Verdict, edge_verdict, is_offered_at, numbered, offer_received}
+use Rattle.cqf_model.specs.Policing.{DroppedFor, ExceedsGate, LacksRow, Queued, Verdict, edge_verdict, is_offered_at, numbered, offer_received}
 use Rattle.cqf_laws_cycle.specs.Gathered.{is_offered_in, offered_for}
 use Rattle.cqf_laws_cycle.proofs.Gathering.{picked_then}
 use Rattle.cqf_laws_shift.specs.Edge.{IsCoveredIn, TakenIsCovered}
@@ -39,7 +41,7 @@ use Rattle.cqf_laws_shift.proofs.Came.{numbers_ascend, one_number}
 use Rattle.cqf_laws_shift.proofs.Decided.{covered_judged, is_decided, judged, judged_queued, smaller_before, uncovered_judged}
 use Rattle.cqf_laws_shift.proofs.Trees.{one_beginning}
 use Rattle.cqf_laws_instants.specs.QueueLaws.{CoveringCovers, covering}
-use Rattle.cqf_relay.specs.Offering.{Going, covered_behind, dropped_behind, going_by, octets_of, verdict_with}
+use Rattle.cqf_relay.specs.Offering.{Going, covered_after, dropped_after, going_by, octets_of, verdict_with}
 use Rattle.cqf_laws_relay.specs.Following.{KeptAreCovered, covered_of, going_with}
 
 -- lists that equal two permuted lists are permuted
@@ -115,9 +117,9 @@ abbrev pub NumbersDiffer : Offered → Offered → Type 0
 NumbersDiffer a b = a.frame ≡ b.frame → ⊥
 
 -- in order of instant, then index, an offer follows the offers before it
-stands_behind : (offers : List Offer) (x : Offered) (n : ℕ) → Contains (numbered offers) x → x.offer.at.0 < n → (after : List Offered) ×
+stands_after : (offers : List Offer) (x : Offered) (n : ℕ) → Contains (numbered offers) x → x.offer.at.0 < n → (after : List Offered) ×
     (each_below (offers_at offers) n ≡ offers_before offers x ++ (x ∷ after))
-stands_behind offers x n inside early =
+stands_after offers x n inside early =
     let t = x.offer.at.0 in
     let here : Offered → Bool = λ y. y.offer.at.0 == t in
     let rest = parted_below (offers_at offers) t n early in
@@ -249,14 +251,14 @@ module _ (d : Domain) (offers : List Offer) (bridge cycle : ℕ) where
   before_is before x after parts =
       let test = is_offered_in d bridge cycle in
       let o = offer_of x (subst (λ (xs : List Offered). Contains xs x) (sym parts) (Contains-append_right before (x ∷ after) x (contains_here x after))) in
-      let behind = stands_behind offers x (cycle * d.cycle_time + d.cycle_time) o.inside o.upto in
-      let kept : filter test (offers_before offers x ++ (x ∷ behind.0)) ≡ filter test (offers_before offers x) ++ (x ∷ filter test behind.0) =
-      filter-append test (offers_before offers x) (x ∷ behind.0)
+      let following = stands_after offers x (cycle * d.cycle_time + d.cycle_time) o.inside o.upto in
+      let kept : filter test (offers_before offers x ++ (x ∷ following.0)) ≡ filter test (offers_before offers x) ++ (x ∷ filter test following.0) =
+      filter-append test (offers_before offers x) (x ∷ following.0)
       ∙ ap (λ (xs : List Offered). filter test (offers_before offers x) ++ xs)
-      (cond-true (test x) (x ∷ filter test behind.0) (filter test behind.0) (passes x o.here o.when)) in
-      one_parting NumbersDiffer x before (filter test (offers_before offers x)) after (filter test behind.0)
+      (cond-true (test x) (x ∷ filter test following.0) (filter test following.0) (passes x o.here o.when)) in
+      one_parting NumbersDiffer x before (filter test (offers_before offers x)) after (filter test following.0)
       (subst (λ (xs : List Offered). AllPairs NumbersDiffer xs) parts offers_differ) (λ differ. differ refl)
-      (sym parts ∙ offered_of_all ∙ ap (filter test) behind.1 ∙ kept)
+      (sym parts ∙ offered_of_all ∙ ap (filter test) following.1 ∙ kept)
 
 -- the octets that an offer uses of a row by its verdict
 abbrev takes : ℕ → ℕ → Verdict → ℕ
@@ -266,12 +268,13 @@ takes number octets LacksRow = 0
 takes number octets ExceedsGate = 0
 
 -- an offer that goes on uses them
-takes_going : (number : ℕ) (x : Offered) (v : Verdict) →
-    sum_by (λ (g : Going). if g.row.no == number then g.received.octets else 0) (going_by x v) ≡ takes number x.offer.octets v
-takes_going number x (Queued row) = omega arith
-takes_going number x (DroppedFor reason) = refl
-takes_going number x LacksRow = refl
-takes_going number x ExceedsGate = refl
+takes_going : (overhead number : ℕ) (x : Offered) (v : Verdict) →
+    sum_by (λ (g : Going). if g.row.no == number then counted_of overhead g.received.octets else 0) (going_by x v)
+    ≡ takes number (counted_of overhead x.offer.octets) v
+takes_going overhead number x (Queued row) = zero-add (if row.no == number then counted_of overhead x.offer.octets else 0)
+takes_going overhead number x (DroppedFor reason) = refl
+takes_going overhead number x LacksRow = refl
+takes_going overhead number x ExceedsGate = refl
 
 -- the verdict by a row, from whether it is live, begins here and has the octets left
 abbrev edge_by : Row → Bool → Bool → Bool → Verdict
@@ -311,20 +314,20 @@ module _ (counted : TakenIsCovered) (run : Run) (orderly : AreOrderly run.domain
   module _ (row : Row) (inside : Contains table row) (live : is_live row cycle ≡ true) (begins : begins_at run.domain row bridge ≡ true) where
     -- the octets that an offer uses of the row
     abbrev each_takes : Offered → ℕ
-    each_takes y = takes row.no y.offer.octets (judged run y)
+    each_takes y = takes row.no (counted_of run.domain.overhead y.offer.octets) (judged run y)
 
     -- if it is one of the cycle here
     abbrev counts : Offered → ℕ
     counts y = if is_offered_in run.domain bridge cycle y then each_takes y else 0
 
     -- an offer that the row covers in the cycle uses its octets
-    covered_counts : (y : Offered) → IsCoveredIn run row cycle y → counts y ≡ y.offer.octets
+    covered_counts : (y : Offered) → IsCoveredIn run row cycle y → counts y ≡ counted_of run.domain.overhead y.offer.octets
     covered_counts y c =
         cond-true (is_offered_in run.domain bridge cycle y) (each_takes y) 0
         (passes run.domain run.offers bridge cycle y
         (one_beginning run.domain row (orderly.trees cycle row inside) y.offer.bridge bridge c.covered.first_bridge begins) c.in_cycle)
-        ∙ ap (takes row.no y.offer.octets) (covered_judged run y row c.covered)
-        ∙ cond-true (row.no == row.no) y.offer.octets 0 (eq-eqb row.no row.no refl)
+        ∙ ap (takes row.no (counted_of run.domain.overhead y.offer.octets)) (covered_judged run y row c.covered)
+        ∙ cond-true (row.no == row.no) (counted_of run.domain.overhead y.offer.octets) 0 (eq-eqb row.no row.no refl)
 
     -- each other offer uses nothing
     other_counts : (y : Offered) → Contains (numbered run.offers) y → ¬ IsCoveredIn run row cycle y → counts y ≡ 0
@@ -338,7 +341,7 @@ module _ (counted : TakenIsCovered) (run : Run) (orderly : AreOrderly run.domain
       where
         -- a row of that number would be the row
         by_number : (q : Row) → judged run y ≡ Queued q → offer_cycle run.domain y ≡ cycle → (b : Bool) → (q.no == row.no) ≡ b →
-            (if b then y.offer.octets else 0) ≡ 0
+            (if b then counted_of run.domain.overhead y.offer.octets else 0) ≡ 0
         by_number q e when false is = refl
         by_number q e when true is =
             let covered = judged_queued run y q member e in
@@ -351,7 +354,7 @@ module _ (counted : TakenIsCovered) (run : Run) (orderly : AreOrderly run.domain
             absurd (never (record { covered = subst (IsCovered run y) same covered; in_cycle = when }))
 
         -- so no verdict uses any of it
-        by_verdict : (v : Verdict) → judged run y ≡ v → offer_cycle run.domain y ≡ cycle → takes row.no y.offer.octets v ≡ 0
+        by_verdict : (v : Verdict) → judged run y ≡ v → offer_cycle run.domain y ≡ cycle → takes row.no (counted_of run.domain.overhead y.offer.octets) v ≡ 0
         by_verdict (Queued q) e when = by_number q e when (q.no == row.no) refl
         by_verdict (DroppedFor reason) e when = refl
         by_verdict LacksRow e when = refl
@@ -359,51 +362,51 @@ module _ (counted : TakenIsCovered) (run : Run) (orderly : AreOrderly run.domain
 
     -- so the octets of the row that went on before an offer are what is used of it
     octets_taken : (before : List Offered) (x : Offered) (after : List Offered) → offered ≡ before ++ (x ∷ after) → Contains (numbered run.offers) x →
-        octets_of (flat_map goes before) row.no ≡ taken_by run.domain row cycle (offers_before run.offers x)
+        octets_of run.domain.overhead (flat_map goes before) row.no ≡ taken_by run.domain row cycle (offers_before run.offers x)
     octets_taken before x after parts member =
-        let of_row : Going → ℕ = λ g. if g.row.no == row.no then g.received.octets else 0 in
-        sum_filter (λ (g : Going). g.received.octets) (λ (g : Going). g.row.no == row.no) (flat_map goes before)
+        let of_row : Going → ℕ = λ g. if g.row.no == row.no then counted_of run.domain.overhead g.received.octets else 0 in
+        sum_filter (λ (g : Going). counted_of run.domain.overhead g.received.octets) (λ (g : Going). g.row.no == row.no) (flat_map goes before)
         ∙ sum_flat of_row goes before
         ∙ fold_same (λ so_far (y : Offered). so_far + sum_by of_row (goes y)) (λ so_far (y : Offered). so_far + each_takes y) 0 before
-        (λ so_far y c. ap (λ n. so_far + n) (takes_going row.no y (judged run y)))
+        (λ so_far y c. ap (λ n. so_far + n) (takes_going run.domain.overhead row.no y (judged run y)))
         ∙ ap (sum_by each_takes) (before_is run.domain run.offers bridge cycle before x after parts)
         ∙ sum_filter each_takes (is_offered_in run.domain bridge cycle) (offers_before run.offers x)
         ∙ sym (counted run row cycle x counts orderly inside live member (record { covered = covered_counts; others = other_counts }))
 
   -- so after the covered ones before it an offer gets the run's verdict
   verdict_is : (before : List Offered) (x : Offered) (after : List Offered) → offered ≡ before ++ (x ∷ after) →
-      verdict_with run.domain bridge cycle table (octets_of (flat_map goes before)) x ≡ judged run x
+      verdict_with run.domain bridge cycle table (octets_of run.domain.overhead (flat_map goes before)) x ≡ judged run x
   verdict_is before x after parts =
       let o =
       offer_of run.domain run.offers bridge cycle x
       (subst (λ (xs : List Offered). Contains xs x) (sym parts) (Contains-append_right before (x ∷ after) x (contains_here x after))) in
       let left : ℕ → Row → Bool =
-      λ c row. nat_le (taken_by run.domain row c (offers_before run.offers x) + x.offer.octets) (reserved_in row 0 c) in
-      same_verdict run.domain bridge cycle (λ (row : Row). nat_le (octets_of (flat_map goes before) row.no + x.offer.octets) (reserved_in row 0 cycle))
+      λ c row. nat_le (taken_by run.domain row c (offers_before run.offers x) + counted_of run.domain.overhead x.offer.octets) (reserved_in row 0 c) in
+      same_verdict run.domain bridge cycle (λ (row : Row). nat_le (octets_of run.domain.overhead (flat_map goes before) row.no + counted_of run.domain.overhead x.offer.octets) (reserved_in row 0 cycle))
       (left cycle) (row_named table x.offer.stream)
-      (λ row named live begins. ap (λ n. nat_le (n + x.offer.octets) (reserved_in row 0 cycle))
+      (λ row named live begins. ap (λ n. nat_le (n + counted_of run.domain.overhead x.offer.octets) (reserved_in row 0 cycle))
       (octets_taken row (find_member (λ (r : Row). is_text r.name x.offer.stream) table row named).0 live begins before x after parts o.inside))
       ∙ ap₂ (λ b c. edge_verdict run.domain b c (left c) (row_named (table_of run.tables c) x.offer.stream)) (sym o.here) (sym o.when)
 
   -- those that are kept are those that go on by the run's verdicts
   pub kept_by_verdicts : (before after : List Offered) → offered ≡ before ++ after →
-      covered_behind run.domain bridge cycle table (flat_map goes before) after ≡ flat_map goes after
+      covered_after run.domain bridge cycle table (flat_map goes before) after ≡ flat_map goes after
   kept_by_verdicts before [] parts = refl
   kept_by_verdicts before (x ∷ after) parts =
       let earlier = flat_map goes before in
-      ap (λ (v : Verdict). going_by x v ++ covered_behind run.domain bridge cycle table (earlier ++ going_by x v) after) (verdict_is before x after parts)
-      ∙ ap (λ (gs : List Going). goes x ++ covered_behind run.domain bridge cycle table gs after) (flat_map_more goes [] before x)
+      ap (λ (v : Verdict). going_by x v ++ covered_after run.domain bridge cycle table (earlier ++ going_by x v) after) (verdict_is before x after parts)
+      ∙ ap (λ (gs : List Going). goes x ++ covered_after run.domain bridge cycle table gs after) (flat_map_more goes [] before x)
       ∙ ap (λ (gs : List Going). goes x ++ gs) (kept_by_verdicts (before ++ x ∷ []) after (parts ∙ sym (append_assoc before (x ∷ []) after)))
 
   -- and those that are dropped are the drops of the run's verdicts
   pub dropped_by_verdicts : (before after : List Offered) → offered ≡ before ++ after →
-      dropped_behind run.domain bridge cycle table (flat_map goes before) after ≡ flat_map drops after
+      dropped_after run.domain bridge cycle table (flat_map goes before) after ≡ flat_map drops after
   dropped_by_verdicts before [] parts = refl
   dropped_by_verdicts before (x ∷ after) parts =
       let earlier = flat_map goes before in
-      ap (λ (v : Verdict). drop_by cycle bridge (offer_received x) v ++ dropped_behind run.domain bridge cycle table (earlier ++ going_by x v) after)
+      ap (λ (v : Verdict). drop_by cycle bridge (offer_received x) v ++ dropped_after run.domain bridge cycle table (earlier ++ going_by x v) after)
       (verdict_is before x after parts)
-      ∙ ap (λ (gs : List Going). drops x ++ dropped_behind run.domain bridge cycle table gs after) (flat_map_more goes [] before x)
+      ∙ ap (λ (gs : List Going). drops x ++ dropped_after run.domain bridge cycle table gs after) (flat_map_more goes [] before x)
       ∙ ap (λ (xs : List Dropped). drops x ++ xs) (dropped_by_verdicts (before ++ x ∷ []) after (parts ∙ sym (append_assoc before (x ∷ []) after)))
 
 -- what goes on by a decided verdict goes on by the row that covers it
@@ -425,7 +428,7 @@ going_covered covers run x ExceedsGate never = absurd never
 pub kept_are_covered : TakenIsCovered → CoveringCovers → KeptAreCovered
 kept_are_covered counted covers run net bridge cycle legal within =
     permuted_as (flat_map row_with (each_below (λ offset. filter (at offset) mine) d.cycle_time)) (covered_of run bridge cycle)
-    (covered_behind d bridge cycle (table_of run.tables cycle) [] list) (covered_of run bridge cycle)
+    (covered_after d bridge cycle (table_of run.tables cycle) [] list) (covered_of run bridge cycle)
     (kept_by_verdicts counted run legal.orderly bridge cycle [] list refl
     ∙ flat_map_same (λ (x : Offered). going_by x (judged run x)) row_with list
     (λ x c. going_covered covers run x (judged run x) (is_decided run x (offer_of d run.offers bridge cycle x c).inside))

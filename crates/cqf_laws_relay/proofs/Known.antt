@@ -6,16 +6,16 @@ use Rattle.std.proofs.lemmas.List.{get_or-take, length-take-le}
 use Rattle.std.proofs.lemmas.List.Elements.{Contains-get_or}
 use Rattle.std.proofs.lemmas.Option.{get_or_from_slice_get}
 use Rattle.cqf_lists.proofs.Any.{none_member}
-use Rattle.cqf_lists.proofs.Members.{contains_flat, contains_from_flat, contains_from_take, find_member, find_some, place_of_member}
+use Rattle.cqf_lists.proofs.Members.{contains_flat, contains_from_flat, contains_from_take, find_member, find_some, index_of_member}
 use Rattle.cqf_model.specs.declared.topology.Row.{Row}
 use Rattle.cqf_model.specs.Domain.{Domain}
 use Rattle.cqf_model.specs.Table.{AreOrderly, goes_to, row_of, table_of}
-use Rattle.cqf_model.specs.Traffic.{Relayed}
+use Rattle.cqf_model.specs.Policing.{Relayed}
 use Rattle.cqf_laws_instants.specs.QueueLaws.{goes_with}
-use Rattle.cqf_relay.specs.declared.leads.By.TheVariants as way
+use Rattle.cqf_relay.specs.declared.leads.By.TheVariants as ingress
 use Rattle.cqf_relay.specs.Leading.{by_hops, by_row, leads, same_by}
 use Rattle.cqf_relay.specs.Standing.{rows_of}
-use Rattle.cqf_laws_relay.proofs.Ways.{by_tree}
+use Rattle.cqf_laws_relay.proofs.Ingresses.{by_tree}
 
 module _ (tables : List (List Row)) (count : ℕ) (within : count ≤ length tables) where
   -- the rows that have arrived
@@ -26,9 +26,9 @@ module _ (tables : List (List Row)) (count : ℕ) (within : count ≤ length tab
   pub in_some_table : (row : Row) → Contains known row → (cycle : ℕ) × Contains (table_of tables cycle) row
   in_some_table row c =
       let w = contains_from_flat (λ (table : List Row). table) (take count tables) row c in
-      let place = place_of_member tables w.0 (contains_from_take tables count w.0 w.1) in (
-        place.0,
-        subst (λ (table : List Row). Contains table row) (sym (get_or_from_slice_get tables place.0 w.0 [] place.1)) w.2,
+      let index = index_of_member tables w.0 (contains_from_take tables count w.0 w.1) in (
+        index.0,
+        subst (λ (table : List Row). Contains table row) (sym (get_or_from_slice_get tables index.0 w.0 [] index.1)) w.2,
       )
 
   -- and each row of a table that has arrived is known
@@ -66,10 +66,10 @@ module _ (tables : List (List Row)) (count : ℕ) (within : count ≤ length tab
         ap (by_row l) w.1 ∙ ap (by_hops l) (sym same.tree)
 
     -- and so a frame of a link goes on if the tree of the known row says so
-    pub goes_as_known : (l m number : ℕ) → same_by (by_row l (row_of known number)) (way.Link m) ≡ goes_with l (Relayed m number) (row_of known number)
+    pub goes_as_known : (l m number : ℕ) → same_by (by_row l (row_of known number)) (ingress.Link m) ≡ goes_with l (Relayed m number) (row_of known number)
     goes_as_known l m number = by_found (row_of known number) refl
       where
-        by_found : (found : Option Row) → row_of known number ≡ found → same_by (by_row l found) (way.Link m) ≡ goes_with l (Relayed m number) found
+        by_found : (found : Option Row) → row_of known number ≡ found → same_by (by_row l found) (ingress.Link m) ≡ goes_with l (Relayed m number) found
         by_found None is = refl
         by_found (Some row) is =
             let there = in_some_table row (find_member (λ (other : Row). other.no == number) known row is).0 in

@@ -1,9 +1,9 @@
 mod Hindmost
 mod Orders
 mod Alike
-mod Ways
+mod Ingresses
 mod Known
-mod Turns
+mod InTurn
 mod Following
 mod Kept
 mod Drops

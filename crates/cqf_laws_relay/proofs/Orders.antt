@@ -40,8 +40,8 @@ module _ {X : Type 0} (p : X → Bool) where
   KeepsSame xs ys = IsPermutation (filter p xs) (filter p ys)
 
   -- after the same element
-  behind_one : (x : X) (xs ys : List X) → KeepsSame xs ys → KeepsSame (x ∷ xs) (x ∷ ys)
-  behind_one x xs ys same = by_test (p x)
+  after_one : (x : X) (xs ys : List X) → KeepsSame xs ys → KeepsSame (x ∷ xs) (x ∷ ys)
+  after_one x xs ys same = by_test (p x)
     where
       by_test : (b : Bool) → IsPermutation (cond b (x ∷ filter p xs) (filter p xs)) (cond b (x ∷ filter p ys) (filter p ys))
       by_test true = IsPermutation-cons x (filter p xs) (filter p ys) same
@@ -74,7 +74,7 @@ module _ {X : Type 0} (p : X → Bool) where
       let others = set xs j x in
       after (x ∷ y ∷ xs) (y ∷ x ∷ xs) (z ∷ y ∷ others) (turned x y xs)
       (after (y ∷ x ∷ xs) (y ∷ z ∷ others) (z ∷ y ∷ others)
-      (behind_one y (x ∷ xs) (z ∷ others) (head_swapped xs j x d (omega (arith, inside))))
+      (after_one y (x ∷ xs) (z ∷ others) (head_swapped xs j x d (omega (arith, inside))))
       (turned y z others))
 
   -- if any two are
@@ -84,7 +84,7 @@ module _ {X : Type 0} (p : X → Bool) where
   both_set (x ∷ xs) zero (suc j) d a b = head_swapped xs j x d (omega (arith, b))
   both_set (x ∷ xs) (suc i) zero d a b = head_swapped xs i x d (omega (arith, a))
   both_set (x ∷ xs) (suc i) (suc j) d a b =
-      behind_one x xs (set (set xs i (get_or xs j d)) j (get_or xs i d)) (both_set xs i j d (omega (arith, a)) (omega (arith, b)))
+      after_one x xs (set (set xs i (get_or xs j d)) j (get_or xs i d)) (both_set xs i j d (omega (arith, a)) (omega (arith, b)))
 
   swapped : (xs : List X) (i j : ℕ) → i < length xs → j < length xs → KeepsSame xs (swap xs i j)
   swapped [] i j a b = absurd (omega (arith, a))

@@ -29,7 +29,7 @@ use Rattle.cqf_model.specs.Domain.{bridge_of, cycle_of}
 use Rattle.cqf_model.specs.Network.{Network, backed_by, backed_of, comes_before, compiled_lists, no_frame}
 use Rattle.cqf_model.specs.Port.{Transmission}
 use Rattle.cqf_model.specs.Run.{Run}
-use Rattle.cqf_model.specs.Traffic.{Policed, policed_before}
+use Rattle.cqf_model.specs.Policing.{Policed, policed_before}
 use Rattle.cqf_model.proofs.Drops.{dropped_at}
 use Rattle.cqf_model.proofs.Links.{bridge_within, leaves_its_bridge}
 use Rattle.cqf_model.proofs.Sending.{backed_in_run, backed_of_when}
@@ -75,13 +75,13 @@ module _ {A : Type 0} (by : ℕ → ℕ → A → Started) (mark : A → Mark) (
 -- ---- what a link has sent, batch by batch
 
 -- lists end to end are those at each index, end to end
-lists_by_place : {X : Type 0} (lists : List (List X)) →
+lists_by_index : {X : Type 0} (lists : List (List X)) →
     flat_map (λ (xs : List X). xs) lists ≡ each_below (λ k. slice_index_or lists k []) (length lists)
-lists_by_place [] = refl
-lists_by_place {X} (xs ∷ lists) =
+lists_by_index [] = refl
+lists_by_index {X} (xs ∷ lists) =
     let at = λ (k : ℕ). slice_index_or (xs ∷ lists) k [] in
     ap (λ (ys : List X). xs ++ ys)
-    (lists_by_place lists
+    (lists_by_index lists
     ∙ same_below (λ k. slice_index_or lists k []) (λ k. at (k + 1)) (length lists) (λ k inside. sym (ap at (add-one k))))
     ∙ sym (first_below at (length lists))
 
@@ -178,7 +178,7 @@ module _ (dropped : DroppedAreTheRuns) (follow : RelaysFollowTheNetwork) (run : 
   sent_by_cycle : (link : ℕ) → link < length run.domain.links →
       flat_map (λ (sents : List Sent). sents) (sends link) ≡ each_below (λ cycle. batch run.domain net.carried link cycle) cycles
   sent_by_cycle link inside =
-      lists_by_place (sends link)
+      lists_by_index (sends link)
       ∙ ap (each_below (batch_at (sends link))) (gone.all link inside)
       ∙ same_below (batch_at (sends link)) (λ cycle. batch run.domain net.carried link cycle) cycles (λ cycle within.
       follow run net sends come link cycle legal few gone inside within)
@@ -205,16 +205,16 @@ module _ (dropped : DroppedAreTheRuns) (follow : RelaysFollowTheNetwork) (run : 
       drops_at traces bridge ≡ filter (is_at_bridge bridge) (drops_of run.domain cycles (length run.offers) policed)
   drops_are bridge inside =
       let d = run.domain in
-      let places = length run.offers in
+      let indices = length run.offers in
       let r = bridge_trace_of bridge inside in
       let t = traced.each bridge r.0 r.1 in
       gathered.drops bridge inside
       ∙ ap (λ (o : Option BridgeTrace). option_map_or (λ (bridge_trace : BridgeTrace). bridge_trace.drops.items) o []) r.1
       ∙ t.drops
-      ∙ same_below t.fresh (λ cycle. drops_in d places policed cycle bridge) cycles (λ cycle within.
+      ∙ same_below t.fresh (λ cycle. drops_in d indices policed cycle bridge) cycles (λ cycle within.
       dropped run net bridge cycle (t.fresh cycle) legal within (t.are_drops cycle within) (t.by_frame cycle within))
-      ∙ sym (of_second (λ (x : Dropped). x.bridge) cycles (length d.bridges) (drops_in d places policed) (λ cycle b x h.
-      sym (ap (λ (y : Dropped). y.bridge) (dropped_at d places policed cycle b x h).is)) bridge inside)
+      ∙ sym (of_second (λ (x : Dropped). x.bridge) cycles (length d.bridges) (drops_in d indices policed) (λ cycle b x h.
+      sym (ap (λ (y : Dropped). y.bridge) (dropped_at d indices policed cycle b x h).is)) bridge inside)
 
   -- so the traces have what the network sends
   traces_of_streams : HaveTheStreams run net traces

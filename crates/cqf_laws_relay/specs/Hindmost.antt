@@ -1,4 +1,4 @@
--- Links that take turns in any order: a link that is least far waits for none.
+-- Links that take turns in any order: the link that has sent the fewest cycles waits for none.
 use Rattle.std.specs.Prelude.{ℕ, ◌≡◌, ◌+◌, ◌<◌, List, true, length}
 use Rattle.cqf_model.specs.declared.topology.Row.{Row}
 use Rattle.cqf_model.specs.Domain.{Domain, bridge_of, enters}
@@ -6,7 +6,7 @@ use Rattle.cqf_model.specs.Table.{table_of}
 use Rattle.cqf_relay.specs.Segments.{Sendings}
 use Rattle.cqf_relay.specs.Leading.{leads}
 
--- a link that has sent cycle 0 waits for none to go on: the links from which a row leads to it are at least as far
+-- a link that has sent cycle 0 waits for no other: the links from which a row leads to it have sent at least as many cycles
 abbrev pub CanGoOn : Domain → List (List Row) → Sendings → ℕ → Type 0
 CanGoOn d tables links l = (cycle m : ℕ) → length (links l) ≡ cycle + 1 → enters d m (bridge_of d l) ≡ true → leads (table_of tables cycle) m l ≡ true →
     cycle < length (links m)

@@ -1,4 +1,4 @@
--- The traces from the bridge traces of all bridges whose links went on separately in a run.
+-- The traces gathered from the bridge traces of a run's bridges, whose links went on separately.
 use Rattle.std.specs.Prelude.{ℕ, ◌≡◌, ◌*◌, ◌<◌, ◌++◌, List, [], Some, true, All, filter, length, map, slice_get}
 use Rattle.std.specs.List.{flat_map}
 use Rattle.std.specs.List.Sorted.{IsNonDecreasingBy, IsPermutation}
@@ -10,7 +10,7 @@ use Rattle.cqf_model.specs.Domain.{Domain, leaves}
 use Rattle.cqf_model.specs.Network.{Network}
 use Rattle.cqf_model.specs.Run.{Run}
 use Rattle.cqf_model.specs.Table.{table_of}
-use Rattle.cqf_model.specs.Traffic.{policed_before}
+use Rattle.cqf_model.specs.Policing.{policed_before}
 use Rattle.cqf_laws_shift.specs.Run.{IsLegalRun}
 use Rattle.cqf_laws_cycle.specs.Gathered.{offered_for}
 use Rattle.cqf_trace.specs.declared.bridge_trace.BridgeTrace.{BridgeTrace}
@@ -19,7 +19,7 @@ use Rattle.cqf_trace.specs.declared.traces.Traces.{Traces}
 use Rattle.cqf_trace.specs.BridgeTraces.{AreGatheredFrom, links_leaving}
 use Rattle.cqf_trace.specs.Traces.{AreTracesOf, background_at, drops_at, first_links, is_at_bridge, links_of, mark_of_sent, mark_of_start, starts_at}
 use Rattle.cqf_relay.specs.Segments.{Sendings}
-use Rattle.cqf_relay.specs.Offering.{dropped_behind}
+use Rattle.cqf_relay.specs.Offering.{dropped_after}
 use Rattle.cqf_relay.specs.Standing.{Come}
 use Rattle.cqf_laws_relay.specs.Following.{HaveGone}
 
@@ -32,7 +32,7 @@ pub record HasTraced (run : Run) (sends : Sendings) (bridge : ℕ) (bridge_trace
   pub fresh : ℕ → List Dropped
   pub drops : bridge_trace.drops.items ≡ each_below fresh (length run.tables)
   pub are_drops : (cycle : ℕ) → cycle < length run.tables → IsPermutation
-      (dropped_behind run.domain bridge cycle (table_of run.tables cycle) [] (offered_for run.domain run.offers bridge cycle)) (fresh cycle)
+      (dropped_after run.domain bridge cycle (table_of run.tables cycle) [] (offered_for run.domain run.offers bridge cycle)) (fresh cycle)
   pub by_frame : (cycle : ℕ) → cycle < length run.tables → IsNonDecreasingBy (λ (x : Dropped). x.frame) (fresh cycle)
 
 -- the same for the bridge traces of all bridges
@@ -57,13 +57,13 @@ pub record HaveTheStreams (run : Run) (net : Network) (traces : Traces) : Type 0
   pub each_bridge : length traces.drops.items ≡ length run.domain.bridges
   pub drops : (bridge : ℕ) → bridge < length run.domain.bridges → drops_at traces bridge ≡ filter (is_at_bridge bridge) (book_of_run run net).drops
 
--- then the traces that are gathered from these bridge traces are such traces
+-- the traces that are gathered from the bridge traces have the streams' frames and the drops
 abbrev pub RelaysKeepTheTraces : Type 0
 RelaysKeepTheTraces = (run : Run) (net : Network) (sends : Sendings) (come : ℕ → Come) (bridge_traces : List BridgeTrace) (traces : Traces) → IsLegalRun run net →
     length run.offers < 16777216 → HaveGone run sends come → HaveTraced run sends bridge_traces → AreGatheredFrom run.domain bridge_traces traces →
     HaveTheStreams run net traces
 
--- and with the background frames that the network starts they are those of its book
+-- traces are extended by the background frames that the network starts; and the law that they are then those of the run's book
 pub record HaveBesides (d : Domain) (net : Network) (before after : Traces) : Type 0 where
   pub links : links_of after.links.items ≡ links_of before.links.items
   pub starts : (link : ℕ) → starts_at after.links.items link ≡ starts_at before.links.items link

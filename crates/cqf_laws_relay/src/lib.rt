@@ -7,8 +7,8 @@
 //! - The offers that it drops are the drops of the run's book ([`dropped_are_the_runs`]).
 //! - If everything has arrived at each bridge, and each link has gone on over all cycles, all have sent what the network sends
 //!   ([`relays_follow_the_network`]).
-//! - The traces of their bridge traces have what the network sends ([`relays_keep_the_traces`]). With its background frames they are those of the run's
-//!   book ([`backed_traces_are_the_books`]).
+//! - The traces gathered from their bridge traces have what the network sends ([`relays_keep_the_traces`]). With its background frames they
+//!   are those of the run's book ([`backed_traces_are_the_books`]).
 //! - The tables of a history may be given to such bridges ([`tables_may_come`]).
 //! - As long as some link has not reached the end of a run, one of these links can go on ([`some_link_can_go_on`]).
 //!
@@ -22,7 +22,7 @@ ghost use Rattle.cqf_laws_relay.specs.Following.{DroppedAreTheRuns, KeptAreCover
 ghost use Rattle.cqf_laws_relay.specs.Hindmost.{SomeLinkCanGoOn};
 ghost use Rattle.cqf_laws_relay.specs.Traced.{BackedTracesAreTheBooks, RelaysKeepTheTraces};
 
-/// States that the offers of a cycle that a bridge keeps, judging one after the other by what is used of their rows, are those that the
+/// Proves that the offers of a cycle that a bridge keeps, judging one after the other by what is used of their rows, are those that the
 /// run's rows cover, each with its row.
 pub fn kept_are_covered()
     ensures { KeptAreCovered }
@@ -31,7 +31,7 @@ pub fn kept_are_covered()
     cqf_laws_instants::what_a_cycle_queues();
 }
 
-/// States that the offers that it drops, by frame, are the drops of the run's book at the bridge in the cycle.
+/// Proves that the offers that such a bridge drops in a cycle, by frame, are the drops of the run's book at the bridge in the cycle.
 pub fn dropped_are_the_runs()
     ensures { DroppedAreTheRuns }
 {
@@ -40,21 +40,22 @@ pub fn dropped_are_the_runs()
     cqf_laws_shift::gates_mean_the_shift();
 }
 
-/// States that each link has sent what the network sends (IEEE 802.1Q, Annex T), if everything of a run has arrived at each bridge, and
-/// each link has gone on over all cycles by what arrived at its bridge, in any order of turns. The run has fewer than 16,777,216 offers.
+/// Proves that each link has sent what the network sends (IEEE 802.1Q, Annex T). Everything of a run has arrived at each bridge, and each
+/// link has gone on over all cycles by what arrived at its bridge. It doesn't matter in which order the links took turns. The run has fewer
+/// than 16,777,216 offers.
 pub fn relays_follow_the_network()
     ensures { RelaysFollowTheNetwork }
 {
     cqf_laws_cycle::cycle_brings_its_batches();
     cqf_laws_shift::gates_mean_the_shift();
-    cqf_laws_instants::lane_is_queued();
+    cqf_laws_instants::gathered_is_queued();
     cqf_laws_instants::batch_is_due();
     cqf_laws_instants::queue_has_room();
     kept_are_covered();
 }
 
-/// States that the traces gathered from the bridge traces of bridges whose links have gone on in this way have the streams' frames that the network
-/// sends, and the drops of its book. The run has fewer than 16,777,216 offers.
+/// Proves that the traces gathered from the bridge traces of bridges whose links have gone on in this way have the streams' frames that the
+/// network sends, and the drops of its book. The run has fewer than 16,777,216 offers.
 pub fn relays_keep_the_traces()
     ensures { RelaysKeepTheTraces }
 {
@@ -62,12 +63,12 @@ pub fn relays_keep_the_traces()
     relays_follow_the_network();
 }
 
-/// States that with the background frames that the network starts such traces are those of its book.
+/// Proves that such traces, with the background frames that the network starts appended at each link, are those of its book.
 pub fn backed_traces_are_the_books()
     ensures { BackedTracesAreTheBooks }
 {}
 
-/// States that the tables of a legal history have their new rows by number, after those of all earlier tables.
+/// Proves that the tables of a legal history have their new rows by number, after those of all earlier tables.
 pub fn tables_may_come()
     ensures { TablesMayCome }
 {
@@ -76,7 +77,7 @@ pub fn tables_may_come()
     cqf_laws_coverage::rows_follow();
 }
 
-/// States that as long as some link has not reached the end of a run, one of these links can go on: it waits for no other.
+/// Proves that as long as some link has not reached the end of a run, one of these links can go on: it waits for no other.
 pub fn some_link_can_go_on()
     ensures { SomeLinkCanGoOn }
 {}

@@ -9,7 +9,7 @@ use Rattle.cqf_model.specs.declared.frames.Started.{Started}
 use Rattle.cqf_model.specs.Book.{batch, started, starts_in, starts_of}
 use Rattle.cqf_model.specs.Domain.{cycle_of}
 use Rattle.cqf_model.specs.Run.{Run, end_of_run}
-use Rattle.cqf_model.specs.Traffic.{Carried}
+use Rattle.cqf_model.specs.Policing.{Carried}
 use Rattle.cqf_laws_shift.specs.Alone.{IsRunAs}
 use Rattle.cqf_laws_shift.proofs.Came.{queued}
 use Rattle.cqf_laws_shift.proofs.CycleLaws.{CycleLaws}

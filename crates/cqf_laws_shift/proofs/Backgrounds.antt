@@ -4,7 +4,7 @@ use Rattle.std.proofs.lemmas.List.{length-map}
 use Rattle.std.proofs.lemmas.List.Elements.{Contains-get_or}
 use Rattle.cqf_model.specs.Domain.{Domain, bridge_of}
 use Rattle.cqf_model.specs.Run.{Run, end_of_run}
-use Rattle.cqf_model.specs.Traffic.{Carried, policed_before}
+use Rattle.cqf_model.specs.Policing.{Carried, policed_before}
 use Rattle.cqf_model.specs.Network.{IsLegalNetwork, Network, QueuedFrame, Sends, backed_at, backed_by, backed_of, comes_before, comes_in, compiled_lists}
 use Rattle.cqf_model.specs.Network.{no_frame, queued_before, queued_in}
 use Rattle.cqf_model.specs.Book.{drops_of, starts_of}
@@ -38,10 +38,10 @@ module _ (run : Run) (carried : Carried) (some : 0 < run.domain.cycle_time) wher
       ∙ queue_by_cycles run carried l cycles some
 
   -- no transmission of a queued frame is a background frame's
-  no_background : (l : ℕ) (end place t : ℕ) → place < length (queued_before run carried l end) → backed_of (queued_before run carried l end) (place, t) ≡ []
-  no_background l end place t inside =
+  no_background : (l : ℕ) (end index t : ℕ) → index < length (queued_before run carried l end) → backed_of (queued_before run carried l end) (index, t) ≡ []
+  no_background l end index t inside =
       let queue = queued_before run carried l end in
-      let from = queued_from d l (policed_before run carried (bridge_of d l) end) (get_or queue place no_frame) (Contains-get_or queue place no_frame inside) in
+      let from = queued_from d l (policed_before run carried (bridge_of d l) end) (get_or queue index no_frame) (Contains-get_or queue index no_frame inside) in
       subst (λ (z : QueuedFrame). backed_by t z.arrival z.stream ≡ []) from.is refl
 
   -- so a legal run of streams' frames alone is a legal network of the run without background frames

@@ -1,4 +1,4 @@
--- What arrives at a bridge, regardless of what its links carry: by which way, in which order, and each offer once.
+-- What arrives at a bridge, regardless of what its links carry: by which link, in which order, and each offer once.
 use Rattle.std.proofs.Common.{◌≡◌, ℕ, zero, suc, ◌+◌, ◌<◌, ◌≤◌, ◌⊎◌, ◌∷◌, [], List, Bool, true, false, inl, inr, sym, ap, ap₂, ◌∙◌, subst, arith, refl}
 use Rattle.std.proofs.Common.{AllPairs, Contains, map, filter, sum_by, length, get_or, eq-eqb, eqb-true, ◌==◌, ◌&&◌, if◌then◌else◌, le_trans, nat_lt}
 use Rattle.std.specs.List.{enumerate_from}
@@ -12,8 +12,8 @@ use Rattle.cqf_model.specs.declared.frames.Sent.{Sent}
 use Rattle.cqf_model.specs.Domain.{Domain, enters}
 use Rattle.cqf_lists.specs.Lists.{each_below}
 use Rattle.cqf_model.specs.Run.{Run}
-use Rattle.cqf_model.specs.Traffic.{Way, AtEdge, Relayed, Carried, Received, Policed, is_offered_at, numbered, offer_received, offered_at, policed_before}
-use Rattle.cqf_model.specs.Traffic.{received_at, received_before, relayed_at, sent_received, whole_at}
+use Rattle.cqf_model.specs.Policing.{Ingress, AtEdge, Relayed, Carried, Received, Policed, is_offered_at, numbered, offer_received, offered_at, policed_before}
+use Rattle.cqf_model.specs.Policing.{received_at, received_before, relayed_at, sent_received, whole_at}
 use Rattle.cqf_model.specs.Network.{QueuedFrame, queued_before}
 use Rattle.cqf_model.proofs.Coming.{received_when}
 use Rattle.cqf_lists.proofs.Members.{contains_map, contains_from_map, contains_filter, contains_from_filter, contains_here, contains_later, contains_cases}
@@ -48,15 +48,15 @@ numbered_member offers x c =
 
 -- numbers ascend
 pub numbers_ascend : (offers : List Offer) → AllPairs (λ (a b : Offered). a.frame < b.frame) (numbered offers)
-numbers_ascend offers i j e l inside = pairs_map (λ (a b : Offered). a.frame < b.frame) the_offered (enumerate_from 1 offers) places i j e l inside
+numbers_ascend offers i j e l inside = pairs_map (λ (a b : Offered). a.frame < b.frame) the_offered (enumerate_from 1 offers) indices i j e l inside
   where
     -- an offer with its number
     the_offered : ℕ × Offer → Offered
     the_offered x = record { frame = x.0; offer = x.1 }
 
     -- the positions ascend
-    places : AllPairs (λ (a b : ℕ × Offer). a.0 < b.0) (enumerate_from 1 offers)
-    places i j e l inside =
+    indices : AllPairs (λ (a b : ℕ × Offer). a.0 < b.0) (enumerate_from 1 offers)
+    indices i j e l inside =
         let j_in : j < length offers = omega (arith, inside, length-enumerate_from 1 offers) in
         let at_i : (get_or (enumerate_from 1 offers) i e).0 ≡ 1 + i =
         ap (λ (z : ℕ × Offer). z.0) (get_or-enumerate_from 1 offers i e (omega (arith, l, j_in))) in
@@ -70,7 +70,7 @@ one_number offers x y cx cy same =
     (λ l. absurd (omega (arith, l, same)))
 
 -- whether an offered frame has this number, as 1 or 0
-abbrev pub offered_counts : ℕ → Way → ℕ → ℕ
+abbrev pub offered_counts : ℕ → Ingress → ℕ → ℕ
 offered_counts frame (AtEdge name) number = if number == frame then 1 else 0
 offered_counts frame (Relayed m stream) number = 0
 
@@ -169,7 +169,7 @@ module _ (run : Run) (carried : Carried) (end : ℕ) where
       (λ s t a b less l ca cb. omega (arith, received_when run carried bridge s a ca, received_when run carried bridge t b cb, less))
 
   -- an offer occurs once among what arrives at a bridge
-  pub offers_single : (bridge frame : ℕ) → sum_by (λ (x : Received). offered_counts frame x.way x.frame) (came bridge) ≤ 1
+  pub offers_single : (bridge frame : ℕ) → sum_by (λ (x : Received). offered_counts frame x.ingress x.frame) (came bridge) ≤ 1
   offers_single bridge frame =
       le_trans (sum_le_below f g (received_at run carried bridge) (λ t. filter (λ (x : Offered). x.offer.at.0 == t) placed) end here_at)
       (subst (λ z. z ≤ 1) (sym (sum_by_keys g (λ (x : Offered). x.offer.at.0) placed end))
@@ -177,7 +177,7 @@ module _ (run : Run) (carried : Carried) (end : ℕ) where
       (sum_at_most_one (λ (x : Offered). x.frame == frame) 1 placed apart)))
     where
       f : Received → ℕ
-      f x = offered_counts frame x.way x.frame
+      f x = offered_counts frame x.ingress x.frame
 
       g : Offered → ℕ
       g x = if x.frame == frame then 1 else 0

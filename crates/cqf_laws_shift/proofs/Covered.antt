@@ -1,6 +1,6 @@
 -- What the gates of a bridge decide on an offer is what the reservations decide, by only the offers before it.
-use Rattle.cqf_model.specs.Table.{depth_behind, reserved_in}
-use Rattle.cqf_model.specs.Traffic.{came_by}
+use Rattle.cqf_model.specs.Table.{hop_number_after, reserved_in}
+use Rattle.cqf_model.specs.Policing.{came_by}
 use Rattle.std.proofs.Common.{◌≡◌, ℕ, ◌+◌, ◌<◌, ◌∷◌, [], ◌++◌, List, Bool, true, false, Some, None, inl, inr, sym, ap, ap₂, ◌∙◌, subst, arith, refl, Contains}
 use Rattle.std.proofs.Common.{filter, map, fold, eqb-true, eq-eqb, ◌==◌, ◌&&◌, nat_le, if◌then◌else◌, append_assoc, append-nil}
 use Rattle.std.proofs.lemmas.Bool.{cases_Bool, cond-false, and_parts, and_from, false≢true}
@@ -8,17 +8,18 @@ use Rattle.std.proofs.lemmas.List.Folds.{fold-map}
 use Rattle.std.proofs.lemmas.List.Sums.{sum_by_push}
 use Rattle.cqf_model.proofs.Texts.{is_text_same}
 use Rattle.cqf_model.specs.declared.frames.Offered.{Offered}
+use Rattle.cqf_units.specs.Timing.{counted_of}
 use Rattle.cqf_model.specs.declared.topology.Row.{Row}
 use Rattle.cqf_model.specs.Domain.{Domain, cycle_of, is_text}
 use Rattle.cqf_model.specs.Table.{AreOrderly, begins_at, is_live, row_named, table_of}
-use Rattle.cqf_model.specs.Traffic.{Way, AtEdge, Relayed, Received, Policed, Queued, is_queued_of, offer_received, police, police_all, verdict_by, within_gate}
+use Rattle.cqf_model.specs.Policing.{Ingress, AtEdge, Relayed, Received, Policed, Queued, is_queued_of, offer_received, police, police_all, verdict_by, within_gate}
 use Rattle.cqf_model.specs.Shift.{claims, offer_cycle, take_octets, taken_by}
 use Rattle.cqf_laws_shift.specs.Edge.{GateIsReservation, octets_before}
 use Rattle.cqf_lists.proofs.Members.{contains_from_filter, find_member, find_some}
 use Rattle.cqf_lists.proofs.EachBelow.{fold_filter, fold_same}
 use Rattle.cqf_lists.proofs.Pairs.{one_of_pairs}
 use Rattle.cqf_laws_shift.proofs.Policing.{taken}
-use Rattle.cqf_laws_shift.proofs.Trees.{one_beginning, one_way_at, same_goes_on}
+use Rattle.cqf_laws_shift.proofs.Trees.{one_beginning, one_ingress_at, same_goes_on}
 use Rattle.cqf_laws_shift.proofs.Verdicts.{IsQueuedBy, QueuedAtEdge, edge_passes, queued_of, queued_row, queued_says}
 
 -- two tests that imply each other are equal
@@ -53,12 +54,12 @@ found_by_name d tables orderly c row name inside named =
     (λ apart. apart names) (λ apart. apart (sym names)))
 
 -- whether the frame was offered at the edge
-abbrev pub is_offered : Way → Bool
+abbrev pub is_offered : Ingress → Bool
 is_offered (AtEdge name) = true
 is_offered (Relayed m number) = false
 
 -- what is taken of a row's reservation after a frame that arrives at a bridge
-abbrev take_by : Domain → ℕ → Row → ℕ → ℕ → ℕ → ℕ → Way → ℕ
+abbrev take_by : Domain → ℕ → Row → ℕ → ℕ → ℕ → ℕ → Ingress → ℕ
 take_by d bridge row c so_far at octets (AtEdge name) =
     if ((cycle_of d at == c) && is_text row.name name && begins_at d row bridge) && nat_le (so_far + octets) (reserved_in row 0 c) then so_far + octets else so_far
 take_by d bridge row c so_far at octets (Relayed m number) = so_far
@@ -73,8 +74,8 @@ module _ (reserves : GateIsReservation) (d : Domain) (some : 0 < d.cycle_time) (
   -- one more frame takes of the row what it takes of the reservation
   police_takes : (earlier : List Policed) (x : Received) →
       octets_before d row.no c (earlier ++ police d tables bridge earlier x ∷ []) ≡ take_by d bridge row c
-      (octets_before d row.no c earlier) x.at x.octets x.way
-  police_takes earlier x = go x.way refl
+      (octets_before d row.no c earlier) x.at (counted_of d.overhead x.octets) x.ingress
+  police_takes earlier x = go x.ingress refl
     where
       so_far : ℕ
       so_far = octets_before d row.no c earlier
@@ -89,8 +90,8 @@ module _ (reserves : GateIsReservation) (d : Domain) (some : 0 < d.cycle_time) (
       passes r = within_gate d earlier r x
 
       -- what the frame's verdict is based on
-      says : (q : Row) → p.verdict ≡ Queued q → IsQueuedBy d (table_of tables cx) bridge cx x.way q × (passes q ≡ true)
-      says q e = queued_says d (table_of tables cx) bridge cx passes x.way q e
+      says : (q : Row) → p.verdict ≡ Queued q → IsQueuedBy d (table_of tables cx) bridge cx x.ingress q × (passes q ≡ true)
+      says q e = queued_says d (table_of tables cx) bridge cx passes x.ingress q e
 
       grown : (a b : Bool) (t o : ℕ) → a ≡ b → t + (if a then o else 0) ≡ (if b then t + o else t)
       grown true true t o e = refl
@@ -101,117 +102,117 @@ module _ (reserves : GateIsReservation) (d : Domain) (some : 0 < d.cycle_time) (
       pushed : octets_before d row.no c (earlier ++ p ∷ []) ≡ so_far + taken d row.no c p
       pushed = sum_by_push (taken d row.no c) earlier p
 
-      fits : (name : List ℕ) → x.way ≡ AtEdge name → (q : Row) → q ≡ row → cx ≡ c → passes q ≡ nat_le (so_far + x.octets) (reserved_in row 0 c)
-      fits name way q same cycle =
+      fits : (name : List ℕ) → x.ingress ≡ AtEdge name → (q : Row) → q ≡ row → cx ≡ c → passes q ≡ nat_le (so_far + counted_of d.overhead x.octets) (reserved_in row 0 c)
+      fits name ingress q same cycle =
           reserves d earlier q x some
-          ∙ ap (λ (w : Way). nat_le (octets_before d q.no cx earlier + x.octets) (reserved_in q (depth_behind q (came_by w)) cx)) way
-          ∙ ap₂ (λ (z : Row) k. nat_le (octets_before d z.no k earlier + x.octets) (reserved_in z 0 k)) same cycle
+          ∙ ap (λ (w : Ingress). nat_le (octets_before d q.no cx earlier + counted_of d.overhead x.octets) (reserved_in q (hop_number_after q (came_by w)) cx)) ingress
+          ∙ ap₂ (λ (z : Row) k. nat_le (octets_before d z.no k earlier + counted_of d.overhead x.octets) (reserved_in z 0 k)) same cycle
 
-      relayed : (m number : ℕ) → x.way ≡ Relayed m number → (is_queued_of row.no p.verdict && (cx == c)) ≡ false
-      relayed m number way = elim (cases_Bool (is_queued_of row.no p.verdict && (cx == c))) [
+      relayed : (m number : ℕ) → x.ingress ≡ Relayed m number → (is_queued_of row.no p.verdict && (cx == c)) ≡ false
+      relayed m number ingress = elim (cases_Bool (is_queued_of row.no p.verdict && (cx == c))) [
         | inr f ↦ f
         | inl t ↦
             let q = queued_of row.no p.verdict (and_parts (is_queued_of row.no p.verdict) (cx == c) t).0 in
             let by : IsQueuedBy d (table_of tables cx) bridge cx (Relayed m number) q.0 =
-            subst (λ z. IsQueuedBy d (table_of tables cx) bridge cx z q.0) way (says q.0 q.1).0 in
+            subst (λ z. IsQueuedBy d (table_of tables cx) bridge cx z q.0) ingress (says q.0 q.1).0 in
             let member = queued_row d (table_of tables cx) bridge cx (Relayed m number) q.0 by in
             let tree = (orderly.one_stream cx c q.0 row member inside q.2).tree in
-            absurd (two_ways m (one_way_at d row (orderly.trees c row inside) None (Some m) bridge here (same_goes_on d q.0 row (Some m) bridge tree by.here)))
+            absurd (two_ways m (one_ingress_at d row (orderly.trees c row inside) None (Some m) bridge here (same_goes_on d q.0 row (Some m) bridge tree by.here)))
       ]
         where
           two_ways : (m : ℕ) → None ≡ Some m → ⊥
           two_ways m e = cc
 
-      offered : (name : List ℕ) → x.way ≡ AtEdge name →
+      offered : (name : List ℕ) → x.ingress ≡ AtEdge name →
           (is_queued_of row.no p.verdict && (cx == c)) ≡ (((cx == c) && is_text row.name name && begins_at d row bridge) && nat_le
-          (so_far + x.octets) (reserved_in row 0 c))
-      offered name way = same_tests (is_queued_of row.no p.verdict && (cx == c))
-          (((cx == c) && is_text row.name name && begins_at d row bridge) && nat_le (so_far + x.octets) (reserved_in row 0 c)) to from
+          (so_far + counted_of d.overhead x.octets) (reserved_in row 0 c))
+      offered name ingress = same_tests (is_queued_of row.no p.verdict && (cx == c))
+          (((cx == c) && is_text row.name name && begins_at d row bridge) && nat_le (so_far + counted_of d.overhead x.octets) (reserved_in row 0 c)) to from
         where
           to : (is_queued_of row.no p.verdict && (cx == c)) ≡ true →
-              (((cx == c) && is_text row.name name && begins_at d row bridge) && nat_le (so_far + x.octets) (reserved_in row 0 c)) ≡ true
+              (((cx == c) && is_text row.name name && begins_at d row bridge) && nat_le (so_far + counted_of d.overhead x.octets) (reserved_in row 0 c)) ≡ true
           to t =
               let both = and_parts (is_queued_of row.no p.verdict) (cx == c) t in
               let cycle = eqb-true cx c both.1 in
               let q = queued_of row.no p.verdict both.0 in
               let s = says q.0 q.1 in
-              let by : IsQueuedBy d (table_of tables cx) bridge cx (AtEdge name) q.0 = subst (λ z. IsQueuedBy d (table_of tables cx) bridge cx z q.0) way s.0 in
+              let by : IsQueuedBy d (table_of tables cx) bridge cx (AtEdge name) q.0 = subst (λ z. IsQueuedBy d (table_of tables cx) bridge cx z q.0) ingress s.0 in
               let found = find_member (λ (r : Row). is_text r.name name) (table_of tables cx) q.0 by.is in
               let same = one_row q.0 (subst (λ z. Contains (table_of tables z) q.0) cycle found.0) q.2 in
-              and_from ((cx == c) && is_text row.name name && begins_at d row bridge) (nat_le (so_far + x.octets) (reserved_in row 0 c))
+              and_from ((cx == c) && is_text row.name name && begins_at d row bridge) (nat_le (so_far + counted_of d.overhead x.octets) (reserved_in row 0 c))
               (three_and (cx == c) (is_text row.name name) (begins_at d row bridge) both.1 (ap (λ (z : Row). is_text z.name name) (sym same) ∙ found.1) here)
-              (sym (fits name way q.0 same cycle) ∙ s.1)
+              (sym (fits name ingress q.0 same cycle) ∙ s.1)
 
-          from : (((cx == c) && is_text row.name name && begins_at d row bridge) && nat_le (so_far + x.octets) (reserved_in row 0 c)) ≡ true →
+          from : (((cx == c) && is_text row.name name && begins_at d row bridge) && nat_le (so_far + counted_of d.overhead x.octets) (reserved_in row 0 c)) ≡ true →
               (is_queued_of row.no p.verdict && (cx == c)) ≡ true
           from t =
-              let both = and_parts ((cx == c) && is_text row.name name && begins_at d row bridge) (nat_le (so_far + x.octets) (reserved_in row 0 c)) t in
+              let both = and_parts ((cx == c) && is_text row.name name && begins_at d row bridge) (nat_le (so_far + counted_of d.overhead x.octets) (reserved_in row 0 c)) t in
               let three = and_three (cx == c) (is_text row.name name) (begins_at d row bridge) both.0 in
               let cycle = eqb-true cx c three.0 in
               let is : row_named (table_of tables cx) name ≡ Some row = ap (λ z. row_named (table_of tables z) name) cycle
               ∙ found_by_name d tables orderly c row name inside three.1 in
               let q : QueuedAtEdge d bridge cx (row_named (table_of tables cx) name) row =
               record { is = is; live = ap (is_live row) cycle ∙ live; here = here } in
-              let verdict : p.verdict ≡ Queued row = ap (verdict_by d (table_of tables cx) bridge cx passes) way
-              ∙ edge_passes d bridge cx passes (row_named (table_of tables cx) name) row q (fits name way row refl cycle ∙ both.1) in
+              let verdict : p.verdict ≡ Queued row = ap (verdict_by d (table_of tables cx) bridge cx passes) ingress
+              ∙ edge_passes d bridge cx passes (row_named (table_of tables cx) name) row q (fits name ingress row refl cycle ∙ both.1) in
               and_from (is_queued_of row.no p.verdict) (cx == c) (ap (is_queued_of row.no) verdict ∙ eq-eqb row.no row.no refl) three.0
 
-      go : (way : Way) → x.way ≡ way → octets_before d row.no c (earlier ++ p ∷ []) ≡ take_by d bridge row c so_far x.at x.octets way
-      go (AtEdge name) way = pushed ∙ grown (is_queued_of row.no p.verdict && (cx == c)) _ so_far x.octets (offered name way)
-      go (Relayed m number) way = pushed ∙ grown (is_queued_of row.no p.verdict && (cx == c)) false so_far x.octets (relayed m number way)
+      go : (ingress : Ingress) → x.ingress ≡ ingress → octets_before d row.no c (earlier ++ p ∷ []) ≡ take_by d bridge row c so_far x.at (counted_of d.overhead x.octets) ingress
+      go (AtEdge name) ingress = pushed ∙ grown (is_queued_of row.no p.verdict && (cx == c)) _ so_far (counted_of d.overhead x.octets) (offered name ingress)
+      go (Relayed m number) ingress = pushed ∙ grown (is_queued_of row.no p.verdict && (cx == c)) false so_far (counted_of d.overhead x.octets) (relayed m number ingress)
 
   -- so all that arrives takes what the reservation gives, one frame after the other
   all_takes : (earlier : List Policed) (xs : List Received) →
       octets_before d row.no c (earlier ++ police_all d tables bridge earlier xs) ≡ fold
-      (λ so_far (x : Received). take_by d bridge row c so_far x.at x.octets x.way) (octets_before d row.no c earlier) xs
+      (λ so_far (x : Received). take_by d bridge row c so_far x.at (counted_of d.overhead x.octets) x.ingress) (octets_before d row.no c earlier) xs
   all_takes earlier [] = ap (octets_before d row.no c) (append-nil earlier)
   all_takes earlier (x ∷ xs) =
       let p = police d tables bridge earlier x in
       let more = earlier ++ p ∷ [] in
       ap (octets_before d row.no c) (sym (append_assoc earlier (p ∷ []) (police_all d tables bridge more xs)))
       ∙ all_takes more xs
-      ∙ ap (λ z. fold (λ so_far (x : Received). take_by d bridge row c so_far x.at x.octets x.way) z xs) (police_takes earlier x)
+      ∙ ap (λ z. fold (λ so_far (x : Received). take_by d bridge row c so_far x.at (counted_of d.overhead x.octets) x.ingress) z xs) (police_takes earlier x)
 
   -- and among the offers of the whole domain, only those at this bridge count
   taken_here : (offers : List Offered) →
-      taken_by d row c offers ≡ fold (λ so_far (y : Offered). take_by d bridge row c so_far y.offer.at.0 y.offer.octets (AtEdge y.offer.stream)) 0
+      taken_by d row c offers ≡ fold (λ so_far (y : Offered). take_by d bridge row c so_far y.offer.at.0 (counted_of d.overhead y.offer.octets) (AtEdge y.offer.stream)) 0
       (filter (λ (y : Offered). y.offer.bridge == bridge) offers)
   taken_here offers =
       fold_filter (take_octets d row c) at_bridge 0 offers
-      (λ so_far y m other. cond-false (claims d row c y && nat_le (so_far + y.offer.octets) (reserved_in row 0 c)) (so_far + y.offer.octets) so_far
+      (λ so_far y m other. cond-false (claims d row c y && nat_le (so_far + counted_of d.overhead y.offer.octets) (reserved_in row 0 c)) (so_far + counted_of d.overhead y.offer.octets) so_far
       (none so_far y other))
-      ∙ fold_same (take_octets d row c) (λ so_far (y : Offered). take_by d bridge row c so_far y.offer.at.0 y.offer.octets (AtEdge y.offer.stream)) 0
+      ∙ fold_same (take_octets d row c) (λ so_far (y : Offered). take_by d bridge row c so_far y.offer.at.0 (counted_of d.overhead y.offer.octets) (AtEdge y.offer.stream)) 0
       (filter at_bridge offers)
       (λ so_far y m. ap (λ z. if ((cycle_of d y.offer.at.0 == c) && is_text row.name y.offer.stream && begins_at d row z) && nat_le
-      (so_far + y.offer.octets) (reserved_in row 0 c) then so_far + y.offer.octets else so_far)
+      (so_far + counted_of d.overhead y.offer.octets) (reserved_in row 0 c) then so_far + counted_of d.overhead y.offer.octets else so_far)
       (eqb-true y.offer.bridge bridge (contains_from_filter at_bridge offers y m).1))
     where
       at_bridge : Offered → Bool
       at_bridge y = y.offer.bridge == bridge
 
-      none : (so_far : ℕ) (y : Offered) → at_bridge y ≡ false → (claims d row c y && nat_le (so_far + y.offer.octets) (reserved_in row 0 c)) ≡ false
-      none so_far y other = elim (cases_Bool (claims d row c y && nat_le (so_far + y.offer.octets) (reserved_in row 0 c))) [
+      none : (so_far : ℕ) (y : Offered) → at_bridge y ≡ false → (claims d row c y && nat_le (so_far + counted_of d.overhead y.offer.octets) (reserved_in row 0 c)) ≡ false
+      none so_far y other = elim (cases_Bool (claims d row c y && nat_le (so_far + counted_of d.overhead y.offer.octets) (reserved_in row 0 c))) [
         | inr f ↦ f
         | inl t ↦
             let there = (and_three (offer_cycle d y == c) (is_text row.name y.offer.stream) (begins_at d row y.offer.bridge)
-            (and_parts (claims d row c y) (nat_le (so_far + y.offer.octets) (reserved_in row 0 c)) t).0).2 in
+            (and_parts (claims d row c y) (nat_le (so_far + counted_of d.overhead y.offer.octets) (reserved_in row 0 c)) t).0).2 in
             absurd (false≢true (sym other ∙ eq-eqb y.offer.bridge bridge (one_beginning d row (orderly.trees c row inside) y.offer.bridge bridge there here)))
       ]
 
   -- so if the offers among some frames are these offers at this bridge, the row's octets are what these offers take
   pub octets_are_taken : (before : List Received) (offers : List Offered) →
-      filter (λ (x : Received). is_offered x.way) before ≡ map offer_received (filter (λ (y : Offered). y.offer.bridge == bridge) offers) →
+      filter (λ (x : Received). is_offered x.ingress) before ≡ map offer_received (filter (λ (y : Offered). y.offer.bridge == bridge) offers) →
       octets_before d row.no c (police_all d tables bridge [] before) ≡ taken_by d row c offers
   octets_are_taken before offers same =
       all_takes [] before
-      ∙ fold_filter step (λ (x : Received). is_offered x.way) 0 before (λ so_far x m relayed. idle so_far x.at x.octets x.way relayed)
+      ∙ fold_filter step (λ (x : Received). is_offered x.ingress) 0 before (λ so_far x m relayed. idle so_far x.at (counted_of d.overhead x.octets) x.ingress relayed)
       ∙ ap (fold step 0) same
       ∙ fold-map step offer_received 0 (filter (λ (y : Offered). y.offer.bridge == bridge) offers)
       ∙ sym (taken_here offers)
     where
       step : ℕ → Received → ℕ
-      step so_far x = take_by d bridge row c so_far x.at x.octets x.way
+      step so_far x = take_by d bridge row c so_far x.at (counted_of d.overhead x.octets) x.ingress
 
-      idle : (so_far at octets : ℕ) (way : Way) → is_offered way ≡ false → take_by d bridge row c so_far at octets way ≡ so_far
+      idle : (so_far at octets : ℕ) (ingress : Ingress) → is_offered ingress ≡ false → take_by d bridge row c so_far at octets ingress ≡ so_far
       idle so_far at octets (AtEdge name) e = absurd (cc)
       idle so_far at octets (Relayed m number) e = refl

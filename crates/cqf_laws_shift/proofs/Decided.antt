@@ -10,15 +10,16 @@ use Rattle.cqf_model.specs.declared.frames.Offer.{Offer}
 use Rattle.cqf_model.specs.declared.frames.Offered.{Offered}
 use Rattle.cqf_model.specs.declared.frames.Reason.{Reason}
 use Rattle.cqf_model.specs.declared.frames.Reason.TheVariants.{Unknown, Withdrawn, OtherBridge, Octets}
+use Rattle.cqf_units.specs.Timing.{counted_of}
 use Rattle.cqf_model.specs.declared.topology.Row.{Row}
 use Rattle.cqf_model.specs.Domain.{Domain, enters, is_text}
 use Rattle.cqf_lists.specs.Lists.{each_below}
 use Rattle.cqf_model.specs.Network.{IsLoss}
 use Rattle.cqf_model.specs.Run.{Run}
 use Rattle.cqf_model.specs.Table.{AreOrderly, begins_at, is_live, table_of}
-use Rattle.cqf_model.specs.Traffic.{Way, AtEdge, Relayed, Carried, Received, Policed, Verdict, Queued, DroppedFor, LacksRow, ExceedsGate, edge_verdict}
-use Rattle.cqf_model.specs.Traffic.{is_offered_at, numbered, offer_received, offered_at, police, police_all, received_at, received_before, relayed_at}
-use Rattle.cqf_model.specs.Traffic.{sent_received, whole_at, within_gate}
+use Rattle.cqf_model.specs.Policing.{Ingress, AtEdge, Relayed, Carried, Received, Policed, Verdict, Queued, DroppedFor, LacksRow, ExceedsGate, edge_verdict}
+use Rattle.cqf_model.specs.Policing.{is_offered_at, numbered, offer_received, offered_at, police, police_all, received_at, received_before, relayed_at}
+use Rattle.cqf_model.specs.Policing.{sent_received, whole_at, within_gate}
 use Rattle.cqf_model.specs.Shift.{IsCovered, IsReason, IsUncovered, asked_with, offer_cycle, offers_at, offers_before, row_for}
 use Rattle.cqf_model.specs.Promise.{IsDecided}
 use Rattle.cqf_model.proofs.Policing.{police_more}
@@ -34,7 +35,7 @@ use Rattle.cqf_laws_shift.proofs.Verdicts.{edge_no_loss, edge_passes, edge_queue
 
 -- whether a frame was offered, not brought by a link
 abbrev keep : Received → Bool
-keep x = is_offered x.way
+keep x = is_offered x.ingress
 
 -- no link brings an offer
 no_relayed : (d : Domain) (carried : Carried) (bridge t n : ℕ) → filter keep (each_below (relayed_at d carried bridge t) n) ≡ []
@@ -102,15 +103,15 @@ module _ (offers : List Offer) (x : Offered) where
       ∙ ap₂ (λ a b. a ++ b)
       (filter_each smaller (filter at_instant before)
       (λ y c. lt-ltb y.frame x.frame (ascending y x (contains_from_filter at_instant before y c).0 (contains_here x after))))
-      (filter_none smaller (filter at_instant (x ∷ after)) (λ y c. le-ltb y.frame x.frame (behind y (contains_from_filter at_instant (x ∷ after) y c).0)))
+      (filter_none smaller (filter at_instant (x ∷ after)) (λ y c. le-ltb y.frame x.frame (following y (contains_from_filter at_instant (x ∷ after) y c).0)))
       ∙ append-nil (filter at_instant before)
     where
       ascending : (a b : Offered) → Contains before a → Contains (x ∷ after) b → a.frame < b.frame
       ascending a b = pairs_across (λ (a b : Offered). a.frame < b.frame) before (x ∷ after) a b
           (subst (λ z. AllPairs (λ (a b : Offered). a.frame < b.frame) z) parts (numbers_ascend offers))
 
-      behind : (y : Offered) → Contains (x ∷ after) y → x.frame ≤ y.frame
-      behind y c = elim (contains_cases x after y c) [
+      following : (y : Offered) → Contains (x ∷ after) y → x.frame ≤ y.frame
+      following y c = elim (contains_cases x after y c) [
         | inl e ↦ omega (arith, ap (λ (z : Offered). z.frame) e)
         | inr h ↦
             let less : x.frame < y.frame =
@@ -140,16 +141,16 @@ module _ (offers : List Offer) (x : Offered) where
           ∙ ap (map offer_received) (filter_twice at_bridge at_instant before)
 
 -- an offer arrives after exactly the offers before it at its bridge, besides relayed frames
-pub record ComesBehind (run : Run) (carried : Carried) (end : ℕ) (x : Offered) : Type 0 where
+pub record ComesAfter (run : Run) (carried : Carried) (end : ℕ) (x : Offered) : Type 0 where
   pub before : List Received
   pub after : List Received
   pub parts : received_before run carried x.offer.bridge end ≡ before ++ (offer_received x ∷ after)
   pub offers : filter keep before ≡ map offer_received (filter (λ (y : Offered). y.offer.bridge == x.offer.bridge) (offers_before run.offers x))
 
 -- this holds for each offer before the end
-pub comes_behind : (run : Run) (carried : Carried) (end : ℕ) (x : Offered) → Contains (numbered run.offers) x → x.offer.at.0 < end →
-    ComesBehind run carried end x
-comes_behind run carried end x inside early = record {
+pub comes_after : (run : Run) (carried : Carried) (end : ℕ) (x : Offered) → Contains (numbered run.offers) x → x.offer.at.0 < end →
+    ComesAfter run carried end x
+comes_after run carried end x inside early = record {
   before = (each_below f t ++ relayed) ++ map offer_received (filter together first);
   after = map offer_received (filter together second) ++ rest.0;
   parts = rest.1 ∙ ap (λ z. each_below f t ++ ((relayed ++ z) ++ rest.0)) at_once
@@ -348,8 +349,8 @@ module _ (reserves : GateIsReservation) (run : Run) (carried : Carried) (end : �
       cycle : ℕ
       cycle = offer_cycle d x
 
-      b : ComesBehind run carried end x
-      b = comes_behind run carried end x inside early
+      b : ComesAfter run carried end x
+      b = comes_after run carried end x inside early
 
       earlier : List Policed
       earlier = police_all d run.tables bridge [] b.before
@@ -363,12 +364,12 @@ module _ (reserves : GateIsReservation) (run : Run) (carried : Carried) (end : �
           (λ row found live here.
           let member = (find_member (λ (r : Row). is_text r.name x.offer.stream) (table_of run.tables cycle) row found).0 in
           reserves d earlier row (offer_received x) some
-          ∙ ap (λ z. nat_le (z + x.offer.octets) (reserved_in row 0 cycle))
+          ∙ ap (λ z. nat_le (z + counted_of d.overhead x.offer.octets) (reserved_in row 0 cycle))
           (octets_are_taken reserves d some run.tables orderly bridge cycle row member live here b.before (offers_before run.offers x) b.offers))
 
   -- and no other frame there is that offer
   one_offered : (bridge : ℕ) (p q : Policed) → Contains (policed run carried end bridge) p → Contains (policed run carried end bridge) q →
-      p.received ≡ q.received → is_offered p.received.way ≡ true → p ≡ q
+      p.received ≡ q.received → is_offered p.received.ingress ≡ true → p ≡ q
   one_offered bridge p q cp cq same offered = elim (cases_order cp.0 cq.0) [
     | inl e ↦ sym cp.2 ∙ ap (λ z. get_or ps z p) e ∙ at_q
     | inr o ↦ elim o [
@@ -381,25 +382,25 @@ module _ (reserves : GateIsReservation) (run : Run) (carried : Carried) (end : �
       ps = policed run carried end bridge
 
       f : Policed → ℕ
-      f r = offered_counts p.received.frame r.received.way r.received.frame
+      f r = offered_counts p.received.frame r.received.ingress r.received.frame
 
       at_q : get_or ps cq.0 p ≡ q
       at_q = get_or_default ps cq.0 p q cq.1 ∙ cq.2
 
-      counts_one : (way : Way) (number : ℕ) → is_offered way ≡ true → offered_counts number way number ≡ 1
+      counts_one : (ingress : Ingress) (number : ℕ) → is_offered ingress ≡ true → offered_counts number ingress number ≡ 1
       counts_one (AtEdge name) number e = cond-true {A = ℕ} (number == number) 1 0 (eq-eqb number number refl)
       counts_one (Relayed m stream) number e = absurd (cc)
 
       one_p : f p ≡ 1
-      one_p = counts_one p.received.way p.received.frame offered
+      one_p = counts_one p.received.ingress p.received.frame offered
 
       one_q : f q ≡ 1
-      one_q = ap (λ (z : Received). offered_counts p.received.frame z.way z.frame) (sym same) ∙ one_p
+      one_q = ap (λ (z : Received). offered_counts p.received.frame z.ingress z.frame) (sym same) ∙ one_p
 
       single : sum_by f ps ≤ 1
       single =
-          subst (λ z. z ≤ 1) (sum_map (λ (x : Received). offered_counts p.received.frame x.way x.frame) (λ (r : Policed). r.received) ps)
-          (subst (λ z. sum_by (λ (x : Received). offered_counts p.received.frame x.way x.frame) z ≤ 1)
+          subst (λ z. z ≤ 1) (sum_map (λ (x : Received). offered_counts p.received.frame x.ingress x.frame) (λ (r : Policed). r.received) ps)
+          (subst (λ z. sum_by (λ (x : Received). offered_counts p.received.frame x.ingress x.frame) z ≤ 1)
           (sym (received_list run.domain run.tables bridge [] (came run carried end bridge)))
           (offers_single run carried end bridge p.received.frame))
 
@@ -409,7 +410,7 @@ module _ (reserves : GateIsReservation) (run : Run) (carried : Carried) (end : �
   offered_judged bridge p c o =
       let q : Policed = record { received = offer_received o.offered; verdict = judged run o.offered } in
       let there = subst (λ z. Contains (policed run carried end z) q) o.here (offer_policed o.offered o.inside o.early) in
-      ap (λ (z : Policed). z.verdict) (one_offered bridge p q c there (sym o.is) (ap (λ (z : Received). is_offered z.way) (sym o.is)))
+      ap (λ (z : Policed). z.verdict) (one_offered bridge p q c there (sym o.is) (ap (λ (z : Received). is_offered z.ingress) (sym o.is)))
 
 -- the gates decide on offers what the reservations do
 pub edge_is_covered : GateIsReservation → EdgeIsCovered

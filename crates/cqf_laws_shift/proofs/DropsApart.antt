@@ -9,11 +9,11 @@ use Rattle.cqf_lists.proofs.Pairs.{pairs_below}
 use Rattle.cqf_lists.proofs.Sums.{sum_filter, sum_flat, sum_le_members, sum_map, sum_two}
 use Rattle.cqf_model.specs.declared.frames.Dropped.{Dropped}
 use Rattle.cqf_model.specs.declared.frames.Offered.{Offered}
-use Rattle.cqf_model.specs.Book.{drop_by, drops_in, drops_of, is_of_place}
+use Rattle.cqf_model.specs.Book.{drop_by, drops_in, drops_of, is_of_index}
 use Rattle.cqf_model.specs.Domain.{Domain, cycle_of}
 use Rattle.cqf_model.specs.Run.{Run, end_of_run}
 use Rattle.cqf_model.specs.Shift.{offer_cycle}
-use Rattle.cqf_model.specs.Traffic.{Carried, DroppedFor, ExceedsGate, LacksRow, Policed, Queued, Received, Verdict, came_by, numbered}
+use Rattle.cqf_model.specs.Policing.{Carried, DroppedFor, ExceedsGate, LacksRow, Policed, Queued, Received, Verdict, came_by, numbered}
 use Rattle.cqf_model.proofs.Drops.{dropped_at, dropped_for, drops_at}
 use Rattle.cqf_laws_shift.specs.Alone.{IsPlanned}
 use Rattle.cqf_laws_shift.proofs.Came.{offered_counts, offers_single, one_number, policed}
@@ -51,7 +51,7 @@ module _ (laws : CycleLaws) (run : Run) (carried : Carried) (planned : IsPlanned
   of_offer : (cycle bridge : ℕ) (drop : Dropped) → Contains (drops_in d (length run.offers) given cycle bridge) drop → IsOfOffer cycle bridge drop
   of_offer cycle bridge drop c =
       let from = dropped_at d (length run.offers) given cycle bridge drop c in
-      let parts = and_parts (cycle_of d from.p.received.at == cycle) (from.p.received.frame == from.place + 1) from.of_place in
+      let parts = and_parts (cycle_of d from.p.received.at == cycle) (from.p.received.frame == from.index + 1) from.of_index in
       let u = dropped_uncovered laws run carried planned bridge from.p from.reason from.inside from.verdict in
       record {
         x = u.0.offered;
@@ -71,59 +71,59 @@ module _ (laws : CycleLaws) (run : Run) (carried : Carried) (planned : IsPlanned
       )
 
   -- what a frame of a number drops is at most what it counts as an offer of that number
-  module _ (cycle bridge place : ℕ) where
+  module _ (cycle bridge index : ℕ) where
     abbrev dropped_by : Policed → List Dropped
     dropped_by p = drop_by cycle bridge p.received p.verdict
 
     abbrev counts : Policed → ℕ
-    counts p = offered_counts (place + 1) p.received.way p.received.frame
+    counts p = offered_counts (index + 1) p.received.ingress p.received.frame
 
-    by_verdict : (p : Policed) (v : Verdict) → Contains (given bridge) p → p.verdict ≡ v → p.received.frame ≡ place + 1 →
+    by_verdict : (p : Policed) (v : Verdict) → Contains (given bridge) p → p.verdict ≡ v → p.received.frame ≡ index + 1 →
         sum_by (λ (x : Dropped). 1) (drop_by cycle bridge p.received v) ≤ counts p
     by_verdict p (Queued row) c e number = omega arith
     by_verdict p LacksRow c e number = omega arith
     by_verdict p ExceedsGate c e number = omega arith
     by_verdict p (DroppedFor reason) c e number =
         let u = dropped_uncovered laws run carried planned bridge p reason c e in
-        let edge = ap (λ (z : Received). came_by z.way) (sym u.0.is) in
-        omega (arith, counts_offer (place + 1) p.received.way p.received.frame edge number)
+        let edge = ap (λ (z : Received). came_by z.ingress) (sym u.0.is) in
+        omega (arith, counts_offer (index + 1) p.received.ingress p.received.frame edge number)
 
     kept : (p : Policed) → Contains (given bridge) p →
-        (if is_of_place d cycle place p then sum_by (λ (x : Dropped). 1) (dropped_by p) else 0) ≤ counts p
-    kept p c = elim (cases_Bool (is_of_place d cycle place p)) [
+        (if is_of_index d cycle index p then sum_by (λ (x : Dropped). 1) (dropped_by p) else 0) ≤ counts p
+    kept p c = elim (cases_Bool (is_of_index d cycle index p)) [
       | inl t ↦
-          let parts = and_parts (cycle_of d p.received.at == cycle) (p.received.frame == place + 1) t in
-          let less = by_verdict p p.verdict c refl (eqb-true p.received.frame (place + 1) parts.1) in
-          omega (arith, less, cond-true (is_of_place d cycle place p) (sum_by (λ (x : Dropped). 1) (dropped_by p)) 0 t)
-      | inr f ↦ omega (arith, cond-false (is_of_place d cycle place p) (sum_by (λ (x : Dropped). 1) (dropped_by p)) 0 f)
+          let parts = and_parts (cycle_of d p.received.at == cycle) (p.received.frame == index + 1) t in
+          let less = by_verdict p p.verdict c refl (eqb-true p.received.frame (index + 1) parts.1) in
+          omega (arith, less, cond-true (is_of_index d cycle index p) (sum_by (λ (x : Dropped). 1) (dropped_by p)) 0 t)
+      | inr f ↦ omega (arith, cond-false (is_of_index d cycle index p) (sum_by (λ (x : Dropped). 1) (dropped_by p)) 0 f)
     ]
 
     -- so an index has at most one drop
-    single : sum_by (λ (x : Dropped). 1) (drops_at d given cycle bridge place) ≤ 1
+    single : sum_by (λ (x : Dropped). 1) (drops_at d given cycle bridge index) ≤ 1
     single =
-        let flat = sum_flat (λ (x : Dropped). 1) dropped_by (filter (is_of_place d cycle place) (given bridge)) in
-        let of_kept = sum_filter (λ (p : Policed). sum_by (λ (x : Dropped). 1) (dropped_by p)) (is_of_place d cycle place) (given bridge) in
-        let less = sum_le_members (λ (p : Policed). if is_of_place d cycle place p then sum_by (λ (x : Dropped). 1) (dropped_by p) else 0) counts
+        let flat = sum_flat (λ (x : Dropped). 1) dropped_by (filter (is_of_index d cycle index) (given bridge)) in
+        let of_kept = sum_filter (λ (p : Policed). sum_by (λ (x : Dropped). 1) (dropped_by p)) (is_of_index d cycle index) (given bridge) in
+        let less = sum_le_members (λ (p : Policed). if is_of_index d cycle index p then sum_by (λ (x : Dropped). 1) (dropped_by p) else 0) counts
         (given bridge) kept in
-        let by_received = sum_map (λ (x : Received). offered_counts (place + 1) x.way x.frame) (λ (p : Policed). p.received) (given bridge) in
-        let turn = ap (sum_by (λ (x : Received). offered_counts (place + 1) x.way x.frame)) (facts laws run carried planned bridge).in_turn in
-        omega (arith, flat, of_kept, less, by_received, turn, offers_single run carried (end_of_run run) bridge (place + 1))
+        let by_received = sum_map (λ (x : Received). offered_counts (index + 1) x.ingress x.frame) (λ (p : Policed). p.received) (given bridge) in
+        let active_cycle = ap (sum_by (λ (x : Received). offered_counts (index + 1) x.ingress x.frame)) (facts laws run carried planned bridge).in_turn in
+        omega (arith, flat, of_kept, less, by_received, active_cycle, offers_single run carried (end_of_run run) bridge (index + 1))
 
   -- the drops of an index have its number
-  place_is : (cycle bridge place : ℕ) (drop : Dropped) → Contains (drops_at d given cycle bridge place) drop → drop.frame ≡ place + 1
-  place_is cycle bridge place drop c =
-      let w = contains_from_flat (dropped_by cycle bridge place) (filter (is_of_place d cycle place) (given bridge)) drop c in
-      let k = contains_from_filter (is_of_place d cycle place) (given bridge) w.0 w.1 in
-      let parts = and_parts (cycle_of d w.0.received.at == cycle) (w.0.received.frame == place + 1) k.1 in
+  index_is : (cycle bridge index : ℕ) (drop : Dropped) → Contains (drops_at d given cycle bridge index) drop → drop.frame ≡ index + 1
+  index_is cycle bridge index drop c =
+      let w = contains_from_flat (dropped_by cycle bridge index) (filter (is_of_index d cycle index) (given bridge)) drop c in
+      let k = contains_from_filter (is_of_index d cycle index) (given bridge) w.0 w.1 in
+      let parts = and_parts (cycle_of d w.0.received.at == cycle) (w.0.received.frame == index + 1) k.1 in
       let f = dropped_for cycle bridge w.0.received w.0.verdict drop w.2 in
-      ap (λ (z : Dropped). z.frame) (sym f.2) ∙ eqb-true w.0.received.frame (place + 1) parts.1
+      ap (λ (z : Dropped). z.frame) (sym f.2) ∙ eqb-true w.0.received.frame (index + 1) parts.1
 
   -- no two at a bridge in a cycle
   here_apart : (cycle bridge : ℕ) → AllPairs DropsApart (drops_in d (length run.offers) given cycle bridge)
   here_apart cycle bridge =
       pairs_below DropsApart (drops_at d given cycle bridge) (length run.offers)
-      (λ place l. pairs_of_one DropsApart (drops_at d given cycle bridge place) (single cycle bridge place))
-      (λ j k a b less m ca cb frames. omega (arith, less, frames, place_is cycle bridge j a ca, place_is cycle bridge k b cb))
+      (λ index l. pairs_of_one DropsApart (drops_at d given cycle bridge index) (single cycle bridge index))
+      (λ j k a b less m ca cb frames. omega (arith, less, frames, index_is cycle bridge j a ca, index_is cycle bridge k b cb))
 
   -- nor among all
   pub drops_apart : AllPairs DropsApart (drops_of d (length run.tables) (length run.offers) given)

@@ -17,9 +17,9 @@ use Rattle.cqf_model.specs.declared.frames.Sent.{Sent}
 use Rattle.cqf_model.specs.declared.topology.Row.{Row}
 use Rattle.cqf_model.specs.Domain.{Domain, IsAccepted, bridge_of, budget, cycle_of, guard_of, octet_time_of}
 use Rattle.cqf_model.specs.Run.{IsOffer, Run, end_of_run}
-use Rattle.cqf_model.specs.Traffic.{Carried, Received, Policed, Queued, came_by, whole_at}
+use Rattle.cqf_model.specs.Policing.{Carried, Received, Policed, Queued, came_by, whole_at}
 use Rattle.cqf_model.specs.Network.{QueuedFrame, arrivals_of, queued_frame, queued_to}
-use Rattle.cqf_model.specs.Turn.{busy, load}
+use Rattle.cqf_model.specs.Due.{busy, load}
 use Rattle.cqf_model.specs.declared.ports.Arrival.{Arrival}
 use Rattle.cqf_laws_cycle.specs.Compiled.{given_class}
 use Rattle.cqf_model.proofs.Legal.{ends_later}
@@ -50,7 +50,7 @@ pub record IsSentOf (run : Run) (heard : Carried) (m : ℕ) (sent : Sent) : Type
   pub inside : Contains (policed run heard (end_of_run run) (bridge_of run.domain m)) p
   pub row : Row
   pub verdict : p.verdict ≡ Queued row
-  pub goes : GoesBy row (came_by p.received.way) m
+  pub goes : GoesBy row (came_by p.received.ingress) m
   pub frame : sent.frame ≡ p.received.frame
   pub stream : sent.stream ≡ row.no
   pub octets : sent.octets ≡ p.received.octets
@@ -172,7 +172,7 @@ module _ (laws : CycleLaws) (run : Run) (carried : Carried) (planned : IsPlanned
     within_budget m cycle is_link =
         let bridge = bridge_of d m in
         le_trans (load_within_cost d run.tables bridge (came run carried end bridge) (policed run carried end bridge) (facts bridge) m
-        planned.orderly.trees (least bridge) cycle)
+        planned.accepted.overhead_short planned.orderly.trees planned.orderly.overheads (least bridge) cycle)
         (planned.orderly.loads cycle m (cycle + 1) is_link)
 
     -- no frame that is queued to a port is shorter either

@@ -11,7 +11,7 @@ pub mod CycleLaws
 pub mod Fed
 pub mod Runs
 pub mod SentSums
-pub mod Ways
+pub mod Paths
 pub mod Shifts
 pub mod Singles
 pub mod Octets

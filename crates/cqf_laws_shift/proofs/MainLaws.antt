@@ -1,24 +1,24 @@
 -- The gates mean the shift.
 use Rattle.std.proofs.Common.{ap₂}
 use Rattle.cqf_model.specs.Table.{uses}
-use Rattle.cqf_model.specs.Paces.{is_turn}
+use Rattle.cqf_model.specs.Paces.{is_active}
 use Rattle.cqf_model.specs.declared.topology.Pace.{Pace}
-use Rattle.cqf_model.proofs.Paces.{turn_along}
+use Rattle.cqf_model.proofs.Paces.{active_cycle_along}
 use Rattle.cqf_laws_shift.proofs.Trees.{hop_uses}
-use Rattle.cqf_laws_shift.proofs.Ways.{covered_turn}
+use Rattle.cqf_laws_shift.proofs.Paths.{covered_active_cycle}
 use Rattle.std.proofs.Common.{◌≡◌, ℕ, zero, suc, ◌+◌, ◌*◌, ◌/◌, ◌<◌, ◌≤◌, ◌⊎◌, ◌∷◌, [], ◌++◌, List, Bool, true, false, Option, Some, None, inl, inr, sym, ap}
 use Rattle.std.proofs.Common.{◌∙◌, subst, arith, refl, All, AllPairs, Contains, sum_by, length, eq-eqb, eqb-true, ◌==◌}
 use Rattle.std.proofs.Common.{◌&&◌, if◌then◌else◌, le_trans, le_of_eq, ne_eqb}
 use Rattle.std.proofs.lemmas.Bool.{cases_Bool, cases_lt, cond-true, cond-false, and_from}
 use Rattle.std.proofs.lemmas.List.Elements.{All-contains}
-use Rattle.cqf_units.specs.Timing.{wire_of, cost_of}
+use Rattle.cqf_units.specs.Timing.{counted_of, cost_of, wire_of}
 use Rattle.cqf_model.specs.declared.frames.Offered.{Offered}
 use Rattle.cqf_model.specs.declared.frames.Sent.{Sent}
 use Rattle.cqf_model.specs.declared.topology.Row.{Row}
 use Rattle.cqf_model.specs.Domain.{Domain, cycle_of, bridge_of}
 use Rattle.cqf_model.specs.Run.{Run, end_of_run}
 use Rattle.cqf_model.specs.Table.{table_of, row_of, row_named, link_cost}
-use Rattle.cqf_model.specs.Traffic.{Way, AtEdge, Carried, Received, Policed, police_all, verdict_by, whole_at, within_gate, came_by, offer_received}
+use Rattle.cqf_model.specs.Policing.{Ingress, AtEdge, Carried, Received, Policed, police_all, verdict_by, whole_at, within_gate, came_by, offer_received}
 use Rattle.cqf_model.specs.Network.{IsLost, IsLoss}
 use Rattle.cqf_model.specs.Shift.{InShift}
 use Rattle.cqf_model.specs.Promise.{IsDecided, LeavesInTurn, MeansTheShiftAs, wire_in_cycle}
@@ -36,7 +36,7 @@ use Rattle.cqf_laws_shift.proofs.Decided.{edge_is_covered, is_decided, offered_j
 use Rattle.cqf_laws_shift.proofs.Edges.{gate_is_reservation}
 use Rattle.cqf_laws_shift.proofs.Fed.{before_end, facts, least, some_time}
 use Rattle.cqf_laws_shift.proofs.Policing.{has_come}
-use Rattle.cqf_laws_shift.proofs.Runs.{fed, place_timed, sends_one, sent_for, sent_timed, start_due}
+use Rattle.cqf_laws_shift.proofs.Runs.{fed, index_timed, sends_one, sent_for, sent_timed, start_due}
 use Rattle.cqf_laws_shift.proofs.SentSums.{of_stream, sent_counts, sent_within}
 use Rattle.cqf_laws_shift.proofs.Apart.{sents_apart}
 use Rattle.cqf_laws_shift.proofs.Octets.{sent_octets}
@@ -44,7 +44,7 @@ use Rattle.cqf_laws_shift.proofs.Shifts.{sent_in_shift, shift_is_sent}
 use Rattle.cqf_laws_shift.proofs.Singles.{sent_once}
 use Rattle.cqf_laws_shift.proofs.Trees.{hop_within, same_hop}
 use Rattle.cqf_laws_shift.proofs.Verdicts.{edge_no_loss, queued_no_loss}
-use Rattle.cqf_laws_shift.proofs.Ways.{covered_member, on_way, queued_member, relayed_goes_on, row_stays, same_stream}
+use Rattle.cqf_laws_shift.proofs.Paths.{covered_member, on_path, queued_member, relayed_goes_on, row_stays, same_stream}
 
 module _ (laws : CycleLaws) (run : Run) (carried : Carried) {heard : Carried} (alone : IsRunAs run carried heard) where
   -- the run's domain
@@ -75,25 +75,25 @@ module _ (laws : CycleLaws) (run : Run) (carried : Carried) {heard : Carried} (a
       of_row sent row = if used_by row then (if counts row sent then wire_of sent.octets else 0) else 0
 
       bound : Row → ℕ
-      bound row = if used_by row then cost_of row.octets else 0
+      bound row = if used_by row then cost_of row.overhead row.octets else 0
 
       has : (sent : Sent) → Contains (carried link) sent →
           ((row : Row) × Contains (table_of run.tables cycle) row × (added sent ≤ of_row sent row)) ⊎ (added sent ≡ 0)
       has sent c = elim (cases_Bool (cycle_of d sent.start.0 == cycle)) [
         | inl t ↦
             let s = sent_timed laws run carried alone link is_link sent c in
-            let way = on_way laws run carried alone (bridge_of d link) s.0.p s.0.row link s.0.inside s.0.verdict s.0.goes in
-            let is : cycle ≡ cycle_of d way.x.offer.at.0 + way.depth = omega (arith, eqb-true (cycle_of d sent.start.0) cycle t, s.1.cycle, way.cycle) in
-            let late = row_stays laws run carried alone way.x way.first_row cycle way.covered (omega (arith, is))
-            (omega (arith, is, hop_within way.first_row way.depth link way.at_depth)) in_run in
+            let ingress = on_path laws run carried alone (bridge_of d link) s.0.p s.0.row link s.0.inside s.0.verdict s.0.goes in
+            let is : cycle ≡ cycle_of d ingress.x.offer.at.0 + ingress.hop_number = omega (arith, eqb-true (cycle_of d sent.start.0) cycle t, s.1.cycle, ingress.cycle) in
+            let late = row_stays laws run carried alone ingress.x ingress.first_row cycle ingress.covered (omega (arith, is))
+            (omega (arith, is, hop_within ingress.first_row ingress.hop_number link ingress.at_hop_number)) in_run in
             let row = late.0 in
-            let one = same_stream laws run carried alone cycle (cycle_of d way.x.offer.at.0) row way.first_row late.2
-            (covered_member laws run carried alone way.x way.first_row way.covered) late.3 in
-            let turn = ap₂ (λ (p : Pace) z. is_turn p way.depth z) one.pace is
-            ∙ turn_along way.first_row.pace way.depth (cycle_of d way.x.offer.at.0)
-            (covered_turn laws run carried alone way.x way.first_row way.covered) in
-            let on = hop_uses row way.depth link cycle (same_hop way.first_row row way.depth link (sym one.tree) way.at_depth) turn in
-            let number : sent.stream ≡ row.no = s.0.stream ∙ way.number ∙ sym late.3 in
+            let one = same_stream laws run carried alone cycle (cycle_of d ingress.x.offer.at.0) row ingress.first_row late.2
+            (covered_member laws run carried alone ingress.x ingress.first_row ingress.covered) late.3 in
+            let active_cycle = ap₂ (λ (p : Pace) z. is_active p ingress.hop_number z) one.pace is
+            ∙ active_cycle_along ingress.first_row.pace ingress.hop_number (cycle_of d ingress.x.offer.at.0)
+            (covered_active_cycle laws run carried alone ingress.x ingress.first_row ingress.covered) in
+            let on = hop_uses row ingress.hop_number link cycle (same_hop ingress.first_row row ingress.hop_number link (sym one.tree) ingress.at_hop_number) active_cycle in
+            let number : sent.stream ≡ row.no = s.0.stream ∙ ingress.number ∙ sym late.3 in
             let counted = and_from (cycle_of d sent.start.0 == cycle) (sent.stream == row.no) t (eq-eqb sent.stream row.no number) in
             let value : of_row sent row ≡ wire_of sent.octets = cond-true (used_by row) (if counts row sent then wire_of sent.octets else 0) 0 on
             ∙ cond-true (counts row sent) (wire_of sent.octets) 0 counted in
@@ -110,31 +110,31 @@ module _ (laws : CycleLaws) (run : Run) (carried : Carried) {heard : Carried} (a
 
       -- a stream of the cycle's table sends no more octets than its reservation
       octets_within : (row : Row) → Contains (table_of run.tables cycle) row →
-          sum_by (sent_counts laws run carried alone link is_link (of_stream row.no) cycle) (carried link) ≤ row.octets
+          sum_by (sent_counts laws run carried alone link is_link (of_stream d.overhead row.no) cycle) (carried link) ≤ row.octets
       octets_within row c = in_cycle cycle refl
         where
           no_row : (before : ℕ) → cycle ≡ before + 1 → (found : Option Row) → row_of (table_of run.tables before) row.no ≡ found →
-              sum_by (sent_counts laws run carried alone link is_link (of_stream row.no) cycle) (carried link) ≤ row.octets
+              sum_by (sent_counts laws run carried alone link is_link (of_stream d.overhead row.no) cycle) (carried link) ≤ row.octets
           no_row before is (Some prev) found =
               let member = find_member (λ (z : Row). z.no == row.no) (table_of run.tables before) prev found in
               let number : prev.no ≡ row.no = eqb-true prev.no row.no member.1 in
               let same = (same_stream laws run carried alone before cycle prev row member.0 c number).octets in
               let limit = sent_within laws run carried alone link is_link before prev member.0 in
-              let here = subst (λ z. sum_by (sent_counts laws run carried alone link is_link (of_stream prev.no) z) (carried link) ≤ prev.octets)
+              let here = subst (λ z. sum_by (sent_counts laws run carried alone link is_link (of_stream d.overhead prev.no) z) (carried link) ≤ prev.octets)
               (sym is) limit in
               omega (
                 arith,
                 same,
-                subst (λ z. sum_by (sent_counts laws run carried alone link is_link (of_stream z) cycle)
+                subst (λ z. sum_by (sent_counts laws run carried alone link is_link (of_stream d.overhead z) cycle)
                     (carried link) ≤ prev.octets) number here,
               )
           no_row before is None found =
-              let none = sum_none (sent_counts laws run carried alone link is_link (of_stream row.no) cycle) (carried link)
+              let none = sum_none (sent_counts laws run carried alone link is_link (of_stream d.overhead row.no) cycle) (carried link)
               (λ sent m. not_counted before is found sent m) in
               omega (arith, none)
             where
               not_counted : (before : ℕ) → cycle ≡ before + 1 → row_of (table_of run.tables before) row.no ≡ None → (sent : Sent) →
-                  Contains (carried link) sent → sent_counts laws run carried alone link is_link (of_stream row.no) cycle sent ≡ 0
+                  Contains (carried link) sent → sent_counts laws run carried alone link is_link (of_stream d.overhead row.no) cycle sent ≡ 0
               not_counted before is found sent m = elim (cases_Bool (cycle_of d sent.start.0 == cycle)) [
                 | inl t ↦ elim (cases_Bool (sent.stream == row.no)) [
                   | inl e ↦
@@ -145,20 +145,20 @@ module _ (laws : CycleLaws) (run : Run) (carried : Carried) {heard : Carried} (a
                       let some = find_some (λ (z : Row). z.no == row.no) (table_of run.tables before) s.0.row
                       (subst (λ z. Contains (table_of run.tables z) s.0.row) at member) (eq-eqb s.0.row.no row.no number) in
                       absurd (two_ways some.0 (sym found ∙ some.1))
-                  | inr u ↦ cond-true (cycle_of d sent.start.0 == cycle) (if sent.stream == row.no then sent.octets else 0) 0 t
-                      ∙ cond-false (sent.stream == row.no) sent.octets 0 u
+                  | inr u ↦ cond-true (cycle_of d sent.start.0 == cycle) (if sent.stream == row.no then counted_of d.overhead sent.octets else 0) 0 t
+                      ∙ cond-false (sent.stream == row.no) (counted_of d.overhead sent.octets) 0 u
                 ]
-                | inr u ↦ cond-false (cycle_of d sent.start.0 == cycle) (if sent.stream == row.no then sent.octets else 0) 0 u
+                | inr u ↦ cond-false (cycle_of d sent.start.0 == cycle) (if sent.stream == row.no then counted_of d.overhead sent.octets else 0) 0 u
               ]
                 where
                   two_ways : (r : Row) → None ≡ Some r → ⊥
                   two_ways r e = cc
 
-          in_cycle : (c : ℕ) → cycle ≡ c → sum_by (sent_counts laws run carried alone link is_link (of_stream row.no) cycle) (carried link) ≤ row.octets
+          in_cycle : (c : ℕ) → cycle ≡ c → sum_by (sent_counts laws run carried alone link is_link (of_stream d.overhead row.no) cycle) (carried link) ≤ row.octets
           in_cycle zero is =
-              let none = sum_none (sent_counts laws run carried alone link is_link (of_stream row.no) cycle) (carried link) (λ sent m.
+              let none = sum_none (sent_counts laws run carried alone link is_link (of_stream d.overhead row.no) cycle) (carried link) (λ sent m.
               let s = sent_timed laws run carried alone link is_link sent m in
-              cond-false (cycle_of d sent.start.0 == cycle) (if sent.stream == row.no then sent.octets else 0) 0
+              cond-false (cycle_of d sent.start.0 == cycle) (if sent.stream == row.no then counted_of d.overhead sent.octets else 0) 0
               (ne_eqb (cycle_of d sent.start.0) cycle (λ e. absurd (omega (arith, e, is, s.1.cycle))))) in
               omega (arith, none)
           in_cycle (suc before) is = no_row before (omega (arith, is)) (row_of (table_of run.tables before) row.no) refl
@@ -168,12 +168,13 @@ module _ (laws : CycleLaws) (run : Run) (carried : Carried) {heard : Carried} (a
         | inl t ↦
             let inner = sum_le_members (λ sent. of_row sent row) (λ sent. if counts row sent then wire_of sent.octets else 0) (carried link)
             (λ sent m. le_of_eq (cond-true (used_by row) (if counts row sent then wire_of sent.octets else 0) 0 t)) in
-            let flat = sum_le_members (λ sent. if counts row sent then sent.octets else 0)
-            (sent_counts laws run carried alone link is_link (of_stream row.no) cycle) (carried link)
-            (λ sent m. nested (cycle_of d sent.start.0 == cycle) (sent.stream == row.no) sent.octets) in
-            let cost = tested_wire_within_cost (counts row) (λ (sent : Sent). sent.octets) (carried link) row.octets none_short
-            (le_trans flat (octets_within row c)) in
-            omega (arith, inner, cost, cond-true (used_by row) (cost_of row.octets) 0 t)
+            let flat = sum_le_members (λ sent. if counts row sent then counted_of d.overhead sent.octets else 0)
+            (sent_counts laws run carried alone link is_link (of_stream d.overhead row.no) cycle) (carried link)
+            (λ sent m. nested (cycle_of d sent.start.0 == cycle) (sent.stream == row.no) (counted_of d.overhead sent.octets)) in
+            let cost = tested_wire_within_cost d.overhead alone.planned.accepted.overhead_short (counts row) (λ (sent : Sent). sent.octets) (carried link)
+            row.octets none_short (le_trans flat (octets_within row c)) in
+            let same = ap (λ o. cost_of o row.octets) (sym (alone.planned.orderly.overheads cycle row c)) in
+            le_trans inner (le_trans cost (le_of_eq (same ∙ sym (cond-true (used_by row) (cost_of row.overhead row.octets) 0 t))))
         | inr u ↦
             let none = sum_none (λ sent. of_row sent row) (carried link)
             (λ sent m. cond-false (used_by row) (if counts row sent then wire_of sent.octets else 0) 0 u) in
@@ -192,26 +193,26 @@ module _ (laws : CycleLaws) (run : Run) (carried : Carried) {heard : Carried} (a
       (facts laws run heard alone.planned bridge) p lost.came)) [
         | inl r ↦ let on = relayed_goes_on laws run carried alone bridge p lost.came r in queued_no_loss p.verdict on.0 on.1 lost.lost
         | inr o ↦
-            let b = (facts laws run heard alone.planned bridge).behind p lost.came in
+            let b = (facts laws run heard alone.planned bridge).following p lost.came in
             let earlier = [] ++ police_all d run.tables bridge [] b.before in
-            let way : b.x.way ≡ AtEdge o.offered.offer.stream = ap (λ (z : Policed). z.received.way) (sym b.is) ∙ ap (λ (z : Received). z.way) (sym o.is) in
-            at_edge (table_of run.tables (cycle_of d b.x.at)) (cycle_of d b.x.at) (λ r. within_gate d earlier r b.x) b.x.way o.offered.offer.stream way
+            let ingress : b.x.ingress ≡ AtEdge o.offered.offer.stream = ap (λ (z : Policed). z.received.ingress) (sym b.is) ∙ ap (λ (z : Received). z.ingress) (sym o.is) in
+            at_edge (table_of run.tables (cycle_of d b.x.at)) (cycle_of d b.x.at) (λ r. within_gate d earlier r b.x) b.x.ingress o.offered.offer.stream ingress
             (subst IsLoss (ap (λ (z : Policed). z.verdict) b.is) lost.lost)
       ]
     where
-      at_edge : (table : List Row) (cycle : ℕ) (fits : Row → Bool) (way : Way) (name : List ℕ) → way ≡ AtEdge name →
-          IsLoss (verdict_by d table bridge cycle fits way) → ⊥
-      at_edge table cycle fits way name is lost =
+      at_edge : (table : List Row) (cycle : ℕ) (fits : Row → Bool) (ingress : Ingress) (name : List ℕ) → ingress ≡ AtEdge name →
+          IsLoss (verdict_by d table bridge cycle fits ingress) → ⊥
+      at_edge table cycle fits ingress name is lost =
           edge_no_loss d bridge cycle fits (row_named table name) (subst (λ z. IsLoss (verdict_by d table bridge cycle fits z)) is lost)
 
   -- each frame that came by no link is an offer, with the verdict that the definitions give
-  edge_only : (bridge : ℕ) (p : Policed) → Contains (policed run heard (end_of_run run) bridge) p → came_by p.received.way ≡ None → (x : Offered) ×
+  edge_only : (bridge : ℕ) (p : Policed) → Contains (policed run heard (end_of_run run) bridge) p → came_by p.received.ingress ≡ None → (x : Offered) ×
       (x.offer.bridge ≡ bridge) × (offer_received x ≡ p.received) × IsDecided run x p.verdict
-  edge_only bridge p c way =
+  edge_only bridge p c ingress =
       elim (came_how run heard (end_of_run run) bridge p.received
       (has_come d run.tables bridge (came run heard (end_of_run run) bridge) (policed run heard (end_of_run run) bridge)
       (facts laws run heard alone.planned bridge) p c)) [
-        | inl r ↦ absurd (two_ways r.m (sym way ∙ ap (λ (z : Received). came_by z.way) (sym r.is)))
+        | inl r ↦ absurd (two_ways r.m (sym ingress ∙ ap (λ (z : Received). came_by z.ingress) (sym r.is)))
         | inr o ↦
             let verdict = offered_judged (gate_is_reservation laws.counts) run heard (end_of_run run)
             (some_time laws run heard alone.planned) alone.planned.orderly bridge p c o in
@@ -226,13 +227,13 @@ module _ (laws : CycleLaws) (run : Run) (carried : Carried) {heard : Carried} (a
   in_turn link sent c =
       let is_link = the_link link sent c in
       let s = sent_for laws run carried alone link is_link sent c in
-      let one = sends_one laws run carried alone link s.0.place sent.start.0 s.0.in_queue in
+      let one = sends_one laws run carried alone link s.0.index sent.start.0 s.0.in_queue in
       record {
-        place = s.0.place;
+        index = s.0.index;
         in_queue = s.0.in_queue;
-        start = start_due laws run carried alone link is_link s.0.place sent.start.0 s.1;
+        start = start_due laws run carried alone link is_link s.0.index sent.start.0 s.1;
         is = subst (λ z. Contains z sent) (sym one) (subst (λ z. Contains (z ∷ []) sent) (sym s.0.is) (contains_here sent []));
-        cycle = place_timed laws run carried alone link is_link s.0.place sent.start.0 s.1;
+        cycle = index_timed laws run carried alone link is_link s.0.index sent.start.0 s.1;
       }
 
   -- each arrives fully in the next node, by that node's clock, in its cycle
@@ -249,14 +250,14 @@ module _ (laws : CycleLaws) (run : Run) (carried : Carried) {heard : Carried} (a
   -- the hop number times the cycle time after its offer, to within one cycle time
   latency : (link : ℕ) (sent h : Sent) → Contains (carried link) sent → Contains (heard link) h → h.frame ≡ sent.frame →
       (shift : InShift run (length run.tables) sent.frame link (cycle_of d sent.start.0)) →
-      (shift.x.offer.at.0 + shift.depth * d.cycle_time < whole_at d link h + d.cycle_time) ×
-      (whole_at d link h < shift.x.offer.at.0 + (shift.depth + 1) * d.cycle_time)
+      (shift.x.offer.at.0 + shift.hop_number * d.cycle_time < whole_at d link h + d.cycle_time) ×
+      (whole_at d link h < shift.x.offer.at.0 + (shift.hop_number + 1) * d.cycle_time)
   latency link sent h c ch frames shift =
-      within d.cycle_time shift.x.offer.at.0 (whole_at d link h) shift.depth (some_time laws run heard alone.planned)
+      within d.cycle_time shift.x.offer.at.0 (whole_at d link h) shift.hop_number (some_time laws run heard alone.planned)
       (whole link sent h c ch frames ∙ shift.is_cycle)
     where
-      within : (n at whole depth : ℕ) → 0 < n → whole / n ≡ at / n + depth → (at + depth * n < whole + n) × (whole < at + (depth + 1) * n)
-      within n at whole depth some cycle =
+      within : (n at whole hop_number : ℕ) → 0 < n → whole / n ≡ at / n + hop_number → (at + hop_number * n < whole + n) × (whole < at + (hop_number + 1) * n)
+      within n at whole hop_number some cycle =
           let scaled = ap (λ z. z * n) cycle in
           (omega (arith, scaled, cycle_from n whole, cycle_upto n at some), omega (arith, scaled, cycle_upto n whole some, cycle_from n at))
 
@@ -284,7 +285,7 @@ module _ (laws : CycleLaws) (run : Run) (carried : Carried) {heard : Carried} (a
     octets = λ link sent x c inside frames. sent_octets laws run carried alone link (the_link link sent c) sent c x inside frames;
     none_lost = none_lost;
     loads = loads;
-    costs = λ link cycle turn is_link. alone.planned.orderly.loads cycle link turn is_link;
+    costs = λ link cycle active_cycle is_link. alone.planned.orderly.loads cycle link active_cycle is_link;
     in_turn = in_turn;
     whole = whole;
     latency = latency;

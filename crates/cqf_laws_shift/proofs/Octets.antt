@@ -9,12 +9,12 @@ use Rattle.cqf_model.specs.declared.frames.Started.{Started}
 use Rattle.cqf_model.specs.Book.{batch, started, starts_in, starts_of}
 use Rattle.cqf_model.specs.Domain.{bridge_of, cycle_of}
 use Rattle.cqf_model.specs.Run.{Run}
-use Rattle.cqf_model.specs.Traffic.{Carried, numbered}
+use Rattle.cqf_model.specs.Policing.{Carried, numbered}
 use Rattle.cqf_laws_shift.specs.Alone.{IsRunAs}
 use Rattle.cqf_laws_shift.proofs.Came.{one_number}
 use Rattle.cqf_laws_shift.proofs.CycleLaws.{CycleLaws}
 use Rattle.cqf_laws_shift.proofs.Runs.{sent_timed}
-use Rattle.cqf_laws_shift.proofs.Ways.{on_way}
+use Rattle.cqf_laws_shift.proofs.Paths.{on_path}
 
 module _ (run : Run) (carried : Carried) where
   -- a start is that of a frame that its link sends in its cycle
@@ -51,9 +51,9 @@ module _ (laws : CycleLaws) (run : Run) (carried : Carried) {heard : Carried} (a
       Contains (numbered run.offers) x → sent.frame ≡ x.frame → sent.octets ≡ x.offer.octets
   sent_octets link is_link sent c x inside frames =
       let s = sent_timed laws run carried alone link is_link sent c in
-      let way = on_way laws run carried alone (bridge_of run.domain link) s.0.p s.0.row link s.0.inside s.0.verdict s.0.goes in
-      let same : way.x ≡ x = one_number run.offers way.x x way.covered.offered inside (sym way.frame ∙ sym s.0.frame ∙ frames) in
-      s.0.octets ∙ way.octets ∙ ap (λ (z : Offered). z.offer.octets) same
+      let ingress = on_path laws run carried alone (bridge_of run.domain link) s.0.p s.0.row link s.0.inside s.0.verdict s.0.goes in
+      let same : ingress.x ≡ x = one_number run.offers ingress.x x ingress.covered.offered inside (sym ingress.frame ∙ sym s.0.frame ∙ frames) in
+      s.0.octets ∙ ingress.octets ∙ ap (λ (z : Offered). z.offer.octets) same
 
   -- so does each start
   pub start_octets : (cycles : ℕ) (s : Started) → Contains (starts_of run.domain cycles carried) s → (x : Offered) → Contains (numbered run.offers) x →

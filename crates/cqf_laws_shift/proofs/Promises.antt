@@ -10,13 +10,13 @@ use Rattle.cqf_model.specs.declared.frames.Dropped.{Dropped}
 use Rattle.cqf_model.specs.declared.frames.Offered.{Offered}
 use Rattle.cqf_model.specs.declared.frames.Sent.{Sent}
 use Rattle.cqf_model.specs.declared.frames.Started.{Started}
-use Rattle.cqf_model.specs.Book.{starts_in, started, batch, drops_of, drops_in, drop_by, is_of_place}
+use Rattle.cqf_model.specs.Book.{starts_in, started, batch, drops_of, drops_in, drop_by, is_of_index}
 use Rattle.cqf_model.specs.Domain.{Domain, cycle_of}
 use Rattle.cqf_model.specs.Network.{Network}
 use Rattle.cqf_model.specs.Promise.{IsOfUncovered, MeansTheShift, SaysTheShift}
 use Rattle.cqf_model.specs.Run.{end_of_run}
 use Rattle.cqf_model.specs.Shift.{InShift, offer_cycle}
-use Rattle.cqf_model.specs.Traffic.{Carried, DroppedFor, Policed, Received, numbered, offer_received}
+use Rattle.cqf_model.specs.Policing.{Carried, DroppedFor, Policed, Received, numbered, offer_received}
 use Rattle.cqf_laws_shift.specs.Alone.{IsRunAlone}
 use Rattle.cqf_laws_shift.specs.Books.{BookSaysTheShift}
 use Rattle.cqf_laws_shift.specs.Run.{RunBesideIsRunAlone}
@@ -88,7 +88,7 @@ book_says_the_shift laws beside run book accepted orderly offered background is_
         (subst (λ z. Contains z x) is_book.are_drops c) in
         let by_bridge = contains_from_below (drops_in d (length run.offers) given by_cycle.0) (length d.bridges) x by_cycle.2 in
         let from = dropped_at d (length run.offers) given by_cycle.0 by_bridge.0 x by_bridge.2 in
-        let parts = and_parts (cycle_of d from.p.received.at == by_cycle.0) (from.p.received.frame == from.place + 1) from.of_place in
+        let parts = and_parts (cycle_of d from.p.received.at == by_cycle.0) (from.p.received.frame == from.index + 1) from.of_index in
         let u = dropped_uncovered laws run carried alone.planned by_bridge.0 from.p from.reason from.inside from.verdict in
         subst (IsOfUncovered run) from.is (record {
           x = u.0.offered;
@@ -108,9 +108,9 @@ book_says_the_shift laws beside run book accepted orderly offered background is_
         let in_run : cycle < length run.tables = omega (arith, u.cycle, u.within_run) in
         let r = uncovered_dropped laws run carried alone.planned u.x x.reason u.uncovered in_run in
         let p : Policed = record { received = offer_received u.x; verdict = DroppedFor x.reason } in
-        let passes = and_from (cycle_of d p.received.at == cycle) (p.received.frame == r.place + 1) (eq-eqb cycle cycle refl)
-        (eq-eqb p.received.frame (r.place + 1) r.frame) in
-        let kept = contains_filter (is_of_place d cycle r.place) (given bridge) p r.inside passes in
+        let passes = and_from (cycle_of d p.received.at == cycle) (p.received.frame == r.index + 1) (eq-eqb cycle cycle refl)
+        (eq-eqb p.received.frame (r.index + 1) r.frame) in
+        let kept = contains_filter (is_of_index d cycle r.index) (given bridge) p r.inside passes in
         let it = drop_for cycle bridge p.received x.reason in
         let same : it ≡ x = λ i. record {
           cycle = record { 0 = sym u.cycle i };
@@ -119,9 +119,9 @@ book_says_the_shift laws beside run book accepted orderly offered background is_
           octets = sym u.octets i;
           reason = x.reason;
         } in
-        let here = contains_flat (λ (q : Policed). drop_by cycle bridge q.received q.verdict) (filter (is_of_place d cycle r.place) (given bridge)) p it kept
+        let here = contains_flat (λ (q : Policed). drop_by cycle bridge q.received q.verdict) (filter (is_of_index d cycle r.index) (given bridge)) p it kept
         (contains_here it []) in
-        let placed = contains_below (drops_at d given cycle bridge) (length run.offers) r.place it r.is_place here in
+        let placed = contains_below (drops_at d given cycle bridge) (length run.offers) r.index it r.is_index here in
         let bridged = contains_below (drops_in d (length run.offers) given cycle) (length d.bridges) bridge it r.is_bridge placed in
         let whole = contains_below (λ c. each_below (drops_in d (length run.offers) given c) (length d.bridges)) (length run.tables) cycle it in_run bridged in
         subst (λ z. Contains z x) (sym is_book.are_drops) (subst (λ z. Contains (drops_of d (length run.tables) (length run.offers) given) z) same whole)

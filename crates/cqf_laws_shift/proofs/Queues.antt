@@ -3,17 +3,17 @@ use Rattle.std.proofs.Common.{◌≡◌, ℕ, ◌+◌, ◌/◌, ◌%◌, ◌<◌
 use Rattle.std.proofs.Common.{AllPairs, Contains, sum_by, eq-eqb, eqb-true, ◌==◌, ◌&&◌, if◌then◌else◌, le_trans, le_of_eq, zero-add}
 use Rattle.std.specs.List.{list_any}
 use Rattle.std.proofs.lemmas.Bool.{cases_Bool, cond-true, cond-false, and_from}
-use Rattle.cqf_units.specs.Timing.{wire_of, cost_of}
+use Rattle.cqf_units.specs.Timing.{counted_of, cost_of, wire_of}
 use Rattle.cqf_model.specs.declared.ports.Arrival.{Arrival}
 use Rattle.cqf_model.specs.declared.topology.Hop.{Hop}
 use Rattle.cqf_model.specs.declared.topology.Row.{Row}
 use Rattle.cqf_model.specs.Domain.{Domain, cycle_of}
-use Rattle.cqf_model.specs.Table.{IsTree, crosses, depth_behind, goes_to, table_of, link_cost, uses}
-use Rattle.cqf_model.specs.Paces.{is_turn}
+use Rattle.cqf_model.specs.Table.{IsTree, crosses, hop_number_after, goes_to, table_of, link_cost, uses}
+use Rattle.cqf_model.specs.Paces.{is_active}
 use Rattle.std.proofs.lemmas.List.Elements.{All-contains}
-use Rattle.cqf_model.specs.Traffic.{Received, Policed, Verdict, Queued, DroppedFor, LacksRow, ExceedsGate, came_by, is_queued_of}
+use Rattle.cqf_model.specs.Policing.{Received, Policed, Verdict, Queued, DroppedFor, LacksRow, ExceedsGate, came_by, is_queued_of}
 use Rattle.cqf_model.specs.Network.{QueuedFrame, queued_frame, queued_by, queued_to, arrivals_of}
-use Rattle.cqf_model.specs.Turn.{is_streams, load, wire_in}
+use Rattle.cqf_model.specs.Due.{is_streams, load, wire_in}
 use Rattle.cqf_laws_cycle.specs.Compiled.{GateGivesClass, given_class}
 use Rattle.cqf_lists.proofs.Members.{any_member, member_any, contains_map, contains_flat, contains_from_flat, contains_none, contains_here, contains_cases}
 use Rattle.cqf_lists.proofs.Pairs.{pairs_from_map, pairs_none, pairs_one}
@@ -24,37 +24,37 @@ use Rattle.cqf_laws_shift.proofs.Policing.{Polices, row_of_queued}
 use Rattle.cqf_laws_shift.proofs.Trees.{GoesBy, goes_by, by_goes, uses_next}
 
 -- a frame is queued only to the ports whose links its stream takes next
-tested_goes : (row : Row) (way : Option ℕ) (l : ℕ) → list_any (λ next. next == l) (goes_to row way) ≡ true → GoesBy row way l
-tested_goes row way l t =
-    let r = any_member (λ next. next == l) (goes_to row way) t in
-    subst (λ z. GoesBy row way z) (eqb-true r.0 l r.2) (goes_by row way r.0 r.1)
+tested_goes : (row : Row) (ingress : Option ℕ) (l : ℕ) → list_any (λ next. next == l) (goes_to row ingress) ≡ true → GoesBy row ingress l
+tested_goes row ingress l t =
+    let r = any_member (λ next. next == l) (goes_to row ingress) t in
+    subst (λ z. GoesBy row ingress z) (eqb-true r.0 l r.2) (goes_by row ingress r.0 r.1)
 
 -- and to each of them
-goes_tested : (row : Row) (way : Option ℕ) (l : ℕ) → GoesBy row way l → list_any (λ next. next == l) (goes_to row way) ≡ true
-goes_tested row way l by = member_any (λ next. next == l) (goes_to row way) l (by_goes row way l by) (eq-eqb l l refl)
+goes_tested : (row : Row) (ingress : Option ℕ) (l : ℕ) → GoesBy row ingress l → list_any (λ next. next == l) (goes_to row ingress) ≡ true
+goes_tested row ingress l by = member_any (λ next. next == l) (goes_to row ingress) l (by_goes row ingress l by) (eq-eqb l l refl)
 
 -- such a link is crossed
-pub goes_crosses : (row : Row) (way : Option ℕ) (l : ℕ) → GoesBy row way l → crosses row l ≡ true
-goes_crosses row way l by = member_any (λ k. k == l) _ by.hop.link (contains_map (λ (hop : Hop). hop.link) row.tree.items by.hop by.of_tree)
+pub goes_crosses : (row : Row) (ingress : Option ℕ) (l : ℕ) → GoesBy row ingress l → crosses row l ≡ true
+goes_crosses row ingress l by = member_any (λ k. k == l) _ by.hop.link (contains_map (λ (hop : Hop). hop.link) row.tree.items by.hop by.of_tree)
     (eq-eqb by.hop.link l by.is_link)
 
 -- what a verdict queues to a link
-pub queued_one : (d : Domain) (l : ℕ) (x : Received) (row : Row) → GoesBy row (came_by x.way) l → queued_by d l x (Queued row) ≡ queued_frame d x row ∷ []
-queued_one d l x row by = cond-true (list_any (λ next. next == l) (goes_to row (came_by x.way))) (queued_frame d x row ∷ []) []
-    (goes_tested row (came_by x.way) l by)
+pub queued_one : (d : Domain) (l : ℕ) (x : Received) (row : Row) → GoesBy row (came_by x.ingress) l → queued_by d l x (Queued row) ≡ queued_frame d x row ∷ []
+queued_one d l x row by = cond-true (list_any (λ next. next == l) (goes_to row (came_by x.ingress))) (queued_frame d x row ∷ []) []
+    (goes_tested row (came_by x.ingress) l by)
 
 -- one frame, or none
 pub one_or_none : (d : Domain) (l : ℕ) (x : Received) (v : Verdict) →
-    ((row : Row) × (v ≡ Queued row) × GoesBy row (came_by x.way) l × (queued_by d l x v ≡ queued_frame d x row ∷ [])) ⊎ (queued_by d l x v ≡ [])
-one_or_none d l x (Queued row) = elim (cases_Bool (list_any (λ next. next == l) (goes_to row (came_by x.way)))) [
+    ((row : Row) × (v ≡ Queued row) × GoesBy row (came_by x.ingress) l × (queued_by d l x v ≡ queued_frame d x row ∷ [])) ⊎ (queued_by d l x v ≡ [])
+one_or_none d l x (Queued row) = elim (cases_Bool (list_any (λ next. next == l) (goes_to row (came_by x.ingress)))) [
   | inl t ↦ inl (
     row,
     refl,
-    tested_goes row (came_by x.way) l t,
-    cond-true (list_any (λ next. next == l) (goes_to row (came_by x.way)))
+    tested_goes row (came_by x.ingress) l t,
+    cond-true (list_any (λ next. next == l) (goes_to row (came_by x.ingress)))
         (queued_frame d x row ∷ []) [] t,
   )
-  | inr u ↦ inr (cond-false (list_any (λ next. next == l) (goes_to row (came_by x.way))) (queued_frame d x row ∷ []) [] u)
+  | inr u ↦ inr (cond-false (list_any (λ next. next == l) (goes_to row (came_by x.ingress))) (queued_frame d x row ∷ []) [] u)
 ]
 one_or_none d l x (DroppedFor reason) = inr refl
 one_or_none d l x LacksRow = inr refl
@@ -62,7 +62,7 @@ one_or_none d l x ExceedsGate = inr refl
 
 -- the frame that a verdict queues to a link
 queued_by_verdict : (d : Domain) (l : ℕ) (x : Received) (v : Verdict) (q : QueuedFrame) → Contains (queued_by d l x v) q → (row : Row) × (v ≡ Queued row) ×
-    GoesBy row (came_by x.way) l × (queued_frame d x row ≡ q)
+    GoesBy row (came_by x.ingress) l × (queued_frame d x row ≡ q)
 queued_by_verdict d l x v q c = elim (one_or_none d l x v) [
   | inl r ↦ (
     r.0,
@@ -83,7 +83,7 @@ pub record FromQueue (d : Domain) (l : ℕ) (policed : List Policed) (q : Queued
   pub inside : Contains policed p
   pub row : Row
   pub verdict : p.verdict ≡ Queued row
-  pub goes : GoesBy row (came_by p.received.way) l
+  pub goes : GoesBy row (came_by p.received.ingress) l
   pub is : queued_frame d p.received row ≡ q
 
 -- this holds for each queued frame
@@ -95,7 +95,7 @@ queued_from d l policed q c =
 
 -- and each frame that goes on by the link is queued
 pub queued_into : (d : Domain) (l : ℕ) (policed : List Policed) (p : Policed) (row : Row) → Contains policed p → p.verdict ≡ Queued row →
-    GoesBy row (came_by p.received.way) l → Contains (queued_to d l policed) (queued_frame d p.received row)
+    GoesBy row (came_by p.received.ingress) l → Contains (queued_to d l policed) (queued_frame d p.received row)
 queued_into d l policed p row c e by =
     contains_flat (λ (p : Policed). queued_by d l p.received p.verdict) policed p (queued_frame d p.received row) c
     (subst (λ z. Contains z (queued_frame d p.received row)) (sym (ap (queued_by d l p.received) e ∙ queued_one d l p.received row by))
@@ -171,11 +171,11 @@ module _ (d : Domain) (tables : List (List Row)) (bridge : ℕ) (xs : List Recei
   class_given gives some q c =
       let from = queued_from d l policed q c in
       subst (λ (z : QueuedFrame). z.arrival.class ≡ given_class (z.arrival.at.0 / d.cycle_time)) from.is
-      (gives d.cycle_time from.row.octets from.row.pace (depth_behind from.row (came_by from.p.received.way)) from.p.received.at some)
+      (gives d.cycle_time from.row.octets from.row.pace (hop_number_after from.row (came_by from.p.received.ingress)) from.p.received.at some)
 
   -- what a frame adds to the port's load in a cycle
   adds : (cycle : ℕ) (x : Received) (v : Verdict) →
-      ((row : Row) × (v ≡ Queued row) × GoesBy row (came_by x.way) l × (cycle_of d x.at ≡ cycle) ×
+      ((row : Row) × (v ≡ Queued row) × GoesBy row (came_by x.ingress) l × (cycle_of d x.at ≡ cycle) ×
       (sum_by (λ (q : QueuedFrame). wire_in d.cycle_time cycle q.arrival) (queued_by d l x v) ≤ wire_of x.octets)) ⊎
       (sum_by (λ (q : QueuedFrame). wire_in d.cycle_time cycle q.arrival) (queued_by d l x v) ≡ 0)
   adds cycle x v =
@@ -192,10 +192,11 @@ module _ (d : Domain) (tables : List (List Row)) (bridge : ℕ) (xs : List Recei
       ]
 
   -- what arrives at the port in a cycle is within the cost of the streams of the cycle's table
-  pub load_within_cost : ((cycle : ℕ) (row : Row) → Contains (table_of tables cycle) row → IsTree d row.tree.items) →
+  pub load_within_cost : d.overhead ≤ 22 → ((cycle : ℕ) (row : Row) → Contains (table_of tables cycle) row → IsTree d row.tree.items) →
+      ((cycle : ℕ) (row : Row) → Contains (table_of tables cycle) row → row.overhead ≡ d.overhead) →
       All (λ (p : Policed). 64 ≤ p.received.octets) policed → (cycle : ℕ) →
       load d.cycle_time cycle arrivals ≤ link_cost (table_of tables cycle) l (cycle + 1)
-  load_within_cost trees least cycle =
+  load_within_cost short trees overheads least cycle =
       subst (λ z. z ≤ link_cost (table_of tables cycle) l (cycle + 1)) (sym whole) (sum_grouped added of_row bound policed (table_of tables cycle) has within)
     where
       added : Policed → ℕ
@@ -215,7 +216,7 @@ module _ (d : Domain) (tables : List (List Row)) (bridge : ℕ) (xs : List Recei
       of_row p row = if used_by row then (if passes row p then wire_of p.received.octets else 0) else 0
 
       bound : Row → ℕ
-      bound row = if used_by row then cost_of row.octets else 0
+      bound row = if used_by row then cost_of row.overhead row.octets else 0
 
       has : (p : Policed) → Contains policed p → ((row : Row) × Contains (table_of tables cycle) row × (added p ≤ of_row p row)) ⊎ (added p ≡ 0)
       has p c = elim (adds cycle p.received p.verdict) [
@@ -226,9 +227,10 @@ module _ (d : Domain) (tables : List (List Row)) (bridge : ℕ) (xs : List Recei
             let passed : passes row p ≡ true =
             and_from (is_queued_of row.no p.verdict) (cycle_of d p.received.at == cycle) (ap (is_queued_of row.no) a.1 ∙ eq-eqb row.no row.no refl)
             (eq-eqb (cycle_of d p.received.at) cycle a.3) in
-            let positive : 0 < p.received.octets = omega (arith, All-contains (λ (q : Policed). 64 ≤ q.received.octets) policed p least c) in
-            let turn = ap (is_turn row.pace (depth_behind row (came_by p.received.way))) (sym a.3) ∙ facts.turns p row c a.1 positive in
-            let used = uses_next d row (trees cycle row member) (came_by p.received.way) l cycle a.2 turn in
+            let positive : 0 < counted_of d.overhead p.received.octets =
+            omega (arith, short, All-contains (λ (q : Policed). 64 ≤ q.received.octets) policed p least c) in
+            let active_cycle = ap (is_active row.pace (hop_number_after row (came_by p.received.ingress))) (sym a.3) ∙ facts.active_cycles p row c a.1 positive in
+            let used = uses_next d row (trees cycle row member) (came_by p.received.ingress) l cycle a.2 active_cycle in
             let value : of_row p row ≡ wire_of p.received.octets =
             cond-true (used_by row) (if passes row p then wire_of p.received.octets else 0) 0 used
             ∙ cond-true (passes row p) (wire_of p.received.octets) 0 passed in
@@ -241,8 +243,10 @@ module _ (d : Domain) (tables : List (List Row)) (bridge : ℕ) (xs : List Recei
         | inl t ↦
             let inner = sum_le_members (λ p. of_row p row) (λ p. if passes row p then wire_of p.received.octets else 0) policed
             (λ p m. le_of_eq (cond-true (used_by row) (if passes row p then wire_of p.received.octets else 0) 0 t)) in
-            let cost = tested_wire_within_cost (passes row) (λ (p : Policed). p.received.octets) policed row.octets least (facts.reserved cycle row c) in
-            omega (arith, inner, cost, cond-true (used_by row) (cost_of row.octets) 0 t)
+            let cost = tested_wire_within_cost d.overhead short (passes row) (λ (p : Policed). p.received.octets) policed row.octets least
+            (facts.reserved cycle row c) in
+            let same = ap (λ o. cost_of o row.octets) (sym (overheads cycle row c)) in
+            le_trans inner (le_trans cost (le_of_eq (same ∙ sym (cond-true (used_by row) (cost_of row.overhead row.octets) 0 t))))
         | inr u ↦
             let none = sum_none (λ p. of_row p row) policed (λ p m. cond-false (used_by row) (if passes row p then wire_of p.received.octets else 0) 0 u) in
             omega (arith, none)

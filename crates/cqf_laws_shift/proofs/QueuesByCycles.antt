@@ -9,7 +9,7 @@ use Rattle.cqf_model.specs.declared.frames.Background.{Background}
 use Rattle.cqf_model.specs.Domain.{Domain, bridge_of, cycle_of}
 use Rattle.cqf_lists.specs.Lists.{each_below}
 use Rattle.cqf_model.specs.Run.{Run}
-use Rattle.cqf_model.specs.Traffic.{Carried, Received, Policed, police_all, policed_before, received_at, received_before}
+use Rattle.cqf_model.specs.Policing.{Carried, Received, Policed, police_all, policed_before, received_at, received_before}
 use Rattle.cqf_model.specs.Network.{QueuedFrame, backed_at, backed_frame, backed_in, comes_before, comes_in, is_backed_at, numbered_background, queued_before}
 use Rattle.cqf_model.specs.Network.{queued_by, queued_in, queued_to}
 use Rattle.cqf_model.proofs.Coming.{received_when}

@@ -9,10 +9,10 @@ use Rattle.cqf_model.specs.declared.topology.Row.{Row}
 use Rattle.cqf_model.specs.Domain.{Domain, bridge_of, cycle_of, guard_of, octet_time_of}
 use Rattle.cqf_model.specs.Port.{Transmission, class_of, no_arrival, instant_of, octets_of}
 use Rattle.cqf_model.specs.Run.{Run, end_of_run}
-use Rattle.cqf_model.specs.Traffic.{Carried, Policed, Queued, came_by, whole_at}
+use Rattle.cqf_model.specs.Policing.{Carried, Policed, Queued, came_by, whole_at}
 use Rattle.cqf_model.specs.Network.{QueuedFrame, queued_frame, arrivals_of, no_frame, sent_by, sent_of}
 use Rattle.cqf_model.specs.GateList.{IsOpenThrough, port_list}
-use Rattle.cqf_model.specs.Turn.{due, cycle_of_place}
+use Rattle.cqf_model.specs.Due.{due, cycle_of_index}
 use Rattle.cqf_units.specs.Timing.{ending_of}
 use Rattle.cqf_laws_cycle.specs.Compiled.{given_class}
 use Rattle.cqf_laws_cycle.specs.OnePort.{AreDue, IsWithinBudget, StreamsAt}
@@ -56,17 +56,17 @@ module _ (laws : CycleLaws) (run : Run) (carried : Carried) {heard : Carried} (a
   sends m inside = alone.legal.sends m inside
 
   -- a transmission of what was queued sends one frame
-  pub sends_one : (m place t : ℕ) → place < length (waiting m) → sent_of (waiting m) (place, t) ≡ sent_at (waiting m) (place, t) ∷ []
-  sends_one m place t inside =
-      let q = get_or (waiting m) place no_frame in
-      let from = queued_from d m (given (bridge_of d m)) q (Contains-get_or (waiting m) place no_frame inside) in
+  pub sends_one : (m index t : ℕ) → index < length (waiting m) → sent_of (waiting m) (index, t) ≡ sent_at (waiting m) (index, t) ∷ []
+  sends_one m index t inside =
+      let q = get_or (waiting m) index no_frame in
+      let from = queued_from d m (given (bridge_of d m)) q (Contains-get_or (waiting m) index no_frame inside) in
       subst (λ (z : QueuedFrame). sent_by t z.arrival z.stream ≡ sent_from z t ∷ []) from.is refl
 
   -- a start is of an index in the queue
-  pub start_in_queue : (m : ℕ) (is_link : m < length run.domain.links) (place s : ℕ) → Contains (sends m is_link).starts (place, s) →
-      place < length (queued run heard (end_of_run run) m)
-  start_in_queue m is_link place s c =
-      omega (arith, ((sends m is_link).legal.first place s c).waits.inside, length-map (waiting m) (λ (q : QueuedFrame). q.arrival))
+  pub start_in_queue : (m : ℕ) (is_link : m < length run.domain.links) (index s : ℕ) → Contains (sends m is_link).starts (index, s) →
+      index < length (queued run heard (end_of_run run) m)
+  start_in_queue m is_link index s c =
+      omega (arith, ((sends m is_link).legal.first index s c).waits.inside, length-map (waiting m) (λ (q : QueuedFrame). q.arrival))
 
   -- so what a link sends is what its transmissions send
   pub sents_are : (m : ℕ) (is_link : m < length run.domain.links) → carried m ≡ map (sent_at (queued run heard (end_of_run run) m)) (sends m is_link).starts
@@ -79,40 +79,40 @@ module _ (laws : CycleLaws) (run : Run) (carried : Carried) {heard : Carried} (a
   pub record IsSentFor (m : ℕ) (sent : Sent) : Type 0 where
     pub from : IsSentOf run heard m sent
     pub later : cycle_of run.domain from.p.received.at < cycle_of run.domain sent.start.0
-    pub place : ℕ
-    pub at_place : queued_frame run.domain from.p.received from.row ≡ get_or (queued run heard (end_of_run run) m) place no_frame
-    pub in_queue : place < length (queued run heard (end_of_run run) m)
-    pub is : sent_at (queued run heard (end_of_run run) m) (place, sent.start.0) ≡ sent
+    pub index : ℕ
+    pub at_index : queued_frame run.domain from.p.received from.row ≡ get_or (queued run heard (end_of_run run) m) index no_frame
+    pub in_queue : index < length (queued run heard (end_of_run run) m)
+    pub is : sent_at (queued run heard (end_of_run run) m) (index, sent.start.0) ≡ sent
 
   -- this holds for each frame that a link sends
   pub sent_for : (m : ℕ) (is_link : m < length run.domain.links) (sent : Sent) → Contains (carried m) sent → (x : IsSentFor m sent) ×
-      Contains (sends m is_link).starts (x.place, sent.start.0)
+      Contains (sends m is_link).starts (x.index, sent.start.0)
   sent_for m is_link sent c =
       let s = sends m is_link in
       let r = contains_from_map (sent_at (waiting m)) s.starts sent (subst (λ z. Contains z sent) (sents_are m is_link) c) in
-      let place = r.0.0 in
-      let first = s.legal.first place r.0.1 r.1 in
-      let in_queue : place < length (waiting m) = start_in_queue m is_link place r.0.1 r.1 in
-      let q = get_or (waiting m) place no_frame in
-      let instant : instant_of (arrivals_of (waiting m)) place ≡ q.arrival.at.0 =
-      ap (λ (a : Arrival). a.at.0) (get_or-map (λ (q : QueuedFrame). q.arrival) (waiting m) place no_frame no_arrival in_queue) in
-      let there = Contains-get_or (waiting m) place no_frame in_queue in
+      let index = r.0.0 in
+      let first = s.legal.first index r.0.1 r.1 in
+      let in_queue : index < length (waiting m) = start_in_queue m is_link index r.0.1 r.1 in
+      let q = get_or (waiting m) index no_frame in
+      let instant : instant_of (arrivals_of (waiting m)) index ≡ q.arrival.at.0 =
+      ap (λ (a : Arrival). a.at.0) (get_or-map (λ (q : QueuedFrame). q.arrival) (waiting m) index no_frame no_arrival in_queue) in
+      let there = Contains-get_or (waiting m) index no_frame in_queue in
       let x = sent_of_queue run heard m q r.0.1 sent there r.2 in
-      let arrival : get_or (arrivals_of (waiting m)) place no_arrival ≡ q.arrival =
-      get_or-map (λ (q : QueuedFrame). q.arrival) (waiting m) place no_frame no_arrival in_queue in
+      let arrival : get_or (arrivals_of (waiting m)) index no_arrival ≡ q.arrival =
+      get_or-map (λ (q : QueuedFrame). q.arrival) (waiting m) index no_frame no_arrival in_queue in
       let open_on = subst (λ (a : Arrival). IsOpenThrough (port_list d.cycle_time (guard_of d m)) a.class r.0.1 (ending_of r.0.1 a.octets (octet_time_of d m))) arrival
-      (s.legal.eligible place r.0.1 r.1) in
+      (s.legal.eligible index r.0.1 r.1) in
       let later = starts_later laws.gives d m r.0.1 (given (bridge_of d m)) q alone.planned.accepted is_link there (omega (arith, first.waits.come, instant)) open_on in
       let start : r.0.1 ≡ sent.start.0 = ap (λ (z : Sent). z.start.0) r.2 in (
         record {
           from = x.0;
           later = sent_of_queue_later run heard m q r.0.1 sent r.2 later x.0 x.1;
-          place = place;
-          at_place = x.1;
+          index = index;
+          at_index = x.1;
           in_queue = in_queue;
-          is = ap (λ (z : ℕ). sent_at (waiting m) (place, z)) (sym start) ∙ r.2;
+          is = ap (λ (z : ℕ). sent_at (waiting m) (index, z)) (sym start) ∙ r.2;
         },
-        subst (λ z. Contains s.starts (place, z)) start r.1,
+        subst (λ z. Contains s.starts (index, z)) start r.1,
       )
 
   -- so a legal run is fed
@@ -120,25 +120,25 @@ module _ (laws : CycleLaws) (run : Run) (carried : Carried) {heard : Carried} (a
   fed m is_link sent c = let x = (sent_for m is_link sent c).0 in (x.from, x.later)
 
   -- the arrival at an index of the queue
-  seen : (m place : ℕ) → place < length (waiting m) → (q : QueuedFrame) × Contains (waiting m) q ×
-      (get_or (arrivals_of (waiting m)) place no_arrival ≡ q.arrival)
-  seen m place inside = (
-    get_or (waiting m) place no_frame,
-    Contains-get_or (waiting m) place no_frame inside,
+  seen : (m index : ℕ) → index < length (waiting m) → (q : QueuedFrame) × Contains (waiting m) q ×
+      (get_or (arrivals_of (waiting m)) index no_arrival ≡ q.arrival)
+  seen m index inside = (
+    get_or (waiting m) index no_frame,
+    Contains-get_or (waiting m) index no_frame inside,
     get_or-map (λ (q : QueuedFrame). q.arrival)
-        (waiting m) place no_frame no_arrival inside,
+        (waiting m) index no_frame no_arrival inside,
   )
 
   -- it has the class of its cycle
-  class_at : (m place : ℕ) → place < length (waiting m) →
-      class_of (arrivals_of (waiting m)) place ≡ given_class (cycle_of_place d.cycle_time (arrivals_of (waiting m)) place)
-  class_at m place inside =
-      let q = seen m place inside in
+  class_at : (m index : ℕ) → index < length (waiting m) →
+      class_of (arrivals_of (waiting m)) index ≡ given_class (cycle_of_index d.cycle_time (arrivals_of (waiting m)) index)
+  class_at m index inside =
+      let q = seen m index inside in
       subst (λ (z : Arrival). z.class ≡ given_class (z.at.0 / d.cycle_time)) (sym q.2) (queue_class laws run heard alone.planned m q.0 q.1)
 
   -- so it is a stream's frame
-  streams_at : (m place : ℕ) → place < length (waiting m) → StreamsAt (arrivals_of (waiting m)) place
-  streams_at m place inside = subst (λ z. 6 ≤ z) (sym (class_at m place inside)) (gives_streams (cycle_of_place d.cycle_time (arrivals_of (waiting m)) place))
+  streams_at : (m index : ℕ) → index < length (waiting m) → StreamsAt (arrivals_of (waiting m)) index
+  streams_at m index inside = subst (λ z. 6 ≤ z) (sym (class_at m index inside)) (gives_streams (cycle_of_index d.cycle_time (arrivals_of (waiting m)) index))
 
   -- what the law of one port requires
   within : (m : ℕ) → m < length d.links → IsWithinBudget d.cycle_time (guard_of d m) (octet_time_of d m) (arrivals_of (waiting m)) (length run.tables)
@@ -150,7 +150,7 @@ module _ (laws : CycleLaws) (run : Run) (carried : Carried) {heard : Carried} (a
     come = record {
       in_order = λ i j e l inside first second. pairs_map (λ (a b : Arrival). a.at.0 ≤ b.at.0) (λ (q : QueuedFrame). q.arrival) (waiting m)
           (queue_sorted laws run heard alone.planned m) i j e l inside;
-      classes = λ place inside streams. class_at m place (omega (arith, inside, length-map (waiting m) (λ (q : QueuedFrame). q.arrival)));
+      classes = λ index inside streams. class_at m index (omega (arith, inside, length-map (waiting m) (λ (q : QueuedFrame). q.arrival)));
     };
     loads = λ c l. within_time laws run heard alone.planned alone.meets fed m c is_link;
   }
@@ -170,24 +170,24 @@ module _ (laws : CycleLaws) (run : Run) (carried : Carried) {heard : Carried} (a
     pub in_run : whole_at run.domain m (alone.meets.noted m sent) < end_of_run run
 
   -- this holds for each start
-  timed : (m : ℕ) (is_link : m < length d.links) (sent : Sent) (place at : ℕ) → Contains (carried m) sent →
-      Contains (sends m is_link).starts (place, sent.start.0) → place < length (waiting m) → instant_of (arrivals_of (waiting m)) place ≡ at → octets_of (arrivals_of (waiting m)) place ≡ sent.octets → IsTimed m at sent
-  timed m is_link sent place at member c in_queue is_at is_octets =
+  timed : (m : ℕ) (is_link : m < length d.links) (sent : Sent) (index at : ℕ) → Contains (carried m) sent →
+      Contains (sends m is_link).starts (index, sent.start.0) → index < length (waiting m) → instant_of (arrivals_of (waiting m)) index ≡ at → octets_of (arrivals_of (waiting m)) index ≡ sent.octets → IsTimed m at sent
+  timed m is_link sent index at member c in_queue is_at is_octets =
       let s = sent.start.0 in
       let n = d.cycle_time in
-      let before = (sends m is_link).legal.before_end place s c in
-      let inside : place < length (arrivals_of (waiting m)) = omega (arith, in_queue, length-map (waiting m) (λ (q : QueuedFrame). q.arrival)) in
+      let before = (sends m is_link).legal.before_end index s c in
+      let inside : index < length (arrivals_of (waiting m)) = omega (arith, in_queue, length-map (waiting m) (λ (q : QueuedFrame). q.arrival)) in
       let in_cycle : s / n < length run.tables = cycle_below n s (length run.tables) before in
-      let streams = streams_at m place in_queue in
-      let due = (ports_due m is_link).only place s c streams (omega (arith, in_cycle)) in
-      let next = (ports_due m is_link).next place inside streams due.0 in
-      let over = (ports_due m is_link).over place inside streams due.0 in
+      let streams = streams_at m index in_queue in
+      let due = (ports_due m is_link).only index s c streams (omega (arith, in_cycle)) in
+      let next = (ports_due m is_link).next index inside streams due.0 in
+      let over = (ports_due m is_link).over index inside streams due.0 in
       let cycle : s / n ≡ at / n + 1 = ap (λ z. z / n) due.1 ∙ next ∙ ap (λ z. z / n + 1) is_at in
       let over_at : s + slot_of sent.octets (octet_time_of d m) ≤ (at / n + 1) * n + (n - guard_of d m) =
-      at_octets n (guard_of d m) (octet_time_of d m) s (instant_of (arrivals_of (waiting m)) place) at
-      (octets_of (arrivals_of (waiting m)) place) sent.octets is_at is_octets
-      (subst (λ z. z + slot_of (octets_of (arrivals_of (waiting m)) place) (octet_time_of d m) ≤ (instant_of
-      (arrivals_of (waiting m)) place / n + 1) * n + (n - guard_of d m)) (sym due.1) over) in
+      at_octets n (guard_of d m) (octet_time_of d m) s (instant_of (arrivals_of (waiting m)) index) at
+      (octets_of (arrivals_of (waiting m)) index) sent.octets is_at is_octets
+      (subst (λ z. z + slot_of (octets_of (arrivals_of (waiting m)) index) (octet_time_of d m) ≤ (instant_of
+      (arrivals_of (waiting m)) index / n + 1) * n + (n - guard_of d m)) (sym due.1) over) in
       let at_end = alone.meets.noted m sent in
       let alike = alone.meets.each m sent is_link member in
       let there = cycle_from n (whole_at d m at_end) in
@@ -217,18 +217,18 @@ module _ (laws : CycleLaws) (run : Run) (carried : Carried) {heard : Carried} (a
   sent_timed m is_link sent c =
       let r = sent_for m is_link sent c in
       let x = r.0 in
-      let arrival = get_or-map (λ (q : QueuedFrame). q.arrival) (waiting m) x.place no_frame no_arrival x.in_queue in (
+      let arrival = get_or-map (λ (q : QueuedFrame). q.arrival) (waiting m) x.index no_frame no_arrival x.in_queue in (
         x.from,
-        timed m is_link sent x.place x.from.p.received.at c r.1 x.in_queue
-            (ap (λ (a : Arrival). a.at.0) arrival ∙ ap (λ (z : QueuedFrame). z.arrival.at.0) (sym x.at_place))
-            (ap (λ (a : Arrival). a.octets) arrival ∙ ap (λ (z : QueuedFrame). z.arrival.octets) (sym x.at_place) ∙ sym x.from.octets),
+        timed m is_link sent x.index x.from.p.received.at c r.1 x.in_queue
+            (ap (λ (a : Arrival). a.at.0) arrival ∙ ap (λ (z : QueuedFrame). z.arrival.at.0) (sym x.at_index))
+            (ap (λ (a : Arrival). a.octets) arrival ∙ ap (λ (z : QueuedFrame). z.arrival.octets) (sym x.at_index) ∙ sym x.from.octets),
       )
 
   -- a start sends the frame at its index
-  start_sent : (m : ℕ) (is_link : m < length run.domain.links) (place s : ℕ) → Contains (sends m is_link).starts (place, s) →
-      Contains (carried m) (sent_at (queued run heard (end_of_run run) m) (place, s))
-  start_sent m is_link place s c =
-      subst (λ z. Contains z (sent_at (waiting m) (place, s))) (sym (sents_are m is_link)) (contains_map (sent_at (waiting m)) (sends m is_link).starts (place, s) c)
+  start_sent : (m : ℕ) (is_link : m < length run.domain.links) (index s : ℕ) → Contains (sends m is_link).starts (index, s) →
+      Contains (carried m) (sent_at (queued run heard (end_of_run run) m) (index, s))
+  start_sent m is_link index s c =
+      subst (λ z. Contains z (sent_at (waiting m) (index, s))) (sym (sents_are m is_link)) (contains_map (sent_at (waiting m)) (sends m is_link).starts (index, s) c)
 
   -- what is heard from a link was queued to its bridge in the cycle before the one in which it arrives fully
   pub heard_timed : (m : ℕ) (is_link : m < length run.domain.links) (h : Sent) → Contains (heard m) h → (x : IsSentOf run heard m h) ×
@@ -252,33 +252,33 @@ module _ (laws : CycleLaws) (run : Run) (carried : Carried) {heard : Carried} (a
       )
 
   -- a start is in the cycle after the queued frame's
-  pub start_timed : (m : ℕ) (is_link : m < length run.domain.links) (place s : ℕ) → Contains (sends m is_link).starts (place, s) →
-      cycle_of run.domain s ≡ cycle_of run.domain (get_or (queued run heard (end_of_run run) m) place no_frame).arrival.at.0 + 1
-  start_timed m is_link place s c =
-      let inside = start_in_queue m is_link place s c in
-      let arrival = get_or-map (λ (q : QueuedFrame). q.arrival) (waiting m) place no_frame no_arrival inside in
-      (timed m is_link (sent_at (waiting m) (place, s)) place (get_or (waiting m) place no_frame).arrival.at.0 (start_sent m is_link place s c) c inside
+  pub start_timed : (m : ℕ) (is_link : m < length run.domain.links) (index s : ℕ) → Contains (sends m is_link).starts (index, s) →
+      cycle_of run.domain s ≡ cycle_of run.domain (get_or (queued run heard (end_of_run run) m) index no_frame).arrival.at.0 + 1
+  start_timed m is_link index s c =
+      let inside = start_in_queue m is_link index s c in
+      let arrival = get_or-map (λ (q : QueuedFrame). q.arrival) (waiting m) index no_frame no_arrival inside in
+      (timed m is_link (sent_at (waiting m) (index, s)) index (get_or (waiting m) index no_frame).arrival.at.0 (start_sent m is_link index s c) c inside
       (ap (λ (a : Arrival). a.at.0) arrival)
       (ap (λ (a : Arrival). a.octets) arrival)).cycle
 
   -- the same for the cycle of its arrival
-  pub place_timed : (m : ℕ) (is_link : m < length run.domain.links) (place s : ℕ) → Contains (sends m is_link).starts (place, s) →
-      cycle_of run.domain s ≡ cycle_of_place run.domain.cycle_time (arrivals_of (queued run heard (end_of_run run) m)) place + 1
-  place_timed m is_link place s c =
-      let inside = start_in_queue m is_link place s c in
-      let arrival = get_or-map (λ (q : QueuedFrame). q.arrival) (waiting m) place no_frame no_arrival inside in
-      start_timed m is_link place s c ∙ ap (λ (a : Arrival). a.at.0 / d.cycle_time + 1) (sym arrival)
+  pub index_timed : (m : ℕ) (is_link : m < length run.domain.links) (index s : ℕ) → Contains (sends m is_link).starts (index, s) →
+      cycle_of run.domain s ≡ cycle_of_index run.domain.cycle_time (arrivals_of (queued run heard (end_of_run run) m)) index + 1
+  index_timed m is_link index s c =
+      let inside = start_in_queue m is_link index s c in
+      let arrival = get_or-map (λ (q : QueuedFrame). q.arrival) (waiting m) index no_frame no_arrival inside in
+      start_timed m is_link index s c ∙ ap (λ (a : Arrival). a.at.0 / d.cycle_time + 1) (sym arrival)
 
   -- and when it is due
-  pub start_due : (m : ℕ) (is_link : m < length run.domain.links) (place s : ℕ) → Contains (sends m is_link).starts (place, s) →
-      s ≡ due run.domain.cycle_time (octet_time_of run.domain m) (arrivals_of (queued run heard (end_of_run run) m)) place
-  start_due m is_link place s c =
-      let early = cycle_below d.cycle_time s (length run.tables) ((sends m is_link).legal.before_end place s c) in
-      ((ports_due m is_link).only place s c (streams_at m place (start_in_queue m is_link place s c)) (omega (arith, early))).1
+  pub start_due : (m : ℕ) (is_link : m < length run.domain.links) (index s : ℕ) → Contains (sends m is_link).starts (index, s) →
+      s ≡ due run.domain.cycle_time (octet_time_of run.domain m) (arrivals_of (queued run heard (end_of_run run) m)) index
+  start_due m is_link index s c =
+      let early = cycle_below d.cycle_time s (length run.tables) ((sends m is_link).legal.before_end index s c) in
+      ((ports_due m is_link).only index s c (streams_at m index (start_in_queue m is_link index s c)) (omega (arith, early))).1
 
   -- and what is queued starts, as far as the run goes
   pub queued_starts : (m : ℕ) (is_link : m < length run.domain.links) (p : Policed) (row : Row) →
-      Contains (policed run heard (end_of_run run) (bridge_of run.domain m)) p → p.verdict ≡ Queued row → GoesBy row (came_by p.received.way) m →
+      Contains (policed run heard (end_of_run run) (bridge_of run.domain m)) p → p.verdict ≡ Queued row → GoesBy row (came_by p.received.ingress) m →
       cycle_of run.domain p.received.at + 1 < length run.tables →
       (sent : Sent) × Contains (carried m) sent × (sent.frame ≡ p.received.frame) × (sent.stream ≡ row.no) × (sent.octets ≡ p.received.octets) ×
       IsTimed m p.received.at sent
@@ -286,23 +286,23 @@ module _ (laws : CycleLaws) (run : Run) (carried : Carried) {heard : Carried} (a
       let s = sends m is_link in
       let q = queued_frame d p.received row in
       let member = queued_into d m (given (bridge_of d m)) p row c verdict goes in
-      let place = member.0 in
+      let index = member.0 in
       let in_queue = member.1 in
-      let is : get_or (waiting m) place no_frame ≡ q = get_or_default (waiting m) place no_frame q member.1 ∙ member.2 in
-      let arrival : get_or (arrivals_of (waiting m)) place no_arrival ≡ q.arrival =
-      get_or-map (λ (q : QueuedFrame). q.arrival) (waiting m) place no_frame no_arrival member.1 ∙ ap (λ (z : QueuedFrame). z.arrival) is in
-      let at : instant_of (arrivals_of (waiting m)) place ≡ p.received.at = ap (λ (a : Arrival). a.at.0) arrival in
-      let cycle : instant_of (arrivals_of (waiting m)) place / d.cycle_time ≡ p.received.at / d.cycle_time = ap (λ z. z / d.cycle_time) at in
-      let inside : place < length (arrivals_of (waiting m)) = omega (arith, member.1, length-map (waiting m) (λ (q : QueuedFrame). q.arrival)) in
-      let start = (ports_due m is_link).each place inside (streams_at m place member.1) (omega (arith, cycle, early)) (omega (arith, cycle, early)) in
-      let t = due d.cycle_time (octet_time_of d m) (arrivals_of (waiting m)) place in
-      let sent = sent_at (waiting m) (place, t) in
-      let member = start_sent m is_link place t start in (
+      let is : get_or (waiting m) index no_frame ≡ q = get_or_default (waiting m) index no_frame q member.1 ∙ member.2 in
+      let arrival : get_or (arrivals_of (waiting m)) index no_arrival ≡ q.arrival =
+      get_or-map (λ (q : QueuedFrame). q.arrival) (waiting m) index no_frame no_arrival member.1 ∙ ap (λ (z : QueuedFrame). z.arrival) is in
+      let at : instant_of (arrivals_of (waiting m)) index ≡ p.received.at = ap (λ (a : Arrival). a.at.0) arrival in
+      let cycle : instant_of (arrivals_of (waiting m)) index / d.cycle_time ≡ p.received.at / d.cycle_time = ap (λ z. z / d.cycle_time) at in
+      let inside : index < length (arrivals_of (waiting m)) = omega (arith, member.1, length-map (waiting m) (λ (q : QueuedFrame). q.arrival)) in
+      let start = (ports_due m is_link).each index inside (streams_at m index member.1) (omega (arith, cycle, early)) (omega (arith, cycle, early)) in
+      let t = due d.cycle_time (octet_time_of d m) (arrivals_of (waiting m)) index in
+      let sent = sent_at (waiting m) (index, t) in
+      let member = start_sent m is_link index t start in (
         sent,
         member,
         ap (λ (z : QueuedFrame). z.arrival.frame) is,
         ap number_of is,
         ap (λ (z : QueuedFrame). z.arrival.octets) is,
-        timed m is_link sent place p.received.at member start in_queue at
+        timed m is_link sent index p.received.at member start in_queue at
             (ap (λ (a : Arrival). a.octets) arrival ∙ ap (λ (z : QueuedFrame). z.arrival.octets) (sym is)),
       )

@@ -13,10 +13,10 @@ use Rattle.cqf_model.specs.declared.ports.Arrival.{Arrival}
 use Rattle.cqf_model.specs.Domain.{Domain, bridge_of, guard_of, octet_time_of}
 use Rattle.cqf_model.specs.Port.{class_of, no_arrival}
 use Rattle.cqf_model.specs.Run.{IsBackground, Run, end_of_run}
-use Rattle.cqf_model.specs.Traffic.{Carried, policed_before, whole_at}
+use Rattle.cqf_model.specs.Policing.{Carried, policed_before, whole_at}
 use Rattle.cqf_model.specs.Network.{Network, QueuedFrame, Sends, arrivals_of, comes_before, compiled_lists, no_frame, queued_before, sent_by, sent_of}
-use Rattle.cqf_model.specs.Turn.{busy, cycle_of_place, is_streams, slot_in}
-use Rattle.cqf_laws_cycle.specs.Beside.{IsToldByClass, is_of_stream}
+use Rattle.cqf_model.specs.Due.{busy, cycle_of_index, is_streams, slot_in}
+use Rattle.cqf_laws_cycle.specs.Beside.{IsReportedByClass, is_of_stream}
 use Rattle.cqf_laws_cycle.specs.Compiled.{given_class}
 use Rattle.cqf_laws_cycle.specs.OnePort.{ComeInCycles, IsStreams, IsWithinBudget, StreamsAt}
 use Rattle.cqf_model.proofs.Links.{delay_within, gap_within, guard_within, octet_positive}
@@ -107,16 +107,16 @@ module _ (laws : CycleLaws) (run : Run) (net : Network) (heard : Carried) (legal
   fed m is_link sent c =
       let s = sends m is_link in
       let start = contains_from_flat (sent_of (comes m)) s.starts sent (subst (λ z. Contains z sent) s.are_sent c) in
-      let place = start.0.0 in
-      let first = s.legal.first place start.0.1 start.1 in
-      let in_list : place < length (comes m) = omega (arith, first.waits.inside, length-map (comes m) (λ (q : QueuedFrame). q.arrival)) in
-      let q = get_or (comes m) place no_frame in
+      let index = start.0.0 in
+      let first = s.legal.first index start.0.1 start.1 in
+      let in_list : index < length (comes m) = omega (arith, first.waits.inside, length-map (comes m) (λ (q : QueuedFrame). q.arrival)) in
+      let q = get_or (comes m) index no_frame in
       let is = sent_of_frame start.0.1 q q.stream sent refl start.2 in
-      let arrival = get_or-map (λ (q : QueuedFrame). q.arrival) (comes m) place no_frame no_arrival in_list in
+      let arrival = get_or-map (λ (q : QueuedFrame). q.arrival) (comes m) index no_frame no_arrival in_list in
       let come = subst (λ (z : Arrival). z.at.0 ≤ start.0.1) arrival first.waits.come in
       let open_on = subst (λ (a : Arrival). IsOpenThrough (port_list d.cycle_time (guard_of d m)) a.class start.0.1 (ending_of start.0.1 a.octets (octet_time_of d m)))
-      arrival (s.legal.eligible place start.0.1 start.1) in
-      let there = stream_waits m q (Contains-get_or (comes m) place no_frame in_list) is.0 in
+      arrival (s.legal.eligible index start.0.1 start.1) in
+      let there = stream_waits m q (Contains-get_or (comes m) index no_frame in_list) is.0 in
       let later = starts_later laws.gives d m start.0.1 (policed_before run heard (bridge_of d m) (end_of_run run)) q legal.accepted is_link there come open_on in
       let x = sent_of_queue run heard m q start.0.1 sent there is.1 in
       (x.0, sent_of_queue_later run heard m q start.0.1 sent is.1 later x.0 x.1)
@@ -126,8 +126,8 @@ module _ (laws : CycleLaws) (run : Run) (net : Network) (heard : Carried) (legal
   class_waits m q c = subst (λ z. 6 ≤ z) (sym (queue_class laws run heard planned m q c)) (gives_streams (q.arrival.at.0 / d.cycle_time))
 
   -- a frame is either of a stream, with a stream's class, or of none, with another class
-  told : (m : ℕ) (q : QueuedFrame) → Contains (comes m) q → IsToldByClass q
-  told m q c = elim (comes_of run heard m (length run.tables) q c) [
+  reported : (m : ℕ) (q : QueuedFrame) → Contains (comes m) q → IsReportedByClass q
+  reported m q c = elim (comes_of run heard m (length run.tables) q c) [
     | inl back ↦
         let low = (All-contains (IsBackground d) run.background back.0 legal.background back.1).class_most in
         (λ e. omega (arith, low, back.3), λ e. back.2)
@@ -200,13 +200,13 @@ module _ (laws : CycleLaws) (run : Run) (net : Network) (heard : Carried) (legal
       class_of_frame : (q : QueuedFrame) → Contains (comes m) q → 6 ≤ q.arrival.class → q.arrival.class ≡ given_class (q.arrival.at.0 / d.cycle_time)
       class_of_frame q c high = queue_class laws run heard planned m q (stream_waits m q c (high_is_stream m q c high))
 
-      classes : (place : ℕ) → place < length (arrivals_of (comes m)) → StreamsAt (arrivals_of (comes m)) place →
-          class_of (arrivals_of (comes m)) place ≡ given_class (cycle_of_place d.cycle_time (arrivals_of (comes m)) place)
-      classes place inside high =
-          let in_list : place < length (comes m) = omega (arith, inside, length-map (comes m) (λ (q : QueuedFrame). q.arrival)) in
-          let is = get_or-map (λ (q : QueuedFrame). q.arrival) (comes m) place no_frame no_arrival in_list in
+      classes : (index : ℕ) → index < length (arrivals_of (comes m)) → StreamsAt (arrivals_of (comes m)) index →
+          class_of (arrivals_of (comes m)) index ≡ given_class (cycle_of_index d.cycle_time (arrivals_of (comes m)) index)
+      classes index inside high =
+          let in_list : index < length (comes m) = omega (arith, inside, length-map (comes m) (λ (q : QueuedFrame). q.arrival)) in
+          let is = get_or-map (λ (q : QueuedFrame). q.arrival) (comes m) index no_frame no_arrival in_list in
           subst (λ (z : Arrival). z.class ≡ given_class (z.at.0 / d.cycle_time)) (sym is)
-          (class_of_frame (get_or (comes m) place no_frame) (Contains-get_or (comes m) place no_frame in_list) (subst (λ (z : Arrival). 6 ≤ z.class) is high))
+          (class_of_frame (get_or (comes m) index no_frame) (Contains-get_or (comes m) index no_frame in_list) (subst (λ (z : Arrival). 6 ≤ z.class) is high))
 
   -- so this meets what the law of one port requires
   within : (m : ℕ) → m < length d.links → IsWithinBudget d.cycle_time (guard_of d m) (octet_time_of d m) (arrivals_of (comes m)) (length run.tables)
@@ -222,7 +222,7 @@ module _ (laws : CycleLaws) (run : Run) (net : Network) (heard : Carried) (legal
   -- and each link sends the streams' frames that it may send if they are alone
   sends_alone : (m : ℕ) → m < length d.links → SendsAlone d (end_of_run run) m (waiting m) (carried m)
   sends_alone m is_link =
-      let s = laws.alone d (length run.tables) m (comes m) (carried m) (net.backed m) (all_from_members IsToldByClass (comes m) (told m)) (within m is_link)
+      let s = laws.alone d (length run.tables) m (comes m) (carried m) (net.backed m) (all_from_members IsReportedByClass (comes m) (reported m)) (within m is_link)
       (sends m is_link) in
       let t = subst (λ z. Sends d (compiled_lists d m) (length run.tables * d.cycle_time) m z (carried m) []) (streams m) s in
       record { starts = t.starts; legal = t.legal; are_sent = t.are_sent }

@@ -7,6 +7,7 @@ use Rattle.std.proofs.lemmas.Bool.{cases_Bool, cond-true, cond-false}
 use Rattle.std.proofs.lemmas.List.Elements.{Contains-get_or}
 use Rattle.std.proofs.lemmas.List.FromFn.{get_or-enumerate_from, length-enumerate_from}
 use Rattle.std.proofs.lemmas.List.Sums.{sum_by-append}
+use Rattle.cqf_units.specs.Timing.{counted_of}
 use Rattle.cqf_model.specs.declared.frames.Sent.{Sent}
 use Rattle.cqf_model.specs.declared.topology.Row.{Row}
 use Rattle.cqf_model.specs.Domain.{cycle_of, enters, bridge_of}
@@ -14,12 +15,12 @@ use Rattle.cqf_model.specs.Table.{table_of}
 use Rattle.cqf_model.specs.Port.{Transmission}
 use Rattle.cqf_lists.specs.Lists.{each_below}
 use Rattle.cqf_model.specs.Run.{Run, end_of_run}
-use Rattle.cqf_model.specs.Traffic.{Way, AtEdge, Relayed, Carried, Received, Policed, Verdict, is_offered_at, numbered, offer_received, offered_at, received_at}
-use Rattle.cqf_model.specs.Traffic.{relayed_at, sent_received, whole_at}
+use Rattle.cqf_model.specs.Policing.{Ingress, AtEdge, Relayed, Carried, Received, Policed, Verdict, is_offered_at, numbered, offer_received, offered_at, received_at}
+use Rattle.cqf_model.specs.Policing.{relayed_at, sent_received, whole_at}
 use Rattle.cqf_model.specs.Network.{QueuedFrame, queued_frame, queued_by, no_frame}
 use Rattle.cqf_laws_shift.specs.Alone.{IsRunAs, SendsAlone}
 use Rattle.cqf_lists.proofs.Members.{contains_from_map}
-use Rattle.cqf_lists.proofs.Sums.{sum_map, sum_flat, sum_none, sum_le_below, sum_le_members, sum_matched, sum_member, sum_places, sum_one_below, sum_by_keys}
+use Rattle.cqf_lists.proofs.Sums.{sum_map, sum_flat, sum_none, sum_le_below, sum_le_members, sum_matched, sum_member, sum_indices, sum_one_below, sum_by_keys}
 use Rattle.cqf_laws_shift.proofs.Came.{came, policed, queued}
 use Rattle.cqf_laws_shift.proofs.CycleLaws.{CycleLaws}
 use Rattle.cqf_laws_shift.proofs.Fed.{facts}
@@ -39,12 +40,12 @@ placed_at {X} xs k e inside =
 abbrev pub Weight : Type 0
 Weight = ℕ → ℕ → ℕ → ℕ
 
--- a stream's octets
-abbrev pub of_stream : ℕ → Weight
-of_stream number frame stream octets = if stream == number then octets else 0
+-- the octets of a stream's frame, as gates with this overhead count them; 0 for other frames
+abbrev pub of_stream : ℕ → ℕ → Weight
+of_stream overhead number frame stream octets = if stream == number then counted_of overhead octets else 0
 
 -- what a frame counts if it came by this link
-abbrev pub by_link : ℕ → (ℕ → ℕ) → Way → ℕ
+abbrev pub by_link : ℕ → (ℕ → ℕ) → Ingress → ℕ
 by_link m weight (AtEdge name) = 0
 by_link m weight (Relayed link stream) = if link == m then weight stream else 0
 
@@ -59,25 +60,25 @@ module _ (laws : CycleLaws) (run : Run) (carried : Carried) {heard : Carried} (a
 
   -- what a frame counts that arrives by it
   abbrev pub arriving_counts : ℕ → Received → ℕ
-  arriving_counts cycle x = if cycle_of run.domain x.at == cycle then by_link m (λ stream. w x.frame stream x.octets) x.way else 0
+  arriving_counts cycle x = if cycle_of run.domain x.at == cycle then by_link m (λ stream. w x.frame stream x.octets) x.ingress else 0
 
   -- no frame starts twice
-  starts_apart : (place : ℕ) → AllPairs (λ (a b : Transmission). (a.0 == place) ≡ true → (b.0 == place) ≡ true → ⊥)
+  starts_apart : (index : ℕ) → AllPairs (λ (a b : Transmission). (a.0 == index) ≡ true → (b.0 == index) ≡ true → ⊥)
       (sends laws run carried alone m is_link).starts
-  starts_apart place i j e l inside first second =
+  starts_apart index i j e l inside first second =
       let s = sends laws run carried alone m is_link in
       let a = get_or s.starts i e in
       let b = get_or s.starts j e in
-      let ca : Contains s.starts (place, a.1) =
-      subst (λ z. Contains s.starts (z, a.1)) (eqb-true a.0 place first) (Contains-get_or s.starts i e (omega (arith, l, inside))) in
-      let cb : Contains s.starts (place, b.1) = subst (λ z. Contains s.starts (z, b.1)) (eqb-true b.0 place second) (Contains-get_or s.starts j e inside) in
-      omega (arith, s.legal.once place a.1 b.1 ca cb, s.legal.in_order i j e l inside)
+      let ca : Contains s.starts (index, a.1) =
+      subst (λ z. Contains s.starts (z, a.1)) (eqb-true a.0 index first) (Contains-get_or s.starts i e (omega (arith, l, inside))) in
+      let cb : Contains s.starts (index, b.1) = subst (λ z. Contains s.starts (z, b.1)) (eqb-true b.0 index second) (Contains-get_or s.starts j e inside) in
+      omega (arith, s.legal.once index a.1 b.1 ca cb, s.legal.in_order i j e l inside)
 
   -- what it sends in a cycle was queued in the one before
   pub sent_was_queued : (cycle : ℕ) → sum_by (sent_counts (cycle + 1)) (carried m) ≤ sum_by (queued_counts cycle) (queued run heard (end_of_run run) m)
   sent_was_queued cycle =
       subst (λ z. z ≤ sum_by (queued_counts cycle) q) (sym whole)
-      (subst (λ z. sum_by f s.starts ≤ z) (sum_places (queued_counts cycle) 0 q)
+      (subst (λ z. sum_by f s.starts ≤ z) (sum_indices (queued_counts cycle) 0 q)
       (sum_matched f (λ (y : ℕ × QueuedFrame). queued_counts cycle y.1) (λ (x : Transmission) (y : ℕ × QueuedFrame). x.0 == y.0) s.starts
       (enumerate_from 0 q) has (λ y. starts_apart y.0)))
     where
@@ -109,11 +110,11 @@ module _ (laws : CycleLaws) (run : Run) (carried : Carried) {heard : Carried} (a
       has : (start : Transmission) → Contains s.starts start →
           f start ≤ sum_by (λ (y : ℕ × QueuedFrame). if start.0 == y.0 then queued_counts cycle y.1 else 0) (enumerate_from 0 q)
       has start c =
-          let place = start.0 in
-          let inside = start_in_queue laws run carried alone m is_link place start.1 c in
-          let own = sum_member (λ (y : ℕ × QueuedFrame). if place == y.0 then queued_counts cycle y.1 else 0) (enumerate_from 0 q)
-          (place, get_or q place no_frame) (placed_at q place no_frame inside) in
-          omega (arith, term start c, own, cond-true (place == place) (queued_counts cycle (get_or q place no_frame)) 0 (eq-eqb place place refl))
+          let index = start.0 in
+          let inside = start_in_queue laws run carried alone m is_link index start.1 c in
+          let own = sum_member (λ (y : ℕ × QueuedFrame). if index == y.0 then queued_counts cycle y.1 else 0) (enumerate_from 0 q)
+          (index, get_or q index no_frame) (placed_at q index no_frame inside) in
+          omega (arith, term start c, own, cond-true (index == index) (queued_counts cycle (get_or q index no_frame)) 0 (eq-eqb index index refl))
 
   -- what arrives by the link at a bridge in a cycle is at most what the link sends
   pub arrives_within : (bridge cycle : ℕ) → sum_by (arriving_counts cycle) (came run heard (end_of_run run) bridge) ≤ sum_by (sent_counts cycle) (carried m)
@@ -200,7 +201,7 @@ module _ (laws : CycleLaws) (run : Run) (carried : Carried) {heard : Carried} (a
 module _ (laws : CycleLaws) (run : Run) (carried : Carried) {heard : Carried} (alone : IsRunAs run carried heard) (m : ℕ) (is_link : m < length run.domain.links) where
   -- what is queued of a stream is what its gate let pass
   queued_was_taken : (number cycle : ℕ) →
-      sum_by (queued_counts laws run carried alone m is_link (of_stream number) cycle) (queued run heard (end_of_run run) m) ≤ sum_by
+      sum_by (queued_counts laws run carried alone m is_link (of_stream run.domain.overhead number) cycle) (queued run heard (end_of_run run) m) ≤ sum_by
       (taken run.domain number cycle) (policed run heard (end_of_run run) (bridge_of run.domain m))
   queued_was_taken number cycle =
       let b = bridge_of run.domain m in
@@ -210,7 +211,7 @@ module _ (laws : CycleLaws) (run : Run) (carried : Carried) {heard : Carried} (a
       (policed run heard (end_of_run run) b) (λ p c. one p.received p.verdict))
     where
       f : QueuedFrame → ℕ
-      f = queued_counts laws run carried alone m is_link (of_stream number) cycle
+      f = queued_counts laws run carried alone m is_link (of_stream run.domain.overhead number) cycle
 
       both : (first second : Bool) (v : ℕ) → (if second then (if first then v else 0) else 0) ≡ (if first && second then v else 0)
       both true true v = refl
@@ -221,17 +222,17 @@ module _ (laws : CycleLaws) (run : Run) (carried : Carried) {heard : Carried} (a
       one : (x : Received) (v : Verdict) → sum_by f (queued_by run.domain m x v) ≤ taken run.domain number cycle (record { received = x; verdict = v })
       one x v = elim (one_or_none run.domain m x v) [
         | inl r ↦
-            le_of_eq (ap (sum_by f) r.3 ∙ zero-add (f (queued_frame run.domain x r.0)) ∙ both (r.0.no == number) (cycle_of run.domain x.at == cycle) x.octets
+            le_of_eq (ap (sum_by f) r.3 ∙ zero-add (f (queued_frame run.domain x r.0)) ∙ both (r.0.no == number) (cycle_of run.domain x.at == cycle) (counted_of run.domain.overhead x.octets)
             ∙ ap (λ z. taken run.domain number cycle (record { received = x; verdict = z })) (sym r.1))
         | inr none ↦ omega (arith, ap (sum_by f) none)
       ]
 
   -- so what the link sends of a stream in a cycle is within its reservation
   pub sent_within : (cycle : ℕ) (row : Row) → Contains (table_of run.tables cycle) row →
-      sum_by (sent_counts laws run carried alone m is_link (of_stream row.no) (cycle + 1)) (carried m) ≤ row.octets
+      sum_by (sent_counts laws run carried alone m is_link (of_stream run.domain.overhead row.no) (cycle + 1)) (carried m) ≤ row.octets
   sent_within cycle row c = omega (
     arith,
-    sent_was_queued laws run carried alone m is_link (of_stream row.no) cycle,
+    sent_was_queued laws run carried alone m is_link (of_stream run.domain.overhead row.no) cycle,
     queued_was_taken row.no cycle,
     (facts laws run heard alone.planned (bridge_of run.domain m)).reserved cycle row c,
   )

@@ -8,8 +8,8 @@ use Rattle.cqf_model.specs.declared.frames.Sent.{Sent}
 use Rattle.cqf_model.specs.Domain.{cycle_of, bridge_of}
 use Rattle.cqf_model.specs.Table.{row_of, table_of}
 use Rattle.cqf_model.specs.Run.{IsOffer, Run, end_of_run}
-use Rattle.cqf_model.specs.Traffic.{Relayed, Carried, Received, Policed, DroppedFor, offer_received, police_all}
-use Rattle.cqf_model.specs.Traffic.{verdict_by, within_gate}
+use Rattle.cqf_model.specs.Policing.{Relayed, Carried, Received, Policed, DroppedFor, offer_received, police_all}
+use Rattle.cqf_model.specs.Policing.{verdict_by, within_gate}
 use Rattle.cqf_model.specs.Shift.{InShift, IsUncovered, offer_cycle}
 use Rattle.cqf_laws_shift.specs.Alone.{IsPlanned, IsRunAs}
 use Rattle.cqf_units.proofs.Cycles.{cycle_below}
@@ -21,7 +21,7 @@ use Rattle.cqf_laws_shift.proofs.Fed.{before_end, facts, some_time}
 use Rattle.cqf_laws_shift.proofs.Policing.{has_come}
 use Rattle.cqf_laws_shift.proofs.Runs.{queued_starts, sent_timed}
 use Rattle.cqf_laws_shift.proofs.Trees.{hop_inside}
-use Rattle.cqf_laws_shift.proofs.Ways.{comes_on, covered_tree, on_way}
+use Rattle.cqf_laws_shift.proofs.Paths.{comes_on, covered_tree, on_path}
 
 module _ (laws : CycleLaws) (run : Run) (carried : Carried) {heard : Carried} (alone : IsRunAs run carried heard) where
   -- what a link sends is in the shift
@@ -29,15 +29,15 @@ module _ (laws : CycleLaws) (run : Run) (carried : Carried) {heard : Carried} (a
       InShift run (length run.tables) sent.frame link (cycle_of run.domain sent.start.0)
   sent_in_shift link is_link sent c =
       let s = sent_timed laws run carried alone link is_link sent c in
-      let way = on_way laws run carried alone (bridge_of run.domain link) s.0.p s.0.row link s.0.inside s.0.verdict s.0.goes in
+      let ingress = on_path laws run carried alone (bridge_of run.domain link) s.0.p s.0.row link s.0.inside s.0.verdict s.0.goes in
       record {
-        x = way.x;
-        row = way.first_row;
-        depth = way.depth;
-        covered = way.covered;
-        is_frame = s.0.frame ∙ way.frame;
-        is_hop = way.at_depth;
-        is_cycle = s.1.cycle ∙ way.cycle;
+        x = ingress.x;
+        row = ingress.first_row;
+        hop_number = ingress.hop_number;
+        covered = ingress.covered;
+        is_frame = s.0.frame ∙ ingress.frame;
+        is_hop = ingress.at_hop_number;
+        is_cycle = s.1.cycle ∙ ingress.cycle;
         within_run = omega (arith, cycle_below run.domain.cycle_time _ (length run.tables) s.1.in_run, s.1.whole);
       }
 
@@ -52,8 +52,8 @@ module _ (laws : CycleLaws) (run : Run) (carried : Carried) {heard : Carried} (a
   -- the link sends each frame of the shift
   pub shift_is_sent : (frame link cycle : ℕ) → InShift run (length run.tables) frame link cycle → IsSentInCycle frame link cycle
   shift_is_sent frame link cycle s =
-      let is_link = hop_inside run.domain s.row (covered_tree laws run carried alone s.x s.row s.covered) s.depth link s.is_hop in
-      let q = comes_on laws run carried alone s.x s.row s.covered s.depth link s.is_hop (omega (arith, s.is_cycle, s.within_run)) in
+      let is_link = hop_inside run.domain s.row (covered_tree laws run carried alone s.x s.row s.covered) s.hop_number link s.is_hop in
+      let q = comes_on laws run carried alone s.x s.row s.covered s.hop_number link s.is_hop (omega (arith, s.is_cycle, s.within_run)) in
       let sent = queued_starts laws run carried alone link is_link q.p q.late q.inside q.verdict q.goes (omega (arith, q.cycle, s.is_cycle, s.within_run)) in
       record {
         is_link = is_link;
@@ -81,21 +81,21 @@ module _ (laws : CycleLaws) (run : Run) (heard : Carried) (planned : IsPlanned r
     where
       inside : IsRelayed run heard (end_of_run run) bridge p.received → ⊥
       inside r =
-          let b = (facts laws run heard planned bridge).behind p c in
+          let b = (facts laws run heard planned bridge).following p c in
           let earlier = [] ++ police_all run.domain run.tables bridge [] b.before in
           let cycle = cycle_of run.domain b.x.at in
-          let way : b.x.way ≡ Relayed r.m r.sent.stream = ap (λ (z : Policed). z.received.way) (sym b.is) ∙ ap (λ (z : Received). z.way) (sym r.is) in
+          let ingress : b.x.ingress ≡ Relayed r.m r.sent.stream = ap (λ (z : Policed). z.received.ingress) (sym b.is) ∙ ap (λ (z : Received). z.ingress) (sym r.is) in
           inside_drops_none run.domain bridge r.m (λ k. within_gate run.domain earlier k b.x) (row_of (table_of run.tables cycle) r.sent.stream) reason
-          (sym (ap (verdict_by run.domain (table_of run.tables cycle) bridge cycle (λ k. within_gate run.domain earlier k b.x)) way)
+          (sym (ap (verdict_by run.domain (table_of run.tables cycle) bridge cycle (λ k. within_gate run.domain earlier k b.x)) ingress)
           ∙ ap (λ (z : Policed). z.verdict) (sym b.is) ∙ e)
 
   -- an offer is dropped
   pub record IsDropped (x : Offered) (reason : Reason) : Type 0 where
     pub inside : Contains (policed run heard (end_of_run run) x.offer.bridge) (record { received = offer_received x; verdict = DroppedFor reason })
     pub is_bridge : x.offer.bridge < length run.domain.bridges
-    pub place : ℕ
-    pub is_place : place < length run.offers
-    pub frame : x.frame ≡ place + 1
+    pub index : ℕ
+    pub is_index : index < length run.offers
+    pub frame : x.frame ≡ index + 1
 
   -- each offer of the run that isn't covered is dropped at its bridge
   pub uncovered_dropped : (x : Offered) (reason : Reason) → IsUncovered run x reason → offer_cycle run.domain x < length run.tables → IsDropped x reason
@@ -108,7 +108,7 @@ module _ (laws : CycleLaws) (run : Run) (heard : Carried) (planned : IsPlanned r
         inside = subst (λ z. Contains (policed run heard (end_of_run run) x.offer.bridge) (record { received = offer_received x; verdict = z }))
             (uncovered_judged run x reason uncovered) there;
         is_bridge = good.at_bridge;
-        place = x.frame - 1;
-        is_place = omega (arith, placed.1, placed.2);
+        index = x.frame - 1;
+        is_index = omega (arith, placed.1, placed.2);
         frame = omega (arith, placed.1);
       }

@@ -9,7 +9,7 @@ use Rattle.cqf_model.specs.declared.topology.Row.{Row}
 use Rattle.cqf_model.specs.Domain.{Domain, cycle_of, bridge_of}
 use Rattle.cqf_model.specs.Run.{Run, end_of_run}
 use Rattle.cqf_model.specs.Table.{IsHop}
-use Rattle.cqf_model.specs.Traffic.{Way, AtEdge, Relayed, Carried, Received, Policed, Verdict, Queued, came_by}
+use Rattle.cqf_model.specs.Policing.{Ingress, AtEdge, Relayed, Carried, Received, Policed, Verdict, Queued, came_by}
 use Rattle.cqf_model.specs.Network.{QueuedFrame, queued_frame, queued_by, no_frame}
 use Rattle.cqf_model.specs.Shift.{IsCovered, offer_cycle, row_for}
 use Rattle.cqf_laws_shift.specs.Alone.{IsRunAs}
@@ -22,21 +22,21 @@ use Rattle.cqf_laws_shift.proofs.Queues.{one_or_none}
 use Rattle.cqf_laws_shift.proofs.Fed.{number_of}
 use Rattle.cqf_laws_shift.proofs.Runs.{heard_timed, sends, sent_at, sent_for}
 use Rattle.cqf_laws_shift.proofs.SentSums.{Weight, arrives_within, arriving_counts, by_link, queued_counts, sent_counts, sent_was_queued}
-use Rattle.cqf_laws_shift.proofs.Trees.{GoesBy, one_depth, one_way, same_goes}
-use Rattle.cqf_laws_shift.proofs.Ways.{covered_tree, on_way, queued_member, same_stream}
+use Rattle.cqf_laws_shift.proofs.Trees.{GoesBy, one_hop_number, one_ingress, same_goes}
+use Rattle.cqf_laws_shift.proofs.Paths.{covered_tree, on_path, queued_member, same_stream}
 
 -- a frame counts if it has this number
 abbrev pub of_frame : ℕ → Weight
 of_frame frame number stream octets = if number == frame then 1 else 0
 
 -- an offer of this number counts
-pub counts_offer : (frame : ℕ) (way : Way) (number : ℕ) → came_by way ≡ None → number ≡ frame → offered_counts frame way number ≡ 1
+pub counts_offer : (frame : ℕ) (ingress : Ingress) (number : ℕ) → came_by ingress ≡ None → number ≡ frame → offered_counts frame ingress number ≡ 1
 counts_offer frame (AtEdge name) number e is = cond-true {A = ℕ} (number == frame) 1 0 (eq-eqb number frame is)
 counts_offer frame (Relayed m stream) number e is = absurd (cc)
 
 -- and a frame of this number that came by the link counts
-counts_relayed : (frame m octets : ℕ) (way : Way) (number : ℕ) → came_by way ≡ Some m → number ≡ frame →
-    by_link m (λ stream. of_frame frame number stream octets) way ≡ 1
+counts_relayed : (frame m octets : ℕ) (ingress : Ingress) (number : ℕ) → came_by ingress ≡ Some m → number ≡ frame →
+    by_link m (λ stream. of_frame frame number stream octets) ingress ≡ 1
 counts_relayed frame m octets (AtEdge name) number e is = absurd (cc)
 counts_relayed frame m octets (Relayed link stream) number e is =
     let same : link ≡ m = same_Some link m e in
@@ -61,28 +61,28 @@ module _ (laws : CycleLaws) (run : Run) (carried : Carried) {heard : Carried} (a
   pub record AreAlike (p q : Policed) (row late : Row) : Type 0 where
     pub tree : row.tree.items ≡ late.tree.items
     pub cycle : cycle_of run.domain p.received.at ≡ cycle_of run.domain q.received.at
-    pub way : came_by p.received.way ≡ came_by q.received.way
+    pub ingress : came_by p.received.ingress ≡ came_by q.received.ingress
 
   -- this holds for them
   alike : (bridge other m : ℕ) (p q : Policed) (row late : Row) → Contains (given bridge) p → Contains (given other) q → p.verdict ≡ Queued row →
-      q.verdict ≡ Queued late → GoesBy row (came_by p.received.way) m → GoesBy late (came_by q.received.way) m →
+      q.verdict ≡ Queued late → GoesBy row (came_by p.received.ingress) m → GoesBy late (came_by q.received.ingress) m →
       p.received.frame ≡ q.received.frame → AreAlike p q row late
   alike bridge other m p q row late pc qc pv qv pg qg frames =
-      let pw = on_way laws run carried alone bridge p row m pc pv pg in
-      let qw = on_way laws run carried alone other q late m qc qv qg in
+      let pw = on_path laws run carried alone bridge p row m pc pv pg in
+      let qw = on_path laws run carried alone other q late m qc qv qg in
       let one = same_offer pw.x qw.x pw.first_row qw.first_row pw.covered qw.covered (sym pw.frame ∙ frames ∙ qw.frame) in
       let number : row.no ≡ late.no = pw.number ∙ ap (λ (z : Row). z.no) one.1 ∙ sym qw.number in
       let in_p = queued_member laws run carried alone bridge p row pc pv in
       let in_q = queued_member laws run carried alone other q late qc qv in
       let tree = (same_stream laws run carried alone (cycle_of d p.received.at) (cycle_of d q.received.at) row late in_p in_q number).tree in
-      let depths : pw.depth ≡ qw.depth =
-      one_depth d pw.first_row (covered_tree laws run carried alone pw.x pw.first_row pw.covered) pw.depth qw.depth m pw.at_depth
-      (subst (λ (z : Row). IsHop z qw.depth m) (sym one.1) qw.at_depth) in
+      let hop_numbers : pw.hop_number ≡ qw.hop_number =
+      one_hop_number d pw.first_row (covered_tree laws run carried alone pw.x pw.first_row pw.covered) pw.hop_number qw.hop_number m pw.at_hop_number
+      (subst (λ (z : Row). IsHop z qw.hop_number m) (sym one.1) qw.at_hop_number) in
       record {
         tree = tree;
-        cycle = omega (arith, pw.cycle, qw.cycle, depths, ap (offer_cycle d) one.0);
-        way = one_way d row (alone.planned.orderly.trees (cycle_of d p.received.at) row in_p) (came_by p.received.way) (came_by q.received.way) m pg
-            (same_goes late row (came_by q.received.way) m (sym tree) qg);
+        cycle = omega (arith, pw.cycle, qw.cycle, hop_numbers, ap (offer_cycle d) one.0);
+        ingress = one_ingress d row (alone.planned.orderly.trees (cycle_of d p.received.at) row in_p) (came_by p.received.ingress) (came_by q.received.ingress) m pg
+            (same_goes late row (came_by q.received.ingress) m (sym tree) qg);
       }
 
   -- what a frame counts at a port
@@ -95,7 +95,7 @@ module _ (laws : CycleLaws) (run : Run) (carried : Carried) {heard : Carried} (a
   record Counts (m cycle frame : ℕ) (x : Received) (v : Verdict) : Type 0 where
     row : Row
     verdict : v ≡ Queued row
-    goes : GoesBy row (came_by x.way) m
+    goes : GoesBy row (came_by x.ingress) m
     in_cycle : cycle_of run.domain x.at ≡ cycle
     is_frame : x.frame ≡ frame
     one : port_counts m cycle frame (record { received = x; verdict = v }) ≡ 1
@@ -141,17 +141,17 @@ module _ (laws : CycleLaws) (run : Run) (carried : Carried) {heard : Carried} (a
         (sum_le_members (port_counts m cycle frame) (λ p. h p.received) (given b) each))
 
     -- another one came the same way
-    came_alike : (p : Policed) → Contains (given b) p → (n : Counts m cycle frame p.received p.verdict) → came_by p.received.way ≡ came_by p0.received.way
-    came_alike p c n = (alike b b m p p0 n.row n0.row c c0 n.verdict n0.verdict n.goes n0.goes (n.is_frame ∙ sym n0.is_frame)).way
+    came_alike : (p : Policed) → Contains (given b) p → (n : Counts m cycle frame p.received p.verdict) → came_by p.received.ingress ≡ came_by p0.received.ingress
+    came_alike p c n = (alike b b m p p0 n.row n0.row c c0 n.verdict n0.verdict n.goes n0.goes (n.is_frame ∙ sym n0.is_frame)).ingress
 
     -- it came from the edge once
-    from_edge : came_by p0.received.way ≡ None → sum_by (port_counts m cycle frame) (given b) ≤ 1
-    from_edge edge = le_trans (by_received (λ x. offered_counts frame x.way x.frame) each) (offers_single run heard (end_of_run run) b frame)
+    from_edge : came_by p0.received.ingress ≡ None → sum_by (port_counts m cycle frame) (given b) ≤ 1
+    from_edge edge = le_trans (by_received (λ x. offered_counts frame x.ingress x.frame) each) (offers_single run heard (end_of_run run) b frame)
       where
-        each : (p : Policed) → Contains (given b) p → port_counts m cycle frame p ≤ offered_counts frame p.received.way p.received.frame
+        each : (p : Policed) → Contains (given b) p → port_counts m cycle frame p ≤ offered_counts frame p.received.ingress p.received.frame
         each p c = elim (port_value m cycle frame p.received p.verdict) [
           | inl z ↦ omega (arith, z)
-          | inr n ↦ omega (arith, n.one, counts_offer frame p.received.way p.received.frame (came_alike p c n ∙ edge) n.is_frame)
+          | inr n ↦ omega (arith, n.one, counts_offer frame p.received.ingress p.received.frame (came_alike p c n ∙ edge) n.is_frame)
         ]
 
     -- and by a link once, if it was at the port before once
@@ -174,11 +174,11 @@ module _ (laws : CycleLaws) (run : Run) (carried : Carried) {heard : Carried} (a
         each p c = elim (port_value m cycle frame p.received p.verdict) [
           | inl z ↦ omega (arith, z)
           | inr n ↦
-              let link : came_by p.received.way ≡ Some r.m = came_alike p c n ∙ ap (λ (z : Received). came_by z.way) (sym r.is) in
+              let link : came_by p.received.ingress ≡ Some r.m = came_alike p c n ∙ ap (λ (z : Received). came_by z.ingress) (sym r.is) in
               let value : arriving_counts laws run carried alone r.m r.is_link (of_frame frame) cycle p.received ≡ 1 =
-              cond-true (cycle_of d p.received.at == cycle) (by_link r.m (λ stream. of_frame frame p.received.frame stream p.received.octets) p.received.way) 0
+              cond-true (cycle_of d p.received.at == cycle) (by_link r.m (λ stream. of_frame frame p.received.frame stream p.received.octets) p.received.ingress) 0
               (eq-eqb (cycle_of d p.received.at) cycle n.in_cycle)
-              ∙ counts_relayed frame r.m p.received.octets p.received.way p.received.frame link n.is_frame in
+              ∙ counts_relayed frame r.m p.received.octets p.received.ingress p.received.frame link n.is_frame in
               omega (arith, n.one, value)
         ]
 
@@ -198,7 +198,7 @@ module _ (laws : CycleLaws) (run : Run) (carried : Carried) {heard : Carried} (a
               (has_come d run.tables (bridge_of d m) (came run heard (end_of_run run) (bridge_of d m)) (given (bridge_of d m))
               (facts laws run heard alone.planned (bridge_of d m)) w.0 w.1)) [
                 | inl r ↦ from_link m cycle frame w.0 w.1 n r ih
-                | inr o ↦ from_edge m cycle frame w.0 w.1 n (ap (λ (z : Received). came_by z.way) (sym o.is))
+                | inr o ↦ from_edge m cycle frame w.0 w.1 n (ap (λ (z : Received). came_by z.ingress) (sym o.is))
               ]
         ]
       ])
@@ -227,13 +227,13 @@ module _ (laws : CycleLaws) (run : Run) (carried : Carried) {heard : Carried} (a
       let limit = single cycle m is_link a.frame in
       let one_a = counts_one cycle a.frame qa.p.received qa.row refl (sym qa.frame) in
       let one_b = counts_one cycle a.frame qb.p.received qb.row (sym same.cycle) (sym qb.frame ∙ sym frames) in
-      let at_a : f (get_or (queued run heard (end_of_run run) m) sa.0.place no_frame) ≡ 1 = ap f (sym sa.0.at_place) ∙ one_a in
-      let at_b : f (get_or (queued run heard (end_of_run run) m) sb.0.place no_frame) ≡ 1 = ap f (sym sb.0.at_place) ∙ one_b in
-      elim (cases_order sa.0.place sb.0.place) [
-        | inl places ↦
-            let start = (sends laws run carried alone m is_link).legal.once sb.0.place a.start.0 b.start.0
-            (subst (λ z. Contains (sends laws run carried alone m is_link).starts (z, a.start.0)) places sa.1) sb.1 in
-            sym sa.0.is ∙ ap₂ (λ p s. sent_at (queued run heard (end_of_run run) m) (p, s)) places start ∙ sb.0.is
+      let at_a : f (get_or (queued run heard (end_of_run run) m) sa.0.index no_frame) ≡ 1 = ap f (sym sa.0.at_index) ∙ one_a in
+      let at_b : f (get_or (queued run heard (end_of_run run) m) sb.0.index no_frame) ≡ 1 = ap f (sym sb.0.at_index) ∙ one_b in
+      elim (cases_order sa.0.index sb.0.index) [
+        | inl indices ↦
+            let start = (sends laws run carried alone m is_link).legal.once sb.0.index a.start.0 b.start.0
+            (subst (λ z. Contains (sends laws run carried alone m is_link).starts (z, a.start.0)) indices sa.1) sb.1 in
+            sym sa.0.is ∙ ap₂ (λ p s. sent_at (queued run heard (end_of_run run) m) (p, s)) indices start ∙ sb.0.is
         | inr o ↦ elim o [
           | inl less ↦ absurd (omega (
             arith,
@@ -241,7 +241,7 @@ module _ (laws : CycleLaws) (run : Run) (carried : Carried) {heard : Carried} (a
             at_a,
             at_b,
             sum_two f
-                (queued run heard (end_of_run run) m) sa.0.place sb.0.place no_frame less sb.0.in_queue,
+                (queued run heard (end_of_run run) m) sa.0.index sb.0.index no_frame less sb.0.in_queue,
           ))
           | inr more ↦ absurd (omega (
             arith,
@@ -249,7 +249,7 @@ module _ (laws : CycleLaws) (run : Run) (carried : Carried) {heard : Carried} (a
             at_a,
             at_b,
             sum_two f
-                (queued run heard (end_of_run run) m) sb.0.place sa.0.place no_frame more sa.0.in_queue,
+                (queued run heard (end_of_run run) m) sb.0.index sa.0.index no_frame more sa.0.in_queue,
           ))
         ]
       ]

@@ -8,11 +8,12 @@ use Rattle.std.proofs.lemmas.List.Kept.{AllPairs-filter}
 use Rattle.std.proofs.lemmas.List.Sums.{fold_push, sum_by_push}
 use Rattle.cqf_model.specs.declared.frames.Offer.{Offer}
 use Rattle.cqf_model.specs.declared.frames.Offered.{Offered}
+use Rattle.cqf_units.specs.Timing.{counted_of}
 use Rattle.cqf_model.specs.declared.topology.Row.{Row}
 use Rattle.cqf_model.specs.Domain.{Domain, is_text}
 use Rattle.cqf_lists.specs.Lists.{each_below}
 use Rattle.cqf_model.specs.Table.{begins_at, is_live, row_named, table_of}
-use Rattle.cqf_model.specs.Traffic.{numbered}
+use Rattle.cqf_model.specs.Policing.{numbered}
 use Rattle.cqf_model.specs.Shift.{claims, offer_cycle, offers_at, offers_before, take_octets, taken_by}
 use Rattle.cqf_laws_shift.specs.Edge.{IsCoveredIn, TakenIsCovered}
 use Rattle.cqf_lists.proofs.Members.{contains_here, contains_from_filter, find_member, parted_at}
@@ -120,12 +121,12 @@ taken_is_covered run row cycle x counts orderly inside live here counted =
 
     -- whether an offer requires octets of the row in the cycle, and no more than are left
     tests : Offered → ℕ → Bool
-    tests z taken = claims d row cycle z && nat_le (taken + z.offer.octets) (reserved_in row 0 cycle)
+    tests z taken = claims d row cycle z && nat_le (taken + counted_of d.overhead z.offer.octets) (reserved_in row 0 cycle)
 
     -- an offer that passes after what those before it take is covered by the row in the cycle
     covers : (z : Offered) → Contains (numbered run.offers) z → tests z (taken_by d row cycle (offers_before run.offers z)) ≡ true → IsCoveredIn run row cycle z
     covers z member t =
-        let both = and_parts (claims d row cycle z) (nat_le (taken_by d row cycle (offers_before run.offers z) + z.offer.octets) (reserved_in row 0 cycle)) t in
+        let both = and_parts (claims d row cycle z) (nat_le (taken_by d row cycle (offers_before run.offers z) + counted_of d.overhead z.offer.octets) (reserved_in row 0 cycle)) t in
         let three = and_three (offer_cycle d z == cycle) (is_text row.name z.offer.stream) (begins_at d row z.offer.bridge) both.0 in
         let same = eqb-true (offer_cycle d z) cycle three.0 in
         record {
@@ -135,8 +136,8 @@ taken_is_covered run row cycle x counts orderly inside live here counted =
                 ∙ found_by_name d run.tables orderly cycle row z.offer.stream inside three.1;
             live = ap (is_live row) same ∙ live;
             first_bridge = three.2;
-            within = subst (λ c. taken_by d row c (offers_before run.offers z) + z.offer.octets ≤ reserved_in row 0 c) (sym same)
-                (leb-true (taken_by d row cycle (offers_before run.offers z) + z.offer.octets) (reserved_in row 0 cycle) both.1);
+            within = subst (λ c. taken_by d row c (offers_before run.offers z) + counted_of d.overhead z.offer.octets ≤ reserved_in row 0 c) (sym same)
+                (leb-true (taken_by d row cycle (offers_before run.offers z) + counted_of d.overhead z.offer.octets) (reserved_in row 0 cycle) both.1);
           };
           in_cycle = same;
         }
@@ -145,11 +146,11 @@ taken_is_covered run row cycle x counts orderly inside live here counted =
     tested : (z : Offered) → IsCoveredIn run row cycle z → tests z (taken_by d row cycle (offers_before run.offers z)) ≡ true
     tested z c =
         let named = (find_member (λ (r : Row). is_text r.name z.offer.stream) (table_of run.tables (offer_cycle d z)) row c.covered.named).1 in
-        and_from (claims d row cycle z) (nat_le (taken_by d row cycle (offers_before run.offers z) + z.offer.octets) (reserved_in row 0 cycle))
+        and_from (claims d row cycle z) (nat_le (taken_by d row cycle (offers_before run.offers z) + counted_of d.overhead z.offer.octets) (reserved_in row 0 cycle))
         (three_and (offer_cycle d z == cycle) (is_text row.name z.offer.stream) (begins_at d row z.offer.bridge)
         (eq-eqb (offer_cycle d z) cycle c.in_cycle) named c.covered.first_bridge)
-        (le-leb (taken_by d row cycle (offers_before run.offers z) + z.offer.octets) (reserved_in row 0 cycle)
-        (subst (λ c. taken_by d row c (offers_before run.offers z) + z.offer.octets ≤ reserved_in row 0 c) c.in_cycle c.covered.within))
+        (le-leb (taken_by d row cycle (offers_before run.offers z) + counted_of d.overhead z.offer.octets) (reserved_in row 0 cycle)
+        (subst (λ c. taken_by d row c (offers_before run.offers z) + counted_of d.overhead z.offer.octets ≤ reserved_in row 0 c) c.in_cycle c.covered.within))
 
     -- if the count is the octets exactly if the test passes, and else 0, what is taken grows by the count
     by_test : (b : Bool) (taken octets count : ℕ) → (b ≡ true → count ≡ octets) → (b ≡ false → count ≡ 0) →
@@ -165,5 +166,5 @@ taken_is_covered run row cycle x counts orderly inside live here counted =
         let member = (before_member run.offers x z
         (subst (λ w. Contains w z) (sym parts) (Contains-append_right first (z ∷ last) z (contains_here z last)))).0 in
         subst (λ w. take_octets d row cycle (taken_by d row cycle w) z ≡ taken_by d row cycle w + counts z) (sym same)
-        (by_test (tests z (taken_by d row cycle (offers_before run.offers z))) (taken_by d row cycle (offers_before run.offers z)) z.offer.octets (counts z)
+        (by_test (tests z (taken_by d row cycle (offers_before run.offers z))) (taken_by d row cycle (offers_before run.offers z)) (counted_of d.overhead z.offer.octets) (counts z)
         (λ t. counted.covered z (covers z member t)) (λ f. counted.others z member (λ c. false≢true (sym f ∙ tested z c))))

@@ -5,16 +5,16 @@ use Rattle.std.specs.Option.{option_map_or}
 use Rattle.std.proofs.lemmas.Bool.{and_from, false≢true}
 use Rattle.std.proofs.lemmas.List.Elements.{All-contains}
 use Rattle.std.proofs.lemmas.Option.{slice_get_read}
-use Rattle.cqf_model.proofs.Links.{same_way_true}
+use Rattle.cqf_model.proofs.Links.{same_ingress_true}
 use Rattle.cqf_model.specs.declared.topology.Hop.{Hop}
 use Rattle.cqf_model.specs.declared.topology.Link.{Link}
 use Rattle.cqf_model.specs.declared.topology.Node.{Node}
 use Rattle.cqf_model.specs.declared.topology.Node.TheVariants.{Bridge, Station}
 use Rattle.cqf_model.specs.declared.topology.Row.{Row}
 use Rattle.cqf_model.specs.Domain.{Domain, bridge_of, end_of, enters, joins, leaves, node_is}
-use Rattle.cqf_model.specs.Table.{Follows, IsHop, IsTree, crosses, depth_behind, goes_on, goes_to, residence, same_way, uses}
-use Rattle.cqf_model.specs.Paces.{is_turn}
-use Rattle.cqf_model.proofs.Paces.{turn_on}
+use Rattle.cqf_model.specs.Table.{Follows, IsHop, IsTree, crosses, goes_on, goes_to, hop_number_after, residence, same_ingress, uses}
+use Rattle.cqf_model.specs.Paces.{is_active}
+use Rattle.cqf_model.proofs.Paces.{active_cycle_on}
 use Rattle.cqf_lists.proofs.Members.{any_member, member_any, contains_map, contains_from_map, contains_filter, contains_from_filter, contains_here}
 use Rattle.cqf_lists.proofs.Members.{contains_later, contains_cases, contains_none, find_member, find_some}
 use Rattle.cqf_lists.proofs.Pairs.{one_of_pairs}
@@ -79,11 +79,11 @@ joined_enters d m l joined = go (slice_get d.links l) joined
     go (Some link) e = e
 
 -- and conversely
-true_same_way : (a b : Option ℕ) → a ≡ b → same_way a b ≡ true
-true_same_way None None e = refl
-true_same_way None (Some m) e = absurd (cc)
-true_same_way (Some l) None e = absurd (cc)
-true_same_way (Some l) (Some m) e = eq-eqb l m (cc)
+true_same_ingress : (a b : Option ℕ) → a ≡ b → same_ingress a b ≡ true
+true_same_ingress None None e = refl
+true_same_ingress None (Some m) e = absurd (cc)
+true_same_ingress (Some l) None e = absurd (cc)
+true_same_ingress (Some l) (Some m) e = eq-eqb l m (cc)
 
 -- the first elements of a list are members of it
 contains_take : {X : Type 0} (n : ℕ) (xs : List X) (x : X) → Contains (take n xs) x → Contains xs x
@@ -95,82 +95,82 @@ contains_take (suc n) (y ∷ xs) x c = elim (contains_cases y (take n xs) x c) [
 ]
 
 -- no hop has a greater hop number than the deepest
-deepest : (most : ℕ) (tree : List Hop) → most ≤ fold (λ most (hop : Hop). max most hop.depth) most tree
-deepest most [] = omega arith
-deepest most (hop ∷ tree) = omega (arith, deepest (max most hop.depth) tree)
+greatest_hop_number : (most : ℕ) (tree : List Hop) → most ≤ fold (λ most (hop : Hop). max most hop.hop_number) most tree
+greatest_hop_number most [] = omega arith
+greatest_hop_number most (hop ∷ tree) = omega (arith, greatest_hop_number (max most hop.hop_number) tree)
 
 -- so each is within the residence
-within_deepest : (most : ℕ) (tree : List Hop) (hop : Hop) → Contains tree hop → hop.depth ≤ fold (λ most (hop : Hop). max most hop.depth) most tree
+within_deepest : (most : ℕ) (tree : List Hop) (hop : Hop) → Contains tree hop → hop.hop_number ≤ fold (λ most (hop : Hop). max most hop.hop_number) most tree
 within_deepest most [] hop c = absurd (contains_none hop c)
 within_deepest most (one ∷ tree) hop c = elim (contains_cases one tree hop c) [
-  | inl e ↦ omega (arith, deepest (max most one.depth) tree, ap (λ (z : Hop). z.depth) e)
-  | inr h ↦ within_deepest (max most one.depth) tree hop h
+  | inl e ↦ omega (arith, greatest_hop_number (max most one.hop_number) tree, ap (λ (z : Hop). z.hop_number) e)
+  | inr h ↦ within_deepest (max most one.hop_number) tree hop h
 ]
 
 -- a stream goes on by a link, after the link before or from the edge, by a hop of its tree
-pub record GoesBy (row : Row) (way : Option ℕ) (l : ℕ) : Type 0 where
+pub record GoesBy (row : Row) (ingress : Option ℕ) (l : ℕ) : Type 0 where
   pub hop : Hop
   pub of_tree : Contains row.tree.items hop
-  pub from : hop.from ≡ way
+  pub from : hop.from ≡ ingress
   pub is_link : hop.link ≡ l
 
 -- a frame goes on only by such links
-pub goes_by : (row : Row) (way : Option ℕ) (l : ℕ) → Contains (goes_to row way) l → GoesBy row way l
-goes_by row way l c =
-    let hop = contains_from_map (λ (hop : Hop). hop.link) (filter (λ (hop : Hop). same_way hop.from way) row.tree.items) l c in
-    let kept = contains_from_filter (λ (hop : Hop). same_way hop.from way) row.tree.items hop.0 hop.1 in
-    record { hop = hop.0; of_tree = kept.0; from = same_way_true hop.0.from way kept.1; is_link = hop.2 }
+pub goes_by : (row : Row) (ingress : Option ℕ) (l : ℕ) → Contains (goes_to row ingress) l → GoesBy row ingress l
+goes_by row ingress l c =
+    let hop = contains_from_map (λ (hop : Hop). hop.link) (filter (λ (hop : Hop). same_ingress hop.from ingress) row.tree.items) l c in
+    let kept = contains_from_filter (λ (hop : Hop). same_ingress hop.from ingress) row.tree.items hop.0 hop.1 in
+    record { hop = hop.0; of_tree = kept.0; from = same_ingress_true hop.0.from ingress kept.1; is_link = hop.2 }
 
 -- and all of them
-pub by_goes : (row : Row) (way : Option ℕ) (l : ℕ) → GoesBy row way l → Contains (goes_to row way) l
-by_goes row way l by =
-    let kept = contains_filter (λ (hop : Hop). same_way hop.from way) row.tree.items by.hop by.of_tree (true_same_way by.hop.from way by.from) in
-    subst (λ z. Contains (goes_to row way) z) by.is_link
-    (contains_map (λ (hop : Hop). hop.link) (filter (λ (hop : Hop). same_way hop.from way) row.tree.items) by.hop kept)
+pub by_goes : (row : Row) (ingress : Option ℕ) (l : ℕ) → GoesBy row ingress l → Contains (goes_to row ingress) l
+by_goes row ingress l by =
+    let kept = contains_filter (λ (hop : Hop). same_ingress hop.from ingress) row.tree.items by.hop by.of_tree (true_same_ingress by.hop.from ingress by.from) in
+    subst (λ z. Contains (goes_to row ingress) z) by.is_link
+    (contains_map (λ (hop : Hop). hop.link) (filter (λ (hop : Hop). same_ingress hop.from ingress) row.tree.items) by.hop kept)
 
 -- if it goes on from a bridge, it does so by a link that leaves the bridge
-pub goes_on_by : (d : Domain) (row : Row) (way : Option ℕ) (bridge : ℕ) → goes_on d row way bridge ≡ true → (l : ℕ) × GoesBy row way l ×
+pub goes_on_by : (d : Domain) (row : Row) (ingress : Option ℕ) (bridge : ℕ) → goes_on d row ingress bridge ≡ true → (l : ℕ) × GoesBy row ingress l ×
     (leaves d l bridge ≡ true)
-goes_on_by d row way bridge e =
-    let r = any_member (λ l. leaves d l bridge) (goes_to row way) e in
-    (r.0, goes_by row way r.0 r.1, r.2)
+goes_on_by d row ingress bridge e =
+    let r = any_member (λ l. leaves d l bridge) (goes_to row ingress) e in
+    (r.0, goes_by row ingress r.0 r.1, r.2)
 
 -- and if there is such a link, it goes on
-pub by_goes_on : (d : Domain) (row : Row) (way : Option ℕ) (l bridge : ℕ) → GoesBy row way l → leaves d l bridge ≡ true → goes_on d row way bridge ≡ true
-by_goes_on d row way l bridge by here = member_any (λ l. leaves d l bridge) (goes_to row way) l (by_goes row way l by) here
+pub by_goes_on : (d : Domain) (row : Row) (ingress : Option ℕ) (l bridge : ℕ) → GoesBy row ingress l → leaves d l bridge ≡ true → goes_on d row ingress bridge ≡ true
+by_goes_on d row ingress l bridge by here = member_any (λ l. leaves d l bridge) (goes_to row ingress) l (by_goes row ingress l by) here
 
 -- rows with the same tree go by the same links
-pub same_goes : (early late : Row) (way : Option ℕ) (l : ℕ) → early.tree.items ≡ late.tree.items → GoesBy early way l → GoesBy late way l
-same_goes early late way l tree by = record { hop = by.hop; of_tree = subst (λ z. Contains z by.hop) tree by.of_tree; from = by.from; is_link = by.is_link }
+pub same_goes : (early late : Row) (ingress : Option ℕ) (l : ℕ) → early.tree.items ≡ late.tree.items → GoesBy early ingress l → GoesBy late ingress l
+same_goes early late ingress l tree by = record { hop = by.hop; of_tree = subst (λ z. Contains z by.hop) tree by.of_tree; from = by.from; is_link = by.is_link }
 
 -- they go on from the same bridges
-pub same_goes_on : (d : Domain) (early late : Row) (way : Option ℕ) (bridge : ℕ) → early.tree.items ≡ late.tree.items → goes_on d early way bridge ≡ true →
-    goes_on d late way bridge ≡ true
-same_goes_on d early late way bridge tree e =
-    let r = goes_on_by d early way bridge e in
-    by_goes_on d late way r.0 bridge (same_goes early late way r.0 tree r.1) r.2
+pub same_goes_on : (d : Domain) (early late : Row) (ingress : Option ℕ) (bridge : ℕ) → early.tree.items ≡ late.tree.items → goes_on d early ingress bridge ≡ true →
+    goes_on d late ingress bridge ≡ true
+same_goes_on d early late ingress bridge tree e =
+    let r = goes_on_by d early ingress bridge e in
+    by_goes_on d late ingress r.0 bridge (same_goes early late ingress r.0 tree r.1) r.2
 
 -- and have the same hop numbers
-pub same_hop : (early late : Row) (depth l : ℕ) → early.tree.items ≡ late.tree.items → IsHop early depth l → IsHop late depth l
-same_hop early late depth l tree at =
-    record { hop = at.hop; of_tree = subst (λ z. Contains z at.hop) tree at.of_tree; is_depth = at.is_depth; is_link = at.is_link }
+pub same_hop : (early late : Row) (hop_number l : ℕ) → early.tree.items ≡ late.tree.items → IsHop early hop_number l → IsHop late hop_number l
+same_hop early late hop_number l tree at =
+    record { hop = at.hop; of_tree = subst (λ z. Contains z at.hop) tree at.of_tree; is_hop_number = at.is_hop_number; is_link = at.is_link }
 
 -- a link that is on the tree is crossed
-pub hop_crosses : (row : Row) (depth l : ℕ) → IsHop row depth l → crosses row l ≡ true
-hop_crosses row depth l at =
+pub hop_crosses : (row : Row) (hop_number l : ℕ) → IsHop row hop_number l → crosses row l ≡ true
+hop_crosses row hop_number l at =
     let on = contains_map (λ (hop : Hop). hop.link) row.tree.items at.hop at.of_tree in
     member_any (λ k. k == l) _ at.hop.link on (eq-eqb at.hop.link l at.is_link)
 
 -- and used in its turn
-pub hop_uses : (row : Row) (depth l cycle : ℕ) → IsHop row depth l → is_turn row.pace depth cycle ≡ true → uses row.tree.items row.pace l cycle ≡ true
-hop_uses row depth l cycle at turn =
-    member_any (λ (hop : Hop). (hop.link == l) && is_turn row.pace hop.depth cycle) row.tree.items at.hop at.of_tree
-    (and_from (at.hop.link == l) (is_turn row.pace at.hop.depth cycle) (eq-eqb at.hop.link l at.is_link)
-    (ap (λ k. is_turn row.pace k cycle) at.is_depth ∙ turn))
+pub hop_uses : (row : Row) (hop_number l cycle : ℕ) → IsHop row hop_number l → is_active row.pace hop_number cycle ≡ true → uses row.tree.items row.pace l cycle ≡ true
+hop_uses row hop_number l cycle at active_cycle =
+    member_any (λ (hop : Hop). (hop.link == l) && is_active row.pace hop.hop_number cycle) row.tree.items at.hop at.of_tree
+    (and_from (at.hop.link == l) (is_active row.pace at.hop.hop_number cycle) (eq-eqb at.hop.link l at.is_link)
+    (ap (λ k. is_active row.pace k cycle) at.is_hop_number ∙ active_cycle))
 
 -- and its hop number is at most the residence
-pub hop_within : (row : Row) (depth l : ℕ) → IsHop row depth l → depth ≤ residence row
-hop_within row depth l at = omega (arith, within_deepest 0 row.tree.items at.hop at.of_tree, at.is_depth)
+pub hop_within : (row : Row) (hop_number l : ℕ) → IsHop row hop_number l → hop_number ≤ residence row
+hop_within row hop_number l at = omega (arith, within_deepest 0 row.tree.items at.hop at.of_tree, at.is_hop_number)
 
 module _ (d : Domain) (row : Row) (good : IsTree d row.tree.items) where
   -- a link occurs in a tree once
@@ -180,21 +180,21 @@ module _ (d : Domain) (row : Row) (good : IsTree d row.tree.items) where
       (λ apart. apart (ap (end_of d) same)) (λ apart. apart (ap (end_of d) (sym same)))
 
   -- so it has one hop number
-  pub one_depth : (j k l : ℕ) → IsHop row j l → IsHop row k l → j ≡ k
-  one_depth j k l a b = sym a.is_depth ∙ ap (λ (h : Hop). h.depth) (one_hop a.hop b.hop a.of_tree b.of_tree (a.is_link ∙ sym b.is_link)) ∙ b.is_depth
+  pub one_hop_number : (j k l : ℕ) → IsHop row j l → IsHop row k l → j ≡ k
+  one_hop_number j k l a b = sym a.is_hop_number ∙ ap (λ (h : Hop). h.hop_number) (one_hop a.hop b.hop a.of_tree b.of_tree (a.is_link ∙ sym b.is_link)) ∙ b.is_hop_number
 
   -- and frames reach it one way
-  pub one_way : (one two : Option ℕ) (l : ℕ) → GoesBy row one l → GoesBy row two l → one ≡ two
-  one_way one two l a b = sym a.from ∙ ap (λ (h : Hop). h.from) (one_hop a.hop b.hop a.of_tree b.of_tree (a.is_link ∙ sym b.is_link)) ∙ b.from
+  pub one_ingress : (one two : Option ℕ) (l : ℕ) → GoesBy row one l → GoesBy row two l → one ≡ two
+  one_ingress one two l a b = sym a.from ∙ ap (λ (h : Hop). h.from) (one_hop a.hop b.hop a.of_tree b.of_tree (a.is_link ∙ sym b.is_link)) ∙ b.from
 
   -- the links of a tree are the domain's
-  pub goes_inside : (way : Option ℕ) (l : ℕ) → GoesBy row way l → l < length d.links
-  goes_inside way l by = subst (λ z. z < length d.links) by.is_link
+  pub goes_inside : (ingress : Option ℕ) (l : ℕ) → GoesBy row ingress l → l < length d.links
+  goes_inside ingress l by = subst (λ z. z < length d.links) by.is_link
       (All-contains (λ (hop : Hop). hop.link < length d.links) row.tree.items by.hop good.inside by.of_tree)
 
   -- the same by the hop number
-  pub hop_inside : (depth l : ℕ) → IsHop row depth l → l < length d.links
-  hop_inside depth l at = subst (λ z. z < length d.links) at.is_link
+  pub hop_inside : (hop_number l : ℕ) → IsHop row hop_number l → l < length d.links
+  hop_inside hop_number l at = subst (λ z. z < length d.links) at.is_link
       (All-contains (λ (hop : Hop). hop.link < length d.links) row.tree.items at.hop good.inside at.of_tree)
 
   -- what follows a link follows a hop of the tree
@@ -206,34 +206,34 @@ module _ (d : Domain) (row : Row) (good : IsTree d row.tree.items) where
       (r.0, contains_take c.0 row.tree.items r.0 r.1, cc, r.2)
 
   -- no hop has hop number 0
-  pub depth_some : (hop : Hop) → Contains row.tree.items hop → 0 < hop.depth
-  depth_some hop c = go hop.from refl
+  pub hop_number_some : (hop : Hop) → Contains row.tree.items hop → 0 < hop.hop_number
+  hop_number_some hop c = go hop.from refl
     where
-      go : (from : Option ℕ) → hop.from ≡ from → 0 < hop.depth
+      go : (from : Option ℕ) → hop.from ≡ from → 0 < hop.hop_number
       go None e = omega (arith, (good.begins hop c e).0)
       go (Some m) e = omega (arith, (followed m hop c e).3.deeper)
 
   -- the first links have hop number 1
   pub first_hops_begin : (l : ℕ) → GoesBy row None l → IsHop row 1 l
-  first_hops_begin l by = record { hop = by.hop; of_tree = by.of_tree; is_depth = (good.begins by.hop by.of_tree by.from).0; is_link = by.is_link }
+  first_hops_begin l by = record { hop = by.hop; of_tree = by.of_tree; is_hop_number = (good.begins by.hop by.of_tree by.from).0; is_link = by.is_link }
 
   -- a link that follows another has the next hop number
   pub hops_follow : (k m l : ℕ) → IsHop row k m → GoesBy row (Some m) l → IsHop row (k + 1) l
   hops_follow k m l at by =
       let r = followed m by.hop by.of_tree by.from in
-      let depth : r.0.depth ≡ k = one_depth r.0.depth k m (record { hop = r.0; of_tree = r.1; is_depth = refl; is_link = r.2 }) at in
-      record { hop = by.hop; of_tree = by.of_tree; is_depth = r.3.deeper ∙ ap (λ z. z + 1) depth; is_link = by.is_link }
+      let hop_number : r.0.hop_number ≡ k = one_hop_number r.0.hop_number k m (record { hop = r.0; of_tree = r.1; is_hop_number = refl; is_link = r.2 }) at in
+      record { hop = by.hop; of_tree = by.of_tree; is_hop_number = r.3.deeper ∙ ap (λ z. z + 1) hop_number; is_link = by.is_link }
 
   -- and a link with a hop number greater than 1 follows a link
   pub hops_are_reached : (k l : ℕ) → 0 < k → IsHop row (k + 1) l → (m : ℕ) × IsHop row k m × GoesBy row (Some m) l
   hops_are_reached k l some at = go at.hop.from refl
     where
       go : (from : Option ℕ) → at.hop.from ≡ from → (m : ℕ) × IsHop row k m × GoesBy row (Some m) l
-      go None e = absurd (omega (arith, (good.begins at.hop at.of_tree e).0, at.is_depth, some))
+      go None e = absurd (omega (arith, (good.begins at.hop at.of_tree e).0, at.is_hop_number, some))
       go (Some m) e =
           let r = followed m at.hop at.of_tree e in (
             m,
-            record { hop = r.0; of_tree = r.1; is_depth = omega (arith, r.3.deeper, at.is_depth); is_link = r.2 },
+            record { hop = r.0; of_tree = r.1; is_hop_number = omega (arith, r.3.deeper, at.is_hop_number); is_link = r.2 },
             record { hop = at.hop; of_tree = at.of_tree; from = e; is_link = at.is_link },
           )
 
@@ -245,7 +245,7 @@ module _ (d : Domain) (row : Row) (good : IsTree d row.tree.items) where
       go None e = record { hop = at.hop; of_tree = at.of_tree; from = e; is_link = at.is_link }
       go (Some m) e =
           let r = followed m at.hop at.of_tree e in
-          absurd (omega (arith, r.3.deeper, at.is_depth, depth_some r.0 r.1))
+          absurd (omega (arith, r.3.deeper, at.is_hop_number, hop_number_some r.0 r.1))
 
   -- a link that is followed ends in the bridge that the next one leaves
   pub goes_into : (m l : ℕ) → GoesBy row (Some m) l → enters d m (bridge_of d l) ≡ true
@@ -254,8 +254,8 @@ module _ (d : Domain) (row : Row) (good : IsTree d row.tree.items) where
       joined_enters d m l (subst (λ z. joins d m z ≡ true) by.is_link (subst (λ z. joins d z by.hop.link ≡ true) r.2 r.3.joined))
 
   -- from a bridge in which a link of the tree ends, the stream goes on after that link
-  pub goes_on_behind : (k m bridge : ℕ) → IsHop row k m → enters d m bridge ≡ true → goes_on d row (Some m) bridge ≡ true
-  goes_on_behind k m bridge at here =
+  pub goes_on_after : (k m bridge : ℕ) → IsHop row k m → enters d m bridge ≡ true → goes_on d row (Some m) bridge ≡ true
+  goes_on_after k m bridge at here =
       let next = good.ends at.hop bridge at.of_tree (subst (λ z. enters d z bridge ≡ true) (sym at.is_link) here) in
       let from : next.0.from ≡ Some m = next.2.from ∙ ap Some at.is_link in
       let there = joined_leaves d m next.0.link bridge (subst (λ z. joins d z next.0.link ≡ true) at.is_link next.2.joined) here in
@@ -289,11 +289,11 @@ module _ (d : Domain) (row : Row) (good : IsTree d row.tree.items) where
       ∙ subst (λ z. enters d e.0.link z ≡ true) (sym (begins_first bridge a)) e.3)
 
   -- frames reach a bridge one way
-  pub one_way_at : (one two : Option ℕ) (bridge : ℕ) → goes_on d row one bridge ≡ true → goes_on d row two bridge ≡ true → one ≡ two
-  one_way_at None None bridge a b = refl
-  one_way_at None (Some m) bridge a b = absurd (not_both m bridge a b)
-  one_way_at (Some m) None bridge a b = absurd (not_both m bridge b a)
-  one_way_at (Some m) (Some k) bridge a b =
+  pub one_ingress_at : (one two : Option ℕ) (bridge : ℕ) → goes_on d row one bridge ≡ true → goes_on d row two bridge ≡ true → one ≡ two
+  one_ingress_at None None bridge a b = refl
+  one_ingress_at None (Some m) bridge a b = absurd (not_both m bridge a b)
+  one_ingress_at (Some m) None bridge a b = absurd (not_both m bridge b a)
+  one_ingress_at (Some m) (Some k) bridge a b =
       let x = goes_on_enters m bridge a in
       let y = goes_on_enters k bridge b in
       let ends : end_of d x.0.link ≡ end_of d y.0.link = enters_end d x.0.link bridge x.3 ∙ sym (enters_end d y.0.link bridge y.3) in
@@ -306,23 +306,23 @@ module _ (d : Domain) (row : Row) (good : IsTree d row.tree.items) where
   one_beginning one two a b = sym (begins_first one a) ∙ begins_first two b
 
   -- after a link of the tree a frame has the link's hop number
-  pub depth_is : (k m : ℕ) → IsHop row k m → depth_behind row (Some m) ≡ k
-  depth_is k m at =
+  pub hop_number_is : (k m : ℕ) → IsHop row k m → hop_number_after row (Some m) ≡ k
+  hop_number_is k m at =
       let found = find_some (λ (hop : Hop). hop.link == m) row.tree.items at.hop at.of_tree (eq-eqb at.hop.link m at.is_link) in
       let member = find_member (λ (hop : Hop). hop.link == m) row.tree.items found.0 found.1 in
       let same = one_hop found.0 at.hop member.0 at.of_tree (eqb-true found.0.link m member.1 ∙ sym at.is_link) in
-      ap (λ (o : Option Hop). option_map_or (λ (hop : Hop). hop.depth) o 0) found.1 ∙ ap (λ (hop : Hop). hop.depth) same ∙ at.is_depth
+      ap (λ (o : Option Hop). option_map_or (λ (hop : Hop). hop.hop_number) o 0) found.1 ∙ ap (λ (hop : Hop). hop.hop_number) same ∙ at.is_hop_number
 
   -- so the link by which it goes on has the next hop number
-  pub goes_deeper : (way : Option ℕ) (l : ℕ) → GoesBy row way l → IsHop row (depth_behind row way + 1) l
-  goes_deeper None l by = first_hops_begin l by
-  goes_deeper (Some m) l by =
+  pub hop_number_rises : (ingress : Option ℕ) (l : ℕ) → GoesBy row ingress l → IsHop row (hop_number_after row ingress + 1) l
+  hop_number_rises None l by = first_hops_begin l by
+  hop_number_rises (Some m) l by =
       let r = followed m by.hop by.of_tree by.from in
-      let at : IsHop row r.0.depth m = record { hop = r.0; of_tree = r.1; is_depth = refl; is_link = r.2 } in
-      subst (λ k. IsHop row (k + 1) l) (sym (depth_is r.0.depth m at)) (hops_follow r.0.depth m l at by)
+      let at : IsHop row r.0.hop_number m = record { hop = r.0; of_tree = r.1; is_hop_number = refl; is_link = r.2 } in
+      subst (λ k. IsHop row (k + 1) l) (sym (hop_number_is r.0.hop_number m at)) (hops_follow r.0.hop_number m l at by)
 
   -- and what passes in its turn uses that link in the next cycle
-  pub uses_next : (way : Option ℕ) (l cycle : ℕ) → GoesBy row way l → is_turn row.pace (depth_behind row way) cycle ≡ true →
+  pub uses_next : (ingress : Option ℕ) (l cycle : ℕ) → GoesBy row ingress l → is_active row.pace (hop_number_after row ingress) cycle ≡ true →
       uses row.tree.items row.pace l (cycle + 1) ≡ true
-  uses_next way l cycle by turn =
-      hop_uses row (depth_behind row way + 1) l (cycle + 1) (goes_deeper way l by) (turn_on row.pace (depth_behind row way) cycle 1 turn)
+  uses_next ingress l cycle by active_cycle =
+      hop_uses row (hop_number_after row ingress + 1) l (cycle + 1) (hop_number_rises ingress l by) (active_cycle_on row.pace (hop_number_after row ingress) cycle 1 active_cycle)

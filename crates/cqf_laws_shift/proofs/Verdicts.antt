@@ -5,8 +5,8 @@ use Rattle.cqf_model.specs.declared.topology.Row.{Row}
 use Rattle.cqf_model.specs.Domain.{Domain, is_text}
 use Rattle.cqf_model.specs.Network.{IsLoss}
 use Rattle.cqf_model.specs.Table.{begins_at, goes_on, is_live, row_named, row_of}
-use Rattle.cqf_model.specs.Traffic.{Way, AtEdge, Relayed, Verdict, Queued, DroppedFor, LacksRow, ExceedsGate, came_by, edge_verdict, inside_verdict}
-use Rattle.cqf_model.specs.Traffic.{is_queued_of, verdict_by}
+use Rattle.cqf_model.specs.Policing.{Ingress, AtEdge, Relayed, Verdict, Queued, DroppedFor, LacksRow, ExceedsGate, came_by, edge_verdict, inside_verdict}
+use Rattle.cqf_model.specs.Policing.{is_queued_of, verdict_by}
 use Rattle.cqf_lists.proofs.Members.{find_member}
 
 -- a frame that goes on from the edge: its stream's row is live, and its tree begins at this bridge
@@ -84,19 +84,19 @@ pub inside_passes : (d : Domain) (bridge m : ℕ) (fits : Row → Bool) (found :
 inside_passes d bridge m fits found row q passes =
     ap (inside_verdict d bridge m fits) q.is ∙ inside_chosen row (goes_on d row (Some m) bridge) (fits row) q.here passes
 
--- what the verdict on a frame is based on, by the frame's way
-abbrev pub IsQueuedBy : Domain → List Row → ℕ → ℕ → Way → Row → Type 0
+-- what the verdict on a frame is based on, by the frame's ingress
+abbrev pub IsQueuedBy : Domain → List Row → ℕ → ℕ → Ingress → Row → Type 0
 IsQueuedBy d table bridge cycle (AtEdge name) row = QueuedAtEdge d bridge cycle (row_named table name) row
 IsQueuedBy d table bridge cycle (Relayed m number) row = QueuedInside d bridge m (row_of table number) row
 
 -- this holds for each verdict that lets a frame go on
-pub queued_says : (d : Domain) (table : List Row) (bridge cycle : ℕ) (fits : Row → Bool) (way : Way) (row : Row) →
-    verdict_by d table bridge cycle fits way ≡ Queued row → IsQueuedBy d table bridge cycle way row × (fits row ≡ true)
+pub queued_says : (d : Domain) (table : List Row) (bridge cycle : ℕ) (fits : Row → Bool) (ingress : Ingress) (row : Row) →
+    verdict_by d table bridge cycle fits ingress ≡ Queued row → IsQueuedBy d table bridge cycle ingress row × (fits row ≡ true)
 queued_says d table bridge cycle fits (AtEdge name) row e = edge_queued d bridge cycle fits (row_named table name) row e
 queued_says d table bridge cycle fits (Relayed m number) row e = inside_queued d bridge m fits (row_of table number) row e
 
 -- a row that a verdict found is a row of the table
-pub queued_row : (d : Domain) (table : List Row) (bridge cycle : ℕ) (way : Way) (row : Row) → IsQueuedBy d table bridge cycle way row → Contains table row
+pub queued_row : (d : Domain) (table : List Row) (bridge cycle : ℕ) (ingress : Ingress) (row : Row) → IsQueuedBy d table bridge cycle ingress row → Contains table row
 queued_row d table bridge cycle (AtEdge name) row q = (find_member (λ (r : Row). is_text r.name name) table row q.is).0
 queued_row d table bridge cycle (Relayed m number) row q = (find_member (λ (r : Row). r.no == number) table row q.is).0
 
@@ -105,9 +105,9 @@ pub queued_number : (d : Domain) (table : List Row) (bridge cycle m number : ℕ
     row.no ≡ number
 queued_number d table bridge cycle m number row q = eqb-true row.no number (find_member (λ (r : Row). r.no == number) table row q.is).1
 
--- the stream goes on from this bridge after the frame's way
-pub queued_goes_on : (d : Domain) (table : List Row) (bridge cycle : ℕ) (way : Way) (row : Row) → IsQueuedBy d table bridge cycle way row →
-    goes_on d row (came_by way) bridge ≡ true
+-- the stream goes on from this bridge after the frame's ingress
+pub queued_goes_on : (d : Domain) (table : List Row) (bridge cycle : ℕ) (ingress : Ingress) (row : Row) → IsQueuedBy d table bridge cycle ingress row →
+    goes_on d row (came_by ingress) bridge ≡ true
 queued_goes_on d table bridge cycle (AtEdge name) row q = q.here
 queued_goes_on d table bridge cycle (Relayed m number) row q = q.here
 

@@ -8,7 +8,7 @@ use Rattle.cqf_model.specs.GateList.{port_list}
 use Rattle.cqf_model.specs.Port.{AreLegal, Transmission}
 use Rattle.cqf_model.specs.Run.{AreOffers, Run, end_of_run}
 use Rattle.cqf_model.specs.Table.{AreOrderly}
-use Rattle.cqf_model.specs.Traffic.{Carried}
+use Rattle.cqf_model.specs.Policing.{Carried}
 use Rattle.cqf_model.specs.Network.{QueuedFrame, arrivals_of, queued_before, sent_of}
 use Rattle.cqf_laws_shift.specs.Heard.{AreHeard}
 

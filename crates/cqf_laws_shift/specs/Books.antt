@@ -14,7 +14,7 @@ abbrev pub BookSaysTheShift : Type 0
 BookSaysTheShift = (run : Run) (book : Contents) → IsAccepted run.domain → AreOrderly run.domain run.tables → AreOffers run.domain run.offers →
     AreBackground run.domain run.background → IsOneThreadBook run book → KeepsThePromise run book
 
--- and background frames change neither the starts nor the drops
+-- background frames change neither the starts nor the drops of the one-thread book
 abbrev pub BackgroundChangesOneList : Type 0
 BackgroundChangesOneList = (run : Run) (background : List Background) (book other : Contents) → IsAccepted run.domain → AreOrderly run.domain run.tables →
     AreOffers run.domain run.offers → AreBackground run.domain run.background → AreBackground run.domain background →

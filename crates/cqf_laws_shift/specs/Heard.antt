@@ -8,10 +8,10 @@ use Rattle.cqf_model.specs.Network.{IsNetworkBy, Network, compiled_lists}
 use Rattle.cqf_model.specs.Promise.{MeansTheShiftAs}
 use Rattle.cqf_model.specs.Run.{AreBackground, AreOffers, Run}
 use Rattle.cqf_model.specs.Table.{AreOrderly}
-use Rattle.cqf_model.specs.Traffic.{Carried, whole_at}
+use Rattle.cqf_model.specs.Policing.{Carried, whole_at}
 
--- a frame is heard as it was sent, except for its instants. By the clock of the node at the link's end, it fully arrives in no
--- earlier cycle than the one in which its bridge started it by its own clock, and less than the link's guard band after its end
+-- a frame is heard as it was sent, except for its instants. By the clock of the node at the link's end, it fully arrives less than the
+-- link's guard band after its end, and in no earlier cycle than the one in which its bridge started it by the bridge's clock
 pub record IsHeardAs (d : Domain) (l : ℕ) (sent heard : Sent) : Type 0 where
   pub frame : heard.frame ≡ sent.frame
   pub stream : heard.stream ≡ sent.stream

@@ -7,9 +7,11 @@ use Rattle.cqf_model.specs.Table.{AreOrderly}
 use Rattle.cqf_model.specs.Network.{IsLegalNetwork, Network, compiled_lists}
 use Rattle.cqf_laws_shift.specs.Alone.{IsRunAlone}
 
--- the domain is accepted, the tables are those of a history, the offers are frames of Ethernet's sizes at its bridges, the
--- background frames are of classes that no stream has, and the network does what its gates say, over as many cycles as there are
--- tables
+-- a legal run:
+-- - The domain is accepted, and the tables are those of a history.
+-- - The offers are frames of Ethernet's sizes at its bridges.
+-- - The background frames are of classes that no stream has.
+-- - The network does what its gates say, over as many cycles as there are tables.
 pub record IsLegalRun (run : Run) (net : Network) : Type 0 where
   pub accepted : IsAccepted run.domain
   pub orderly : AreOrderly run.domain run.tables

@@ -42,23 +42,23 @@ among_acts number entries acts e are c seat =
 -- and calls at seats
 pub seats_admit_only : SeatsAdmitOnly
 seats_admit_only d streams opening entries asked cycles of only asks e one receipt c admits accepted =
-    elim (Contains-append_cases (take (length opening) entries) behind e (subst (λ (xs : List Recorded). Contains xs e) (sym parted) c)) [
+    elim (Contains-append_cases (take (length opening) entries) following e (subst (λ (xs : List Recorded). Contains xs e) (sym parted) c)) [
       | inl before ↦ only e one receipt (subst (λ (xs : List Recorded). Contains xs e) of.begins before) admits accepted
       | inr after ↦ elim (cases_lt e.seat (length asked)) [
         | inl admin ↦
             let acts = get_or asked e.seat [] in
             let there = slice_get-get_or asked e.seat [] admin in
-            asks e.seat acts e.act there (among_acts e.seat behind acts e (of.calls e.seat acts there) after refl) one admits
+            asks e.seat acts e.act there (among_acts e.seat following acts e (of.calls e.seat acts there) after refl) one admits
         | inr past ↦
-            let known : e.seat < length asked + 1 = All-contains (λ (x : Recorded). x.seat < length asked + 1) behind e of.known after in
+            let known : e.seat < length asked + 1 = All-contains (λ (x : Recorded). x.seat < length asked + 1) following e of.known after in
             let sealer : e.seat ≡ length asked = omega (arith, past, known) in
-            seals_ask streams cycles e.act (among_acts (length asked) behind (replicate cycles Seals) e of.seals after sealer) one admits
+            seals_ask streams cycles e.act (among_acts (length asked) following (replicate cycles Seals) e of.seals after sealer) one admits
       ]
     ]
   where
     -- what follows the opening part
-    behind : List Recorded
-    behind = drop (length opening) entries
+    following : List Recorded
+    following = drop (length opening) entries
 
-    parted : take (length opening) entries ++ behind ≡ entries
+    parted : take (length opening) entries ++ following ≡ entries
     parted = take-append-drop (length opening) entries

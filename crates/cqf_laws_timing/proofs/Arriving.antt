@@ -21,16 +21,16 @@ use Rattle.cqf_model.specs.Book.{Contents}
 use Rattle.cqf_model.specs.Domain.{Domain, is_text}
 use Rattle.cqf_model.specs.Headline.{KeepsThePromise}
 use Rattle.cqf_model.specs.History.{Act, Admits, Asked, Branch, IsLegalHistory, Recorded, Seals, Withdraws, admit_reply, held_in, next_number, pace_of, refusal_of}
-use Rattle.cqf_model.specs.History.{reply_to, seal_places, seals, stream_by, streams_of, table_at, tables_of}
+use Rattle.cqf_model.specs.History.{reply_to, seal_indices, seals, stream_by, streams_of, table_at, tables_of}
 use Rattle.cqf_model.specs.HistoryBook.{run_of_history}
 use Rattle.cqf_model.specs.Run.{Run}
 use Rattle.cqf_model.specs.Shift.{InShift, IsCovered, offer_cycle}
 use Rattle.cqf_lists.specs.Lists.{each_below}
 use Rattle.cqf_model.specs.Limits.{most_every}
-use Rattle.cqf_model.specs.Paces.{is_turn}
+use Rattle.cqf_model.specs.Paces.{is_active}
 use Rattle.cqf_model.specs.Table.{IsHop, is_held, reserved_in, table_of, uses}
 use Rattle.cqf_laws_timing.specs.Streams.{cost_of_all}
-use Rattle.cqf_model.specs.Traffic.{DroppedFor, Queued}
+use Rattle.cqf_model.specs.Policing.{DroppedFor, Queued}
 use Rattle.cqf_laws_history.specs.StateLaws.{granted_row}
 use Rattle.cqf_laws_shift.specs.BookOfHistory.{BookOfHistorySaysTheShift}
 use Rattle.cqf_laws_shift.proofs.Came.{one_number}
@@ -55,13 +55,13 @@ bounds_alike d streams row of other link =
 
 -- a covered offer is in the shift
 abbrev pub in_shift : (d : Domain) (entries : List Recorded) (offers : List Offer) (background : List Background) (cycles : ℕ) (x : Offered) (row : Row) →
-    IsCovered (run_of_history d entries offers background cycles) x row → (frame depth link cycle : ℕ) → frame ≡ x.frame → IsHop row depth link →
-    cycle ≡ offer_cycle d x + depth → offer_cycle d x + depth < cycles →
+    IsCovered (run_of_history d entries offers background cycles) x row → (frame hop_number link cycle : ℕ) → frame ≡ x.frame → IsHop row hop_number link →
+    cycle ≡ offer_cycle d x + hop_number → offer_cycle d x + hop_number < cycles →
     InShift (run_of_history d entries offers background cycles) (length (tables_of d entries cycles)) frame link cycle
-in_shift d entries offers background cycles x row covered frame depth link cycle is_frame hop is_cycle lasts = record {
+in_shift d entries offers background cycles x row covered frame hop_number link cycle is_frame hop is_cycle lasts = record {
   x = x;
   row = row;
-  depth = depth;
+  hop_number = hop_number;
   covered = covered;
   is_frame = is_frame;
   is_hop = hop;
@@ -94,15 +94,15 @@ module _ (says : BookOfHistorySaysTheShift) (timely : HistoryIsTimely) (verdicts
       absurd cc
 
   -- so it leaves on each link of its tree, and arrives in time
-  pub arrives : (of : IsOfList d streams row) (depth link : ℕ) → IsHop row depth link → offer_cycle d x + depth < cycles →
-      ArrivesInTime d streams of.asked book x depth link
-  arrives of depth link hop lasts =
-      let cycle = offer_cycle d x + depth in
+  pub arrives : (of : IsOfList d streams row) (hop_number link : ℕ) → IsHop row hop_number link → offer_cycle d x + hop_number < cycles →
+      ArrivesInTime d streams of.asked book x hop_number link
+  arrives of hop_number link hop lasts =
+      let cycle = offer_cycle d x + hop_number in
       let s = kept.says.each x.frame link cycle
-      (in_shift d entries offers background cycles x row covered x.frame depth link cycle refl hop refl lasts) in
+      (in_shift d entries offers background cycles x row covered x.frame hop_number link cycle refl hop refl lasts) in
       let start = s.0 in
-      let shift = in_shift d entries offers background cycles x row covered start.frame depth start.link start.cycle.0 s.2
-      (subst (λ (l : ℕ). IsHop row depth l) (sym s.3) hop) s.4 lasts in
+      let shift = in_shift d entries offers background cycles x row covered start.frame hop_number start.link start.cycle.0 s.2
+      (subst (λ (l : ℕ). IsHop row hop_number l) (sym s.3) hop) s.4 lasts in
       record {
         start = start;
         is_start = s.1;
@@ -111,15 +111,15 @@ module _ (says : BookOfHistorySaysTheShift) (timely : HistoryIsTimely) (verdicts
         is_cycle = s.4;
         octets = kept.says.octets start x s.1 covered.offered s.2;
         timely =
-            let told = timely d entries offers background cycles book streams over.accepted over.legal over.offered over.beside over.is_book over.only over.paced
+            let reported = timely d entries offers background cycles book streams over.accepted over.legal over.offered over.beside over.is_book over.only over.paced
             start s.1 shift in
-            subst (λ (l : ℕ). IsTimely d l depth (most_beside_all d streams of.asked l) x.offer.at.0 (whole_of d start)) s.3
-            (subst (λ (n : ℕ). IsTimely d start.link depth n x.offer.at.0 (whole_of d start)) (bounds_alike d streams row told.0 of start.link) told.1);
+            subst (λ (l : ℕ). IsTimely d l hop_number (most_beside_all d streams of.asked l) x.offer.at.0 (whole_of d start)) s.3
+            (subst (λ (n : ℕ). IsTimely d start.link hop_number n x.offer.at.0 (whole_of d start)) (bounds_alike d streams row reported.0 of start.link) reported.1);
         in_time = λ deadline sure.
-            let told = verdicts d entries offers background cycles book streams over.accepted over.legal over.offered over.beside over.is_book over.only over.paced
+            let reported = verdicts d entries offers background cycles book streams over.accepted over.legal over.offered over.beside over.is_book over.only over.paced
             start s.1 shift in
-            (told.1 deadline).in_time (ap (λ (n : ℕ). sure_of (least_of d start.link depth) (most_of d start.link depth n) deadline)
-            (bounds_alike d streams row told.0 of start.link) ∙ ap (λ (l : ℕ). sure_on d streams of.asked l depth deadline) s.3 ∙ sure);
+            (reported.1 deadline).in_time (ap (λ (n : ℕ). sure_of (least_of d start.link hop_number) (most_of d start.link hop_number n) deadline)
+            (bounds_alike d streams row reported.0 of start.link) ∙ ap (λ (l : ℕ). sure_on d streams of.asked l hop_number deadline) s.3 ∙ sure);
       }
 
   -- and at the listener of each branch of a request that makes the row's tree
@@ -150,23 +150,24 @@ none_refused number effect receipt (Some refused) e = absurd cc
 
 module _ (d : Domain) (entries : List Recorded) (streams : List Asked) (legal : IsLegalHistory d entries) (only : AdmitsOnly streams entries) (row : Row) where
   -- by the entry that admits it
-  by_act : (place : ℕ) (effect : ℕ) (front : List Recorded) (e : Recorded) (act : Act) (reply : Reply) → slice_get entries place ≡ Some e →
+  by_act : (index : ℕ) (effect : ℕ) (front : List Recorded) (e : Recorded) (act : Act) (reply : Reply) → slice_get entries index ≡ Some e →
       e.act ≡ act → e.reply ≡ reply → Contains (stream_by d front effect act reply) row → IsGrantedOfList d streams row
-  by_act place effect front e (Withdraws name) reply is acts replies c = absurd (contains_none row c)
-  by_act place effect front e Seals reply is acts replies c = absurd (contains_none row c)
-  by_act place effect front e (Admits asked) (RefusedFor refused) is acts replies c = absurd (contains_none row c)
-  by_act place effect front e (Admits asked) Sealed is acts replies c = absurd (contains_none row c)
-  by_act place effect front e (Admits asked) (Accepted receipt) is acts replies c =
+  by_act index effect front e (Withdraws name) reply is acts replies c = absurd (contains_none row c)
+  by_act index effect front e Seals reply is acts replies c = absurd (contains_none row c)
+  by_act index effect front e (Admits asked) (RefusedFor refused) is acts replies c = absurd (contains_none row c)
+  by_act index effect front e (Admits asked) Sealed is acts replies c = absurd (contains_none row c)
+  by_act index effect front e (Admits asked) (Accepted receipt) is acts replies c =
       let same = contains_one _ row c in
-      let before = take place entries in
+      let before = take index entries in
       let due : reply_to d before (Admits asked) ≡ Accepted receipt =
-      ap (reply_to d before) (sym acts) ∙ sym (legal.replies place e is) ∙ replies in
+      ap (reply_to d before) (sym acts) ∙ sym (legal.replies index e is) ∙ replies in
       record {
         of = record {
           asked = asked;
-          listed = only e asked receipt (contains_at entries place e is) acts replies;
+          listed = only e asked receipt (contains_at entries index e is) acts replies;
           name = ap (λ (r : Row). r.name) (sym same);
           octets = ap (λ (r : Row). r.octets) (sym same);
+          overhead = ap (λ (r : Row). r.overhead) (sym same);
           pace = ap (λ (r : Row). r.pace) (sym same);
           tree = ap (λ (r : Row). r.tree.items) (sym same);
         };
@@ -175,40 +176,40 @@ module _ (d : Domain) (entries : List Recorded) (streams : List Asked) (legal : 
       }
 
   -- an entry of a prefix is in the whole history
-  in_whole : (n place : ℕ) (e : Recorded) → slice_get (take n entries) place ≡ Some e → slice_get entries place ≡ Some e
-  in_whole n place e is = in_front entries n place is
+  in_whole : (n index : ℕ) (e : Recorded) → slice_get (take n entries) index ≡ Some e → slice_get entries index ≡ Some e
+  in_whole n index e is = in_front entries n index is
     where
       -- in any list
-      in_front : (xs : List Recorded) (n place : ℕ) → slice_get (take n xs) place ≡ Some e → slice_get xs place ≡ Some e
-      in_front [] n place is = absurd (contains_none e (contains_from_take [] n e (contains_at (take n []) place e is)))
-      in_front (x ∷ xs) zero place is = absurd (contains_none e (contains_at [] place e is))
+      in_front : (xs : List Recorded) (n index : ℕ) → slice_get (take n xs) index ≡ Some e → slice_get xs index ≡ Some e
+      in_front [] n index is = absurd (contains_none e (contains_from_take [] n e (contains_at (take n []) index e is)))
+      in_front (x ∷ xs) zero index is = absurd (contains_none e (contains_at [] index e is))
       in_front (x ∷ xs) (suc n) zero is = is
-      in_front (x ∷ xs) (suc n) (suc place) is = in_front xs n place is
+      in_front (x ∷ xs) (suc n) (suc index) is = in_front xs n index is
 
   -- by its index in a prefix of the history
   granted_in : (n : ℕ) → Contains (streams_of d (take n entries)) row → IsGrantedOfList d streams row
   granted_in n c =
       let front = take n entries in
       let at = contains_from_below
-      (λ place. option_map_or (λ (e : Recorded). stream_by d front (seals (take place front)) e.act e.reply) (slice_get front place) []) (length front) row c in
+      (λ index. option_map_or (λ (e : Recorded). stream_by d front (seals (take index front)) e.act e.reply) (slice_get front index) []) (length front) row c in
       by_entry at.0 (slice_get front at.0) refl at.2
     where
       -- the stream of the entry there
-      by_entry : (place : ℕ) (o : Option Recorded) → slice_get (take n entries) place ≡ o →
-          Contains (option_map_or (λ (e : Recorded). stream_by d (take n entries) (seals (take place (take n entries))) e.act e.reply) o []) row →
+      by_entry : (index : ℕ) (o : Option Recorded) → slice_get (take n entries) index ≡ o →
+          Contains (option_map_or (λ (e : Recorded). stream_by d (take n entries) (seals (take index (take n entries))) e.act e.reply) o []) row →
           IsGrantedOfList d streams row
-      by_entry place None is k = absurd (contains_none row k)
-      by_entry place (Some e) is k =
-          by_act place (seals (take place (take n entries))) (take n entries) e e.act e.reply (in_whole n place e is) refl refl k
+      by_entry index None is k = absurd (contains_none row k)
+      by_entry index (Some e) is k =
+          by_act index (seals (take index (take n entries))) (take n entries) e e.act e.reply (in_whole n index e is) refl refl k
 
   -- this holds for each row of a table
   pub granted_row_of : (cycles cycle : ℕ) → Contains (table_of (tables_of d entries cycles) cycle) row → IsGrantedOfList d streams row
   granted_row_of cycles cycle c =
       elim (cases_lt cycle cycles) [
         | inl less ↦
-            let place = slice_index_or (seal_places entries) cycle (length entries) in
+            let index = slice_index_or (seal_indices entries) cycle (length entries) in
             let there = subst (λ (xs : List Row). Contains xs row) (get_or-singles (table_at d entries) cycles cycle [] less) c in
-            granted_in place (contains_from_filter (λ (r : Row). is_held r cycle) (streams_of d (take place entries)) row there).0
+            granted_in index (contains_from_filter (λ (r : Row). is_held r cycle) (streams_of d (take index entries)) row there).0
         | inr past ↦
             let none : table_of (tables_of d entries cycles) cycle ≡ [] =
             get_or_past (tables_of d entries cycles) cycle [] (omega (arith, past, length-singles (table_at d entries) cycles)) in
@@ -229,14 +230,14 @@ module _ (names : AdmittedHaveNames) (d : Domain) (streams : List Asked) (asked 
   -- so what a conforming talker offers is covered, if the plan has enough for it
   pub planned_covered : (entries : List Recorded) (offers : List Offer) (background : List Background) (cycles : ℕ) (t : Traffic) (x : Offered) →
       IsLegalHistory d entries → AdmitsOnly streams entries → 0 < d.cycle_time → IsTraffic t →
-      needed d.cycle_time t ≤ reserved_in (granted_row d 0 0 asked) 0 (offer_cycle d x) → Conforms t (offers_named asked.name offers) →
+      needed d.overhead d.cycle_time t ≤ reserved_in (granted_row d 0 0 asked) 0 (offer_cycle d x) → Conforms t (offers_named asked.name offers) →
       IsAtItsEdge (run_of_history d entries offers background cycles) x row → IsCovered (run_of_history d entries offers background cycles) x row
   planned_covered entries offers background cycles t x legal only some is enough c at =
       let member = (find_member (λ (r : Row). is_text r.name x.offer.stream) (table_of (tables_of d entries cycles) (offer_cycle d x)) row at.named).0 in
       let of = (granted_row_of d entries streams legal only row cycles (offer_cycle d x) member).of in
       let same = one_asked of in
       let reserved : reserved_in (granted_row d 0 0 asked) 0 (offer_cycle d x) ≡ reserved_in row 0 (offer_cycle d x) =
-      λ i. if is_turn ((sym (of.pace ∙ ap pace_of same)) i) 0 (offer_cycle d x) then (sym (of.octets ∙ ap (λ (a : Asked). a.octets) same)) i else 0 in
+      λ i. if is_active ((sym (of.pace ∙ ap pace_of same)) i) 0 (offer_cycle d x) then (sym (of.octets ∙ ap (λ (a : Asked). a.octets) same)) i else 0 in
       conforming_stream_is_covered (run_of_history d entries offers background cycles) t x row some is
       (subst (λ (n : List ℕ). Conforms t (offers_named n offers)) (sym name) c) (omega (arith, enough, reserved)) at
 

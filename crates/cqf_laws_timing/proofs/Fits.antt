@@ -3,7 +3,7 @@ use Rattle.std.proofs.Common.{◌≡◌, ℕ, zero, suc, ◌+◌, ◌-◌, ◌*�
 use Rattle.std.proofs.Common.{inl, inr, refl, sym, ap, ◌∙◌, arith, filter, length, get_or}
 use Rattle.std.proofs.Common.{Contains, slice_get, sum_by, eq-eqb, eqb-true, ◌==◌, mul-le-mul_right, zero-add}
 use Rattle.std.proofs.lemmas.Bool.{cases_Bool, cond-false, cond-true}
-use Rattle.std.proofs.lemmas.List.Elements.{All-filter}
+use Rattle.std.proofs.lemmas.List.Elements.{All-contains, All-filter}
 use Rattle.std.proofs.lemmas.List.Sums.{sum_by-le}
 use Rattle.std.proofs.lemmas.Nat.{le-div}
 use Rattle.std.proofs.lemmas.Option.{get_or_from_slice_get, slice_get-get_or, slice_get_within}
@@ -11,7 +11,7 @@ use Rattle.cqf_lists.proofs.Members.{all_from_members, contains_at, contains_fro
 use Rattle.cqf_lists.proofs.EachBelow.{contains_from_below, filter_each, get_or-singles, length-singles}
 use Rattle.cqf_lists.proofs.Sums.{sum_below}
 use Rattle.cqf_lists.specs.Lists.{each_below}
-use Rattle.cqf_units.specs.Timing.{cycle_at}
+use Rattle.cqf_units.specs.Timing.{counted_of, cycle_at}
 use Rattle.cqf_units.proofs.Cycles.{cycle_below, cycle_from, cycle_is, cycle_upto, cycles_ordered}
 use Rattle.cqf_model.specs.declared.frames.Offer.{Offer}
 use Rattle.cqf_laws_timing.specs.Traffic.{BlocksConform, Conforms, ConformingOffersFitACycle, FillsACycle, IsTraffic}
@@ -47,8 +47,8 @@ record StandApart {X : Type 0} (xs : List X) (a b : X) (gap : ℕ) : Type 0 wher
   pub second : slice_get xs late ≡ Some b
 
 -- the same with one more element before them
-behind_one : {X : Type 0} (x : X) (xs : List X) (a b : X) (gap : ℕ) → StandApart xs a b gap → StandApart (x ∷ xs) a b gap
-behind_one x xs a b gap r = record {
+after_one : {X : Type 0} (x : X) (xs : List X) (a b : X) (gap : ℕ) → StandApart xs a b gap → StandApart (x ∷ xs) a b gap
+after_one x xs a b gap r = record {
   early = suc r.early;
   late = suc r.late;
   ordered = omega (arith, r.ordered);
@@ -74,7 +74,7 @@ kept_apart p (x ∷ xs) zero k a b order e f = elim (cases_Bool (p x)) [
       }
   | inr u ↦
       let same = sym (cond-false (p x) (x ∷ filter p xs) (filter p xs) u) in
-      behind_one x xs a b (k - zero) (kept_apart p xs zero k a b order (ap (λ ys. slice_get ys 0) same ∙ e) (ap (λ ys. slice_get ys k) same ∙ f))
+      after_one x xs a b (k - zero) (kept_apart p xs zero k a b order (ap (λ ys. slice_get ys 0) same ∙ e) (ap (λ ys. slice_get ys k) same ∙ f))
 ]
 kept_apart p (x ∷ xs) (suc i) zero a b order e f = absurd (omega (arith, order))
 kept_apart p (x ∷ xs) (suc i) (suc k) a b order e f = elim (cases_Bool (p x)) [
@@ -91,7 +91,7 @@ kept_apart p (x ∷ xs) (suc i) (suc k) a b order e f = elim (cases_Bool (p x)) 
       }
   | inr u ↦
       let same = sym (cond-false (p x) (x ∷ filter p xs) (filter p xs) u) in
-      behind_one x xs a b (suc k - suc i)
+      after_one x xs a b (suc k - suc i)
       (kept_apart p xs (suc i) (suc k) a b order (ap (λ ys. slice_get ys (suc i)) same ∙ e) (ap (λ ys. slice_get ys (suc k)) same ∙ f))
 ]
 
@@ -150,17 +150,20 @@ few_of_one n t cycle (x ∷ xs) some is c inside =
     omega (arith, few)
 
 pub conforming_offers_fit_a_cycle : ConformingOffersFitACycle
-conforming_offers_fit_a_cycle n t sent cycle some is c =
+conforming_offers_fit_a_cycle overhead n t sent cycle some is c =
     let here = λ (x : Offer). cycle_at n x.at.0 == cycle in
     let part = skipping_conforms t sent here is c in
     let few = few_of_one n t cycle (sent_in n cycle sent) some is part
     (λ y k. eqb-true (cycle_at n y.at.0) cycle (contains_from_filter here sent y k).1) in
-    let within = sum_by-le (λ (x : Offer). x.octets) t.size (sent_in n cycle sent) part.sizes in
-    record { frames = few; octets = omega (arith, within, mul-le-mul_right t.size few) }
+    let counts = λ (x : Offer). counted_of overhead x.octets in
+    let sizes = all_from_members (λ (x : Offer). counts x ≤ counted_of overhead t.size) (sent_in n cycle sent)
+    (λ x k. let size = All-contains (λ (y : Offer). y.octets ≤ t.size) (sent_in n cycle sent) x part.sizes k in omega (arith, size)) in
+    let within = sum_by-le counts (counted_of overhead t.size) (sent_in n cycle sent) sizes in
+    record { frames = few; octets = omega (arith, within, mul-le-mul_right (counted_of overhead t.size) few) }
 
 -- ---- a full cycle
 
-module _ (n : ℕ) (t : Traffic) (cycle bridge : ℕ) (name : List ℕ) (some : 0 < n) (is : IsTraffic t) where
+module _ (overhead n : ℕ) (t : Traffic) (cycle bridge : ℕ) (name : List ℕ) (some : 0 < n) (is : IsTraffic t) where
   -- blocks of largest frames, each as early as the jitter allows, but not before the cycle begins
   full_at : ℕ → ℕ
   full_at k = cycle * n + (k / t.frames * t.interval - t.jitter)
@@ -202,16 +205,16 @@ module _ (n : ℕ) (t : Traffic) (cycle bridge : ℕ) (name : List ℕ) (some : 
       omega (arith, ap (λ b. b * t.interval) parts)
 
   -- each has the largest size
-  of_size : (m : ℕ) → sum_by (λ (x : Offer). x.octets) (each_below (λ k. full k ∷ []) m) ≡ m * t.size
+  of_size : (m : ℕ) → sum_by (λ (x : Offer). counted_of overhead x.octets) (each_below (λ k. full k ∷ []) m) ≡ m * counted_of overhead t.size
   unfolding full
   of_size zero = omega arith
-  of_size (suc m) = omega (arith, sum_below (λ (x : Offer). x.octets) (λ k. full k ∷ []) m, of_size m, one)
+  of_size (suc m) = omega (arith, sum_below (λ (x : Offer). counted_of overhead x.octets) (λ k. full k ∷ []) m, of_size m, one)
     where
       -- with one more frame
-      one : sum_by (λ (x : Offer). x.octets) (full m ∷ []) ≡ t.size
-      one = zero-add t.size
+      one : sum_by (λ (x : Offer). counted_of overhead x.octets) (full m ∷ []) ≡ counted_of overhead t.size
+      one = zero-add (counted_of overhead t.size)
 
-  pub full_cycle : FillsACycle n t cycle bridge name
+  pub full_cycle : FillsACycle overhead n t cycle bridge name
   unfolding full
   full_cycle = record {
     sent = all;
@@ -229,11 +232,11 @@ module _ (n : ℕ) (t : Traffic) (cycle bridge : ℕ) (name : List ℕ) (some : 
           );
     };
     fills =
-        ap (sum_by (λ (x : Offer). x.octets)) (filter_each (λ (x : Offer). cycle_at n x.at.0 == cycle) all
+        ap (sum_by (λ (x : Offer). counted_of overhead x.octets)) (filter_each (λ (x : Offer). cycle_at n x.at.0 == cycle) all
         (λ a c. let w = full_member a c in
         eq-eqb (cycle_at n a.at.0) cycle (ap (λ (x : Offer). cycle_at n x.at.0) w.2 ∙ in_cycle w.0 w.1)))
         ∙ of_size (most_frames n t);
   }
 
 pub needed_is_reached : NeededIsReached
-needed_is_reached n t cycle bridge name some is = full_cycle n t cycle bridge name some is
+needed_is_reached overhead n t cycle bridge name some is = full_cycle overhead n t cycle bridge name some is

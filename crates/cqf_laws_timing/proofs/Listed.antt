@@ -21,7 +21,7 @@ use Rattle.cqf_model.specs.declared.history.Reply.TheVariants.{Accepted, Sealed,
 use Rattle.cqf_model.specs.declared.topology.Hop.{Hop}
 use Rattle.cqf_model.specs.declared.topology.Row.{Row}
 use Rattle.cqf_model.specs.Domain.{Domain, is_text}
-use Rattle.cqf_model.specs.History.{Act, Admits, Asked, IsLegalHistory, Recorded, Seals, Withdraws, held_in, refusal_of, reply_to, seal_places, seals}
+use Rattle.cqf_model.specs.History.{Act, Admits, Asked, IsLegalHistory, Recorded, Seals, Withdraws, held_in, refusal_of, reply_to, seal_indices, seals}
 use Rattle.cqf_model.specs.History.{stream_by, streams_of, table_at, tables_of, tree_of}
 use Rattle.cqf_model.specs.Table.{cost_on, is_held, link_cost, table_of}
 use Rattle.cqf_model.proofs.Texts.{is_text_itself, is_text_same}
@@ -60,6 +60,7 @@ record IsAdmittedBy (d : Domain) (act : Act) (reply : Reply) (row : Row) : Type 
   pub accepted : reply ≡ Accepted receipt
   pub name : row.name ≡ asked.name
   pub octets : row.octets ≡ asked.octets
+  pub overhead : row.overhead ≡ d.overhead
   pub pace : row.pace ≡ pace_of asked
   pub tree : row.tree.items ≡ tree_of d asked.paths
 
@@ -80,6 +81,7 @@ admitted_by d entries effect (Admits asked) (Accepted receipt) row c =
       accepted = refl;
       name = ap (λ (r : Row). r.name) (sym is);
       octets = ap (λ (r : Row). r.octets) (sym is);
+      overhead = ap (λ (r : Row). r.overhead) (sym is);
       pace = ap (λ (r : Row). r.pace) (sym is);
       tree = ap (λ (r : Row). r.tree.items) (sym is);
     }
@@ -89,21 +91,22 @@ of_list : (d : Domain) (entries : List Recorded) (streams : List Asked) (row : R
     IsOfList d streams row
 of_list d entries streams row only c =
     let at = contains_from_below
-    (λ place. option_map_or (λ (e : Recorded). stream_by d entries (seals (take place entries)) e.act e.reply) (slice_get entries place) [])
+    (λ index. option_map_or (λ (e : Recorded). stream_by d entries (seals (take index entries)) e.act e.reply) (slice_get entries index) [])
     (length entries) row c in
     by_entry at.0 (slice_get entries at.0) refl at.2
   where
     -- it is the stream of the entry at its index
-    by_entry : (place : ℕ) (o : Option Recorded) → slice_get entries place ≡ o →
-        Contains (option_map_or (λ (e : Recorded). stream_by d entries (seals (take place entries)) e.act e.reply) o []) row → IsOfList d streams row
-    by_entry place None is k = absurd (contains_none row k)
-    by_entry place (Some e) is k =
-        let a = admitted_by d entries (seals (take place entries)) e.act e.reply row k in
+    by_entry : (index : ℕ) (o : Option Recorded) → slice_get entries index ≡ o →
+        Contains (option_map_or (λ (e : Recorded). stream_by d entries (seals (take index entries)) e.act e.reply) o []) row → IsOfList d streams row
+    by_entry index None is k = absurd (contains_none row k)
+    by_entry index (Some e) is k =
+        let a = admitted_by d entries (seals (take index entries)) e.act e.reply row k in
         record {
           asked = a.asked;
-          listed = only e a.asked a.receipt (contains_at entries place e is) a.admits a.accepted;
+          listed = only e a.asked a.receipt (contains_at entries index e is) a.admits a.accepted;
           name = a.name;
           octets = a.octets;
+          overhead = a.overhead;
           pace = a.pace;
           tree = a.tree;
         }
@@ -113,11 +116,11 @@ pub rows_are_of_list : RowsAreOfList
 rows_are_of_list d entries streams cycles cycle row only c =
     elim (cases_lt cycle cycles) [
       | inl less ↦
-          let place = slice_index_or (seal_places entries) cycle (length entries) in
+          let index = slice_index_or (seal_indices entries) cycle (length entries) in
           let there = subst (λ (xs : List Row). Contains xs row) (get_or-singles (table_at d entries) cycles cycle [] less) c in
-          let held = contains_from_filter (λ (r : Row). is_held r cycle) (streams_of d (take place entries)) row there in
-          of_list d (take place entries) streams row
-          (λ e asked receipt k admits accepted. only e asked receipt (contains_from_take entries place e k) admits accepted) held.0
+          let held = contains_from_filter (λ (r : Row). is_held r cycle) (streams_of d (take index entries)) row there in
+          of_list d (take index entries) streams row
+          (λ e asked receipt k admits accepted. only e asked receipt (contains_from_take entries index e k) admits accepted) held.0
       | inr past ↦
           let none : table_of (tables_of d entries cycles) cycle ≡ [] =
           get_or_past (tables_of d entries cycles) cycle [] (omega (arith, past, length-singles (table_at d entries) cycles)) in
@@ -126,25 +129,25 @@ rows_are_of_list d entries streams cycles cycle row only c =
 
 -- ---- what they cost
 
--- the cost on a link, by a tree, octets and a pace
-abbrev cost_by : List Hop → ℕ → Pace → ℕ → ℕ → ℕ
-cost_by tree octets pace link cycle = if uses tree pace link cycle then cost_of octets else 0
+-- the cost on a link, by a tree, octets, an overhead and a pace
+abbrev cost_by : List Hop → ℕ → ℕ → Pace → ℕ → ℕ → ℕ
+cost_by tree octets overhead pace link cycle = if uses tree pace link cycle then cost_of overhead octets else 0
 
 -- a row costs what its stream costs in the list
 costs_the_same : (d : Domain) (streams : List Asked) (row : Row) (link cycle : ℕ) (of : IsOfList d streams row) →
     cost_on row link cycle ≡ cost_on (granted_row d 0 0 of.asked) link cycle
-costs_the_same d streams row link cycle of = λ i. cost_by (of.tree i) (of.octets i) (of.pace i) link cycle
+costs_the_same d streams row link cycle of = λ i. cost_by (of.tree i) (of.octets i) (of.overhead i) (of.pace i) link cycle
 
 -- rows of the list with different names cost no more than the list
-rows_cost_no_more : (d : Domain) (streams : List Asked) (rows : List Row) (link turn : ℕ) → ((row : Row) → Contains rows row → IsOfList d streams row) →
-    AllPairs (λ (a b : Row). a.name ≢ b.name) rows → link_cost rows link turn ≤ cost_of_all d streams link turn
-rows_cost_no_more d streams rows link turn listed names = sum_matched costs of_asked matches rows streams has apart
+rows_cost_no_more : (d : Domain) (streams : List Asked) (rows : List Row) (link active_cycle : ℕ) → ((row : Row) → Contains rows row → IsOfList d streams row) →
+    AllPairs (λ (a b : Row). a.name ≢ b.name) rows → link_cost rows link active_cycle ≤ cost_of_all d streams link active_cycle
+rows_cost_no_more d streams rows link active_cycle listed names = sum_matched costs of_asked matches rows streams has apart
   where
     costs : Row → ℕ
-    costs row = cost_on row link turn
+    costs row = cost_on row link active_cycle
 
     of_asked : Asked → ℕ
-    of_asked asked = cost_on (granted_row d 0 0 asked) link turn
+    of_asked asked = cost_on (granted_row d 0 0 asked) link active_cycle
 
     matches : Row → Asked → Bool
     matches row asked = is_text row.name asked.name
@@ -155,7 +158,7 @@ rows_cost_no_more d streams rows link turn listed names = sum_matched costs of_a
         let of = listed row c in
         let named : matches row of.asked ≡ true = ap (λ (n : List ℕ). is_text n of.asked.name) of.name ∙ is_text_itself of.asked.name in
         let own = sum_member (λ asked. if matches row asked then of_asked asked else 0) streams of.asked of.listed in
-        omega (arith, own, cond-true (matches row of.asked) (of_asked of.asked) 0 named, costs_the_same d streams row link turn of)
+        omega (arith, own, cond-true (matches row of.asked) (of_asked of.asked) 0 named, costs_the_same d streams row link active_cycle of)
 
     -- and no two are of the same stream
     apart : (asked : Asked) → AllPairs (λ (a b : Row). matches a asked ≡ true → matches b asked ≡ true → ⊥) rows
@@ -164,20 +167,20 @@ rows_cost_no_more d streams rows link turn listed names = sum_matched costs of_a
 
 -- no table costs more than the list
 pub tables_cost_no_more : TablesAreOrderly → TablesCostNoMore
-tables_cost_no_more orderly d entries streams cycles cycle link turn legal sealed only =
-    rows_cost_no_more d streams (table_of (tables_of d entries cycles) cycle) link turn
+tables_cost_no_more orderly d entries streams cycles cycle link active_cycle legal sealed only =
+    rows_cost_no_more d streams (table_of (tables_of d entries cycles) cycle) link active_cycle
     (λ row c. rows_are_of_list d entries streams cycles cycle row only c) ((orderly d entries cycles legal sealed).names cycle)
 
 -- ---- streams that are all admitted
 
-module _ (held : GrantedIsHeld) (goes_on : HistoryGoesOn) (counted : SealsAreCounted) (room : GrantedFindsRoom) (d : Domain) (link turn : ℕ) where
+module _ (held : GrantedIsHeld) (goes_on : HistoryGoesOn) (counted : SealsAreCounted) (room : GrantedFindsRoom) (d : Domain) (link active_cycle : ℕ) where
   -- the cost of streams that are all admitted after a history without Seals
   all_cost : (streams : List Asked) (entries : List Recorded) (rows : List Row) (next : ℕ) → IsLegalHistory d entries → IsState d entries rows next →
       seals entries ≡ 0 → length rows ≡ length entries → AreGranted d entries streams →
-      link_cost (held_in d (with_all d entries streams) 0) link turn ≡ link_cost rows link turn + cost_of_all d streams link turn
+      link_cost (held_in d (with_all d entries streams) 0) link active_cycle ≡ link_cost rows link active_cycle + cost_of_all d streams link active_cycle
   all_cost [] entries rows next legal state none each granted =
-      ap (λ (k : ℕ). link_cost (held_in d entries k) link turn) (sym none) ∙ ap (λ (xs : List Row). link_cost xs link turn) state.held
-      ∙ sym (add_zero (link_cost rows link turn))
+      ap (λ (k : ℕ). link_cost (held_in d entries k) link active_cycle) (sym none) ∙ ap (λ (xs : List Row). link_cost xs link active_cycle) state.held
+      ∙ sym (add_zero (link_cost rows link active_cycle))
     where
       add_zero : (n : ℕ) → n + 0 ≡ n
       add_zero n = omega arith
@@ -192,23 +195,23 @@ module _ (held : GrantedIsHeld) (goes_on : HistoryGoesOn) (counted : SealsAreCou
       let rest = all_cost more (with_entry entries 0 (Admits asked) reply) (rows ++ new ∷ []) (next + 1)
       (goes_on d entries 0 (Admits asked) legal (omega (arith, none)) (omega (arith, few, each)))
       (held d entries rows next 0 asked legal state free) (omega (arith, count, none)) (omega (arith, length-append rows (new ∷ []), long, each)) granted.1 in
-      let pushed = sum_by_push (λ (row : Row). cost_on row link turn) rows new in
-      let split = sum_by-cons (λ (a : Asked). cost_on (granted_row d 0 0 a) link turn) asked more in
-      added (link_cost (held_in d (with_all d entries (asked ∷ more)) 0) link turn) (link_cost (rows ++ new ∷ []) link turn) (cost_of_all d more link turn)
-      (link_cost rows link turn) (cost_on new link turn) (cost_of_all d (asked ∷ more) link turn) rest pushed split
+      let pushed = sum_by_push (λ (row : Row). cost_on row link active_cycle) rows new in
+      let split = sum_by-cons (λ (a : Asked). cost_on (granted_row d 0 0 a) link active_cycle) asked more in
+      added (link_cost (held_in d (with_all d entries (asked ∷ more)) 0) link active_cycle) (link_cost (rows ++ new ∷ []) link active_cycle) (cost_of_all d more link active_cycle)
+      (link_cost rows link active_cycle) (cost_on new link active_cycle) (cost_of_all d (asked ∷ more) link active_cycle) rest pushed split
     where
       added : (whole grown rest rows new all : ℕ) → whole ≡ grown + rest → grown ≡ rows + new → all ≡ new + rest → whole ≡ rows + all
       added whole grown rest rows new all a b c = omega (arith, a, b, c)
 
 -- after an empty history
 pub list_costs_its_table : GrantedIsHeld → HistoryGoesOn → SealsAreCounted → GrantedFindsRoom → ListCostsItsTable
-list_costs_its_table held goes_on counted room d streams link turn granted =
-    all_cost held goes_on counted room d link turn streams [] [] 0
-    (record { replies = λ place e is. absurd (nothing place e is); few_seals = omega arith; few_calls = omega arith })
-    (record { held = refl; number = refl }) refl refl granted ∙ zero-add (cost_of_all d streams link turn)
+list_costs_its_table held goes_on counted room d streams link active_cycle granted =
+    all_cost held goes_on counted room d link active_cycle streams [] [] 0
+    (record { replies = λ index e is. absurd (nothing index e is); few_seals = omega arith; few_calls = omega arith })
+    (record { held = refl; number = refl }) refl refl granted ∙ zero-add (cost_of_all d streams link active_cycle)
   where
-    nothing : (place : ℕ) (e : Recorded) → slice_get [] place ≡ Some e → ⊥
-    nothing place e is = contains_none e (contains_at [] place e is)
+    nothing : (index : ℕ) (e : Recorded) → slice_get [] index ≡ Some e → ⊥
+    nothing index e is = contains_none e (contains_at [] index e is)
 
 -- ---- their names
 
@@ -252,11 +255,11 @@ module _ (held : GrantedIsHeld) (goes_on : HistoryGoesOn) (counted : SealsAreCou
 pub admitted_have_names : GrantedIsHeld → HistoryGoesOn → SealsAreCounted → GrantedFindsRoom → AdmittedHaveNames
 admitted_have_names held goes_on counted room d streams granted =
     names_apart held goes_on counted room d [] streams [] [] 0
-    (record { replies = λ place e is. absurd (nothing place e is); few_seals = omega arith; few_calls = omega arith })
+    (record { replies = λ index e is. absurd (nothing index e is); few_seals = omega arith; few_calls = omega arith })
     (record { held = refl; number = refl }) refl refl refl (pairs_none apart) granted
   where
-    nothing : (place : ℕ) (e : Recorded) → slice_get [] place ≡ Some e → ⊥
-    nothing place e is = contains_none e (contains_at [] place e is)
+    nothing : (index : ℕ) (e : Recorded) → slice_get [] index ≡ Some e → ⊥
+    nothing index e is = contains_none e (contains_at [] index e is)
 
 -- so the stream of a name is the first of that name
 pub one_of_a_name : GrantedIsHeld → HistoryGoesOn → SealsAreCounted → GrantedFindsRoom → OneOfAName

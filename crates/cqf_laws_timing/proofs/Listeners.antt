@@ -14,8 +14,8 @@ use Rattle.cqf_laws_history.specs.HistoryLaws.{GrantedIsATree, TreeIsItsBranches
 use Rattle.cqf_laws_history.specs.StateLaws.{granted_row}
 use Rattle.cqf_laws_history.proofs.Branches.{IsBranch, hop_made, hop_there, link_is, stands, two_at_least}
 use Rattle.cqf_laws_history.proofs.Granted.{branches as branch_of, granted}
-use Rattle.cqf_laws_shift.proofs.Trees.{one_depth, same_hop}
-use Rattle.cqf_laws_timing.specs.Listeners.{BranchesEnd, DepthsAreBridges, HasListener}
+use Rattle.cqf_laws_shift.proofs.Trees.{one_hop_number, same_hop}
+use Rattle.cqf_laws_timing.specs.Listeners.{BranchesEnd, HasListener, HopNumbersAreBridges}
 
 -- a node that is no bridge is a station
 station_of : (node : Node) → is_bridge (Some node) ≡ false → (station : ℕ) × (node ≡ Station station)
@@ -39,10 +39,10 @@ branches_end branches d rows asked branch free c =
     let g = granted d rows asked free in
     let good = branch_of d rows asked g branch c in
     let two = two_at_least d branch good in
-    by_place (length branch - 2) good (omega (arith, two))
+    by_index (length branch - 2) good (omega (arith, two))
   where
-    by_place : (k : ℕ) → IsBranch d branch → length branch ≡ suc k + 1 → HasListener d asked branch
-    by_place k good long =
+    by_index : (k : ℕ) → IsBranch d branch → length branch ≡ suc k + 1 → HasListener d asked branch
+    by_index k good long =
         let inside : k + 1 < length branch = omega (arith, long) in
         let next : k + 1 ≡ suc k = omega arith in
         let made = hop_made d branch k in
@@ -59,16 +59,16 @@ branches_end branches d rows asked branch free c =
             last = link_is d branch good k inside;
             ends = between.goes.end_is ∙ ap (λ (n : Node). Some n) station.1;
           };
-          is_hop = record { hop = made; of_tree = hop_in_tree branches d rows asked branch k free c good inside; is_depth = next; is_link = refl };
+          is_hop = record { hop = made; of_tree = hop_in_tree branches d rows asked branch k free c good inside; is_hop_number = next; is_link = refl };
         }
 
 -- it has no other hop number
-pub depths_are_bridges : GrantedIsATree → TreeIsItsBranches → DepthsAreBridges
-depths_are_bridges trees branches d rows asked branch row bridges depth link station free c ends tree at =
+pub hop_numbers_are_bridges : GrantedIsATree → TreeIsItsBranches → HopNumbersAreBridges
+hop_numbers_are_bridges trees branches d rows asked branch row bridges hop_number link station free c ends tree at =
     let has = branches_end branches d rows asked branch free c in
     let same : has.bridges ≡ bridges = omega (arith, has.ends_at.nodes, ends.nodes) in
     let last : has.link ≡ link =
     same_Some has.link link (sym has.ends_at.last ∙ ap (link_before d branch) same ∙ ends.last) in
     let there : IsHop row has.bridges has.link = same_hop (granted_row d 0 0 asked) row has.bridges has.link (sym tree) has.is_hop in
     let good : IsTree d row.tree.items = subst (IsTree d) (sym tree) (trees d rows asked free) in
-    one_depth d row good depth has.bridges link at (subst (λ (l : ℕ). IsHop row has.bridges l) last there) ∙ same
+    one_hop_number d row good hop_number has.bridges link at (subst (λ (l : ℕ). IsHop row has.bridges l) last there) ∙ same

@@ -15,7 +15,7 @@ use Rattle.cqf_model.specs.Network.{Network}
 use Rattle.cqf_model.specs.Promise.{MeansTheShiftAs}
 use Rattle.cqf_model.specs.Shift.{IsCovered, offer_cycle}
 use Rattle.cqf_model.specs.Table.{IsHop, table_of}
-use Rattle.cqf_model.specs.Traffic.{Carried, whole_at}
+use Rattle.cqf_model.specs.Policing.{Carried, whole_at}
 use Rattle.cqf_model.proofs.Links.{accepted_with}
 use Rattle.cqf_laws_history.specs.HistoryLaws.{TablesAreOrderly}
 use Rattle.cqf_laws_history.specs.StateLaws.{granted_row}
@@ -41,14 +41,14 @@ module _ (orderly : TablesAreOrderly) (shifts : LooseHistoryMeansTheShift) (time
     means = shifts d entries offers background cycles (slack_of d) net heard (accepted_with d is.accepted) is.legal is.offered is.beside is.sealed is.loose
 
     -- so the offer leaves on each link of its tree, and is heard in time
-    hears : (of : IsOfList d streams row) (depth link : ℕ) → IsHop row depth link → offer_cycle d x + depth < cycles →
-        IsHeardInTime d streams of.asked net heard x depth link
-    hears of depth link hop lasts =
+    hears : (of : IsOfList d streams row) (hop_number link : ℕ) → IsHop row hop_number link → offer_cycle d x + hop_number < cycles →
+        IsHeardInTime d streams of.asked net heard x hop_number link
+    hears of hop_number link hop lasts =
         let run = run_of_history d entries offers background cycles in
-        let s = means.each x.frame link (offer_cycle d x + depth)
-        (in_shift d entries offers background cycles x row covered x.frame depth link (offer_cycle d x + depth) refl hop refl lasts) in
+        let s = means.each x.frame link (offer_cycle d x + hop_number)
+        (in_shift d entries offers background cycles x row covered x.frame hop_number link (offer_cycle d x + hop_number) refl hop refl lasts) in
         let sent = s.sent in
-        let shift = in_shift d entries offers background cycles x row covered sent.frame depth link (cycle_of d sent.start.0) s.is_frame hop s.is_cycle
+        let shift = in_shift d entries offers background cycles x row covered sent.frame hop_number link (cycle_of d sent.start.0) s.is_frame hop s.is_cycle
         lasts in
         let is_link = (shift_hop run sent.frame link (cycle_of d sent.start.0) (orderly d entries cycles is.legal is.sealed) shift).0 in
         let h = is.loose.noted link sent in
@@ -57,8 +57,8 @@ module _ (orderly : TablesAreOrderly) (shifts : LooseHistoryMeansTheShift) (time
           is_heard = subst (λ (hs : List Sent). Contains hs h) (sym (is.loose.are link)) (contains_map (is.loose.noted link) (net.carried link) sent s.is_sent);
           is_frame = (is.loose.each link sent is_link s.is_sent).frame;
         } in
-        let told = timely d entries offers background cycles streams net heard is only paced link sent h is_heard shift in
-        let time = subst (λ (n : ℕ). IsTimely d link depth n x.offer.at.0 (whole_at d link h)) (bounds_alike d streams row told.0 of link) told.1 in
+        let reported = timely d entries offers background cycles streams net heard is only paced link sent h is_heard shift in
+        let time = subst (λ (n : ℕ). IsTimely d link hop_number n x.offer.at.0 (whole_at d link h)) (bounds_alike d streams row reported.0 of link) reported.1 in
         record {
           sent = sent;
           h = h;
@@ -68,7 +68,7 @@ module _ (orderly : TablesAreOrderly) (shifts : LooseHistoryMeansTheShift) (time
           octets = means.octets link sent x s.is_sent covered.offered s.is_frame;
           timely = time;
           in_time = λ deadline sure.
-              (timely_said d link depth (most_beside_all d streams of.asked link) x.offer.at.0 (whole_at d link h) time deadline).in_time sure;
+              (timely_said d link hop_number (most_beside_all d streams of.asked link) x.offer.at.0 (whole_at d link h) time deadline).in_time sure;
         }
 
     -- and at the listener of each branch of a request that makes the row's tree

@@ -5,13 +5,13 @@ use Rattle.std.specs.Prelude.{slice_get}
 use Rattle.std.proofs.lemmas.List.Elements.{Contains-append_cases}
 use Rattle.std.proofs.lemmas.Option.{slice_get_within}
 use Rattle.cqf_lists.proofs.Members.{contains_at, contains_none, contains_one}
-use Rattle.cqf_lists.proofs.Places.{slice_get_behind, slice_get_front}
+use Rattle.cqf_lists.proofs.Indices.{slice_get_after, slice_get_front}
 use Rattle.cqf_model.specs.declared.topology.Row.{Row}
 use Rattle.cqf_model.specs.Domain.{Domain}
 use Rattle.cqf_model.specs.History.{Admits, Asked, IsLegalHistory, Recorded, held_in, refusal_of, reply_to, seals}
 use Rattle.cqf_laws_history.specs.StateLaws.{GrantedFindsRoom, GrantedIsHeld, HistoryGoesOn, IsState, SealsAreCounted, granted_row, with_entry}
 use Rattle.cqf_laws_timing.specs.Streams.{AreGranted, with_all}
-use Rattle.cqf_laws_timing.specs.Told.{IsPlanned, RowsArePlanned}
+use Rattle.cqf_laws_timing.specs.Reported.{IsPlanned, RowsArePlanned}
 
 -- if streams are appended to a plan, its rows keep their streams
 planned_front : (d : Domain) (before after : List Asked) (row : Row) → IsPlanned d before row → IsPlanned d (before ++ after) row
@@ -29,7 +29,7 @@ planned_last : (d : Domain) (before : List Asked) (asked : Asked) (next effect :
     IsPlanned d (before ++ asked ∷ []) (granted_row d next effect asked)
 planned_last d before asked next effect is = record {
   asked = asked;
-  stands = slice_get_behind before asked [] next is;
+  stands = slice_get_after before asked [] next is;
   name = refl;
   octets = refl;
   pace = refl;
@@ -74,8 +74,8 @@ module _ (held : GrantedIsHeld) (goes_on : HistoryGoesOn) (counted : SealsAreCou
 pub rows_are_planned : GrantedIsHeld → HistoryGoesOn → SealsAreCounted → GrantedFindsRoom → RowsArePlanned
 rows_are_planned held goes_on counted room d streams row granted c =
     planned_by held goes_on counted room d [] streams [] [] 0
-    (record { replies = λ place e is. absurd (nothing place e is); few_seals = omega arith; few_calls = omega arith })
+    (record { replies = λ index e is. absurd (nothing index e is); few_seals = omega arith; few_calls = omega arith })
     (record { held = refl; number = refl }) refl refl refl (λ r k. absurd (contains_none r k)) granted row c
   where
-    nothing : (place : ℕ) (e : Recorded) → slice_get [] place ≡ Some e → ⊥
-    nothing place e is = contains_none e (contains_at [] place e is)
+    nothing : (index : ℕ) (e : Recorded) → slice_get [] index ≡ Some e → ⊥
+    nothing index e is = contains_none e (contains_at [] index e is)

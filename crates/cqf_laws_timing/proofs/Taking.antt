@@ -7,16 +7,17 @@ use Rattle.std.proofs.lemmas.Bool.{cond-true, ltb-true}
 use Rattle.std.proofs.lemmas.List.Sums.{sum_by-append, sum_by-cons}
 use Rattle.cqf_lists.specs.Lists.{each_below}
 use Rattle.cqf_lists.proofs.Members.{find_member}
-use Rattle.cqf_lists.proofs.Sums.{sum_by_keys, sum_filter, sum_le_members, sum_map, sum_member, sum_places, sum_plus}
+use Rattle.cqf_lists.proofs.Sums.{sum_by_keys, sum_filter, sum_indices, sum_le_members, sum_map, sum_member, sum_plus}
 use Rattle.cqf_model.specs.declared.frames.Offer.{Offer}
 use Rattle.cqf_model.specs.declared.frames.Offered.{Offered}
+use Rattle.cqf_units.specs.Timing.{counted_of}
 use Rattle.cqf_model.specs.declared.topology.Row.{Row}
 use Rattle.cqf_model.specs.Domain.{Domain, cycle_of, is_text}
 use Rattle.cqf_model.specs.Promise.{IsPolicedAs}
 use Rattle.cqf_model.specs.Run.{Run}
 use Rattle.cqf_model.specs.Shift.{IsCovered, claims, offer_cycle, offers_at, offers_before, take_octets}
 use Rattle.cqf_model.specs.Table.{AreOrderly, begins_at, is_live, reserved_in, row_named, table_of}
-use Rattle.cqf_model.specs.Traffic.{Carried, DroppedFor, ExceedsGate, LacksRow, Queued, Verdict, numbered}
+use Rattle.cqf_model.specs.Policing.{Carried, DroppedFor, ExceedsGate, LacksRow, Queued, Verdict, numbered}
 use Rattle.cqf_model.proofs.Texts.{is_text_same}
 use Rattle.cqf_laws_shift.specs.Edge.{EdgeIsCovered}
 use Rattle.cqf_laws_shift.proofs.Came.{one_number}
@@ -26,9 +27,9 @@ use Rattle.cqf_laws_timing.specs.Covered.{ConformingOwnIsCovered, ConformingStre
 use Rattle.cqf_laws_timing.specs.Traffic.{Conforms, IsTraffic, Traffic, needed}
 use Rattle.cqf_laws_timing.proofs.Fits.{conforming_offers_fit_a_cycle}
 
--- what an offer requests of a row in a cycle
+-- the octets that an offer requests of a row in a cycle: those that gates count
 abbrev claimed : Domain → Row → ℕ → Offered → ℕ
-claimed d row cycle y = if claims d row cycle y then y.offer.octets else 0
+claimed d row cycle y = if claims d row cycle y then counted_of d.overhead y.offer.octets else 0
 
 -- what is taken is within what is requested
 taken_within : (d : Domain) (row : Row) (cycle taken : ℕ) (xs : List Offered) →
@@ -39,7 +40,7 @@ taken_within d row cycle taken (x ∷ xs) =
       arith,
       taken_within d row cycle (take_octets d row cycle taken x) xs,
       sum_by-cons (claimed d row cycle) x xs,
-      step (claims d row cycle x) (nat_le (taken + x.offer.octets) (reserved_in row 0 cycle)) taken x.offer.octets,
+      step (claims d row cycle x) (nat_le (taken + counted_of d.overhead x.offer.octets) (reserved_in row 0 cycle)) taken (counted_of d.overhead x.offer.octets),
     )
   where
     -- one offer takes no more than it requests
@@ -104,14 +105,14 @@ module _ (offers : List Offer) (x : Offered) (inside : Contains (numbered offers
 -- numbering changes no sum
 sum_numbered : (counts : Offer → ℕ) (offers : List Offer) → sum_by (λ (y : Offered). counts y.offer) (numbered offers) ≡ sum_by counts offers
 sum_numbered counts offers =
-    sum_map (λ (y : Offered). counts y.offer) (λ (e : ℕ × Offer). the_offered e) (enumerate_from 1 offers) ∙ sum_places counts 1 offers
+    sum_map (λ (y : Offered). counts y.offer) (λ (e : ℕ × Offer). the_offered e) (enumerate_from 1 offers) ∙ sum_indices counts 1 offers
   where
     -- an offer with its number
     the_offered : ℕ × Offer → Offered
     the_offered e = record { frame = e.0; offer = e.1 }
 
 module _ (run : Run) (t : Traffic) (x : Offered) (row : Row) (some : 0 < run.domain.cycle_time) (is : IsTraffic t)
-    (enough : needed run.domain.cycle_time t ≤ reserved_in row 0 (offer_cycle run.domain x)) (at : IsAtItsEdge run x row) where
+    (enough : needed run.domain.overhead run.domain.cycle_time t ≤ reserved_in row 0 (offer_cycle run.domain x)) (at : IsAtItsEdge run x row) where
   -- the run's domain, and the offer's cycle
   abbrev d : Domain
   d = run.domain
@@ -125,13 +126,13 @@ module _ (run : Run) (t : Traffic) (x : Offered) (row : Row) (some : 0 < run.dom
 
   -- the octets of an offer, if it is of the cycle
   abbrev octets_in : Offer → ℕ
-  octets_in y = if cycle_of d y.at.0 == cycle then y.octets else 0
+  octets_in y = if cycle_of d y.at.0 == cycle then counted_of d.overhead y.octets else 0
 
   module _ (keeps : Offer → Bool) (c : Conforms t (filter keeps run.offers))
       (each : (y : Offer) → cycle_of d y.at.0 ≡ cycle → is_text row.name y.stream ≡ true → begins_at d row y.bridge ≡ true → keeps y ≡ true) where
     -- an offer that requests octets is among those that conform
     counted : (y : Offered) → claimed d row cycle y ≤ (if keeps y.offer then octets_in y.offer else 0)
-    counted y = by_test (claims d row cycle y) (keeps y.offer) (cycle_of d y.offer.at.0 == cycle) y.offer.octets (λ e.
+    counted y = by_test (claims d row cycle y) (keeps y.offer) (cycle_of d y.offer.at.0 == cycle) (counted_of d.overhead y.offer.octets) (λ e.
         let three = and_three (cycle_of d y.offer.at.0 == cycle) (is_text row.name y.offer.stream) (begins_at d row y.offer.bridge) e in
         (each y.offer (eqb-true (cycle_of d y.offer.at.0) cycle three.0) three.1 three.2, three.0))
       where
@@ -143,13 +144,13 @@ module _ (run : Run) (t : Traffic) (x : Offered) (row : Row) (some : 0 < run.dom
         by_test true false c v e = absurd (let h = (e refl).0 in cc)
 
     -- so all together they request no more than is needed
-    asked_within : sum_by (claimed d row cycle) (numbered run.offers) ≤ needed d.cycle_time t
+    asked_within : sum_by (claimed d row cycle) (numbered run.offers) ≤ needed d.overhead d.cycle_time t
     asked_within =
-        let fits = (conforming_offers_fit_a_cycle d.cycle_time t (filter keeps run.offers) cycle some is c).octets in
+        let fits = (conforming_offers_fit_a_cycle d.overhead d.cycle_time t (filter keeps run.offers) cycle some is c).octets in
         let less = sum_le_members (claimed d row cycle) (λ (y : Offered). if keeps y.offer then octets_in y.offer else 0) (numbered run.offers)
         (λ y k. counted y) in
         let same = sum_numbered (λ (y : Offer). if keeps y then octets_in y else 0) run.offers ∙ sym (sum_filter octets_in keeps run.offers)
-        ∙ sym (sum_filter (λ (y : Offer). y.octets) (λ (y : Offer). cycle_of d y.at.0 == cycle) (filter keeps run.offers)) in
+        ∙ sym (sum_filter (λ (y : Offer). counted_of d.overhead y.octets) (λ (y : Offer). cycle_of d y.at.0 == cycle) (filter keeps run.offers)) in
         omega (arith, fits, less, same)
 
     -- and the offer is covered
@@ -158,7 +159,7 @@ module _ (run : Run) (t : Traffic) (x : Offered) (row : Row) (some : 0 < run.dom
         let before = offers_before run.offers x in
         let taken = taken_within d row cycle 0 before in
         let all = before_and_itself run.offers x at.offered (claimed d row cycle) in
-        let own : claimed d row cycle x ≡ x.offer.octets = cond-true (claims d row cycle x) x.offer.octets 0
+        let own : claimed d row cycle x ≡ counted_of d.overhead x.offer.octets = cond-true (claims d row cycle x) (counted_of d.overhead x.offer.octets) 0
         (three_and (offer_cycle d x == cycle) (is_text row.name x.offer.stream) (begins_at d row x.offer.bridge) (eq-eqb cycle cycle refl) names
         at.first_bridge) in
         record {

@@ -19,8 +19,8 @@ use Rattle.cqf_model.specs.Shift.{InShift, offer_cycle}
 use Rattle.cqf_model.specs.Table.{AreOrderly, link_cost, table_of}
 use Rattle.cqf_model.specs.declared.topology.Hop.{Hop}
 use Rattle.cqf_model.specs.declared.topology.Row.{Row}
-use Rattle.cqf_model.specs.Traffic.{whole_at}
-use Rattle.cqf_model.proofs.Residence.{depth_some}
+use Rattle.cqf_model.specs.Policing.{whole_at}
+use Rattle.cqf_model.proofs.Residence.{hop_number_some}
 use Rattle.cqf_laws_shift.specs.MainLaw.{GatesMeanTheShift}
 use Rattle.cqf_laws_shift.specs.Run.{IsLegalRun, RunBesideIsRunAlone}
 use Rattle.cqf_laws_shift.proofs.CycleLaws.{CycleLaws}
@@ -79,10 +79,10 @@ more_cost d slack link cycle cost more whole within w = record {
     wider over from span wide delay sync last grows = omega (arith, last, grows)
 
 -- the bounds after the offer's instant, by the time of a shortest frame, the gap and the span of the cost
-latency_by : (n short gap span delay at depth cycle whole : ℕ) → 0 < n → cycle ≡ at / n + depth → cycle * n + short + delay ≤ whole →
+latency_by : (n short gap span delay at hop_number cycle whole : ℕ) → 0 < n → cycle ≡ at / n + hop_number → cycle * n + short + delay ≤ whole →
     whole + gap ≤ cycle * n + span + delay →
-    (at + depth * n + 1 + short + delay ≤ whole + n) × (whole + gap ≤ at + depth * n + span + delay)
-latency_by n short gap span delay at depth cycle whole some is first last =
+    (at + hop_number * n + 1 + short + delay ≤ whole + n) × (whole + gap ≤ at + hop_number * n + span + delay)
+latency_by n short gap span delay at hop_number cycle whole some is first last =
     let scaled = ap (λ (z : ℕ). z * n) is in
     (omega (arith, scaled, first, cycle_upto n at some), omega (arith, scaled, last, cycle_from n at))
 
@@ -93,14 +93,14 @@ one_less n k some =
     omega (arith, ap (λ (z : ℕ). z * n) is)
 
 -- a lower bound up to the clocks' difference is a lower bound as reported, without it
-least_told : (at before deep n short least sync whole : ℕ) → before + n ≡ deep → at + deep + 1 + short + least ≤ whole + n + sync → sync ≤ short + least →
+least_reported : (at before deep n short least sync whole : ℕ) → before + n ≡ deep → at + deep + 1 + short + least ≤ whole + n + sync → sync ≤ short + least →
     at + ((before + 1 + short + least) - sync) ≤ whole
-least_told at before deep n short least sync whole is first long = omega (arith, is, first, long)
+least_reported at before deep n short least sync whole is first long = omega (arith, is, first, long)
 
 -- what is over with its gap within a span is over within the rest of it
-most_told : (whole at from short gap span delay sync : ℕ) → whole + gap ≤ at + from + span + delay + sync → short + gap ≤ span →
+most_reported : (whole at from short gap span delay sync : ℕ) → whole + gap ≤ at + from + span + delay + sync → short + gap ≤ span →
     whole ≤ at + (from + (span - gap) + delay + sync)
-most_told whole at from short gap span delay sync last fits = omega (arith, last, fits)
+most_reported whole at from short gap span delay sync last fits = omega (arith, last, fits)
 
 -- and within the window after the first possible instant
 within_window : (whole from short least gap span delay sync : ℕ) → whole + gap ≤ from + span + delay + sync → short + gap ≤ span → least ≤ delay →
@@ -112,17 +112,17 @@ pub shortest_fits : (r cost : ℕ) → 84 ≤ cost → time_of 72 r + 12 * r / 2
 shortest_fits r cost enough = le_trans (slot_parts 64 r) (shortest_in_span cost r enough)
 
 -- the bounds after the offer's instant
-latency_within : (d : Domain) (link cycle cost whole at depth : ℕ) → 0 < d.cycle_time → cycle ≡ cycle_of d at + depth →
-    IsWholeWithin d link cycle cost whole → IsLatencyWithin d link depth cost at whole
-latency_within d link cycle cost whole at depth some is w =
+latency_within : (d : Domain) (link cycle cost whole at hop_number : ℕ) → 0 < d.cycle_time → cycle ≡ cycle_of d at + hop_number →
+    IsWholeWithin d link cycle cost whole → IsLatencyWithin d link hop_number cost at whole
+latency_within d link cycle cost whole at hop_number some is w =
     let r = octet_time_of d link in
-    let b = latency_by d.cycle_time (time_of 72 r) (gap_of d link) (span_of cost r) (delay_of d link) at depth cycle whole some is w.earliest w.latest in
+    let b = latency_by d.cycle_time (time_of 72 r) (gap_of d link) (span_of cost r) (delay_of d link) at hop_number cycle whole some is w.earliest w.latest in
     record { least = b.0; most = b.1 }
 
 -- and as they are reported
-pub timely : (d : Domain) (link cycle cost whole at depth : ℕ) → IsAccepted d → link < length d.links → 0 < depth → cycle ≡ cycle_of d at + depth →
-    IsWholeAbout d (slack_of d) link cycle cost whole → IsTimely d link depth cost at whole
-timely d link cycle cost whole at depth accepted is_link deep is w =
+pub timely : (d : Domain) (link cycle cost whole at hop_number : ℕ) → IsAccepted d → link < length d.links → 0 < hop_number → cycle ≡ cycle_of d at + hop_number →
+    IsWholeAbout d (slack_of d) link cycle cost whole → IsTimely d link hop_number cost at whole
+timely d link cycle cost whole at hop_number accepted is_link deep is w =
     let n = d.cycle_time in
     let r = octet_time_of d link in
     let short = time_of 72 r in
@@ -130,34 +130,34 @@ timely d link cycle cost whole at depth accepted is_link deep is w =
     let gap = gap_of d link in
     let delay = delay_of d link in
     let least = least_delay_of d link in
-    let about = latency_about d (slack_of d) link depth cost at cycle whole (omega (arith, accepted.cycle_least)) is w in
-    let scaled : cycle * n ≡ (cycle_of d at + depth) * n = ap (λ (z : ℕ). z * n) is in
+    let about = latency_about d (slack_of d) link hop_number cost at cycle whole (omega (arith, accepted.cycle_least)) is w in
+    let scaled : cycle * n ≡ (cycle_of d at + hop_number) * n = ap (λ (z : ℕ). z * n) is in
     let fits = shortest_fits r cost w.some_cost in
     let first = subst (λ (z : ℕ). z + short + least ≤ whole + d.sync) scaled w.earliest in
     let last = subst (λ (z : ℕ). whole + gap ≤ z + span + delay + d.sync) scaled w.latest in
     record {
-      some_depth = deep;
+      some_hop_number = deep;
       some_cost = w.some_cost;
-      least = least_told at ((depth - 1) * n) (depth * n) n short least d.sync whole (one_less n depth deep) about.least (least_long d link accepted is_link);
-      most = most_told whole at (depth * n) short gap span delay d.sync about.most fits;
-      window_first = begins ((cycle_of d at + depth) * n + short + least) d.sync first;
-      window_last = within_window whole ((cycle_of d at + depth) * n) short least gap span delay d.sync last fits (least_within d link accepted);
+      least = least_reported at ((hop_number - 1) * n) (hop_number * n) n short least d.sync whole (one_less n hop_number deep) about.least (least_long d link accepted is_link);
+      most = most_reported whole at (hop_number * n) short gap span delay d.sync about.most fits;
+      window_first = begins ((cycle_of d at + hop_number) * n + short + least) d.sync first;
+      window_last = within_window whole ((cycle_of d at + hop_number) * n) short least gap span delay d.sync last fits (least_within d link accepted);
     }
   where
     begins : (from sync : ℕ) → from ≤ whole + sync → from - sync ≤ whole
     begins from sync first = omega (arith, first)
 
 -- the bounds in numbers
-short_by : (n g short gap span delay least sync depth : ℕ) → 0 < n → g < n → delay + sync < g → least ≤ delay → 0 < depth → short + gap ≤ span → span + g ≤ n →
-    (((depth - 1) * n + 1 + short + least) - sync ≤ depth * n + (span - gap) + delay + sync)
-    × (depth * n + (span - gap) + delay + sync < (depth + 1) * n)
-short_by n g short gap span delay least sync depth some less within lower deep fits in_time =
-    (omega (arith, one_less n depth deep, fits, some, lower), omega (arith, fits, in_time, within, less))
+short_by : (n g short gap span delay least sync hop_number : ℕ) → 0 < n → g < n → delay + sync < g → least ≤ delay → 0 < hop_number → short + gap ≤ span → span + g ≤ n →
+    (((hop_number - 1) * n + 1 + short + least) - sync ≤ hop_number * n + (span - gap) + delay + sync)
+    × (hop_number * n + (span - gap) + delay + sync < (hop_number + 1) * n)
+short_by n g short gap span delay least sync hop_number some less within lower deep fits in_time =
+    (omega (arith, one_less n hop_number deep, fits, some, lower), omega (arith, fits, in_time, within, less))
 
 pub bounds_are_short : BoundsAreShort
-bounds_are_short d link depth cost accepted is_link deep enough fits =
+bounds_are_short d link hop_number cost accepted is_link deep enough fits =
     let r = octet_time_of d link in
-    short_by d.cycle_time (guard_of d link) (time_of 72 r) (gap_of d link) (span_of cost r) (delay_of d link) (least_delay_of d link) d.sync depth
+    short_by d.cycle_time (guard_of d link) (time_of 72 r) (gap_of d link) (span_of cost r) (delay_of d link) (least_delay_of d link) d.sync hop_number
     (omega (arith, accepted.cycle_least)) (guard_within d link accepted) (sync_within d link accepted is_link) (least_within d link accepted) deep
     (shortest_fits r cost enough) (span_in_time d.cycle_time (guard_of d link) r cost (omega (arith, guard_within d link accepted)) fits)
 
@@ -166,7 +166,7 @@ pub latency_is_within_held : CycleLaws → RunBesideIsRunAlone → GatesMeanTheS
 latency_is_within_held laws beside means run net link sent legal c shift =
     latency_within run.domain link (cycle_of run.domain sent.start.0)
     (link_cost (table_of run.tables (cycle_of run.domain sent.start.0)) link (cycle_of run.domain sent.start.0)) (whole_at run.domain link sent)
-    shift.x.offer.at.0 shift.depth (omega (arith, legal.accepted.cycle_least)) shift.is_cycle (whole_within laws beside means run net legal link sent c)
+    shift.x.offer.at.0 shift.hop_number (omega (arith, legal.accepted.cycle_least)) shift.is_cycle (whole_within laws beside means run net legal link sent c)
 
 pub starts_are_whole_within_held : CycleLaws → RunBesideIsRunAlone → GatesMeanTheShift → StartsAreWholeWithinHeld
 starts_are_whole_within_held laws beside means run book accepted orderly offered background is s c =
@@ -180,7 +180,7 @@ starts_are_whole_within_held laws beside means run book accepted orderly offered
 
 -- a link of a frame's tree is one of the domain's, and its hop number is at least 1
 pub shift_hop : (run : Run) (frame link cycle : ℕ) → AreOrderly run.domain run.tables → (shift : InShift run (length run.tables) frame link cycle) →
-    (link < length run.domain.links) × (0 < shift.depth)
+    (link < length run.domain.links) × (0 < shift.hop_number)
 shift_hop run frame link cycle orderly shift =
     let row = shift.row in
     let at = offer_cycle run.domain shift.x in
@@ -189,11 +189,11 @@ shift_hop run frame link cycle orderly shift =
     let hop = shift.is_hop in
     let inside = All-contains (λ (h : Hop). h.link < length run.domain.links) row.tree.items hop.hop tree.inside hop.of_tree in (
       omega (arith, inside, hop.is_link),
-      omega (arith, depth_some run.domain row.tree.items hop.hop tree hop.of_tree, hop.is_depth),
+      omega (arith, hop_number_some run.domain row.tree.items hop.hop tree hop.of_tree, hop.is_hop_number),
     )
 
 pub shift_deep : (run : Run) (frame link cycle : ℕ) → AreOrderly run.domain run.tables → (shift : InShift run (length run.tables) frame link cycle) →
-    0 < shift.depth
+    0 < shift.hop_number
 shift_deep run frame link cycle orderly shift = (shift_hop run frame link cycle orderly shift).1
 
 pub book_is_timely : CycleLaws → RunBesideIsRunAlone → GatesMeanTheShift → BookIsTimely
@@ -201,6 +201,6 @@ book_is_timely laws beside means run book accepted orderly offered background is
     let cost = link_cost (table_of run.tables s.cycle.0) s.link s.cycle.0 in
     let whole = whole_of run.domain s in
     let hop = shift_hop run s.frame s.link s.cycle.0 orderly shift in
-    timely run.domain s.link s.cycle.0 cost whole shift.x.offer.at.0 shift.depth accepted hop.0 hop.1 shift.is_cycle
+    timely run.domain s.link s.cycle.0 cost whole shift.x.offer.at.0 shift.hop_number accepted hop.0 hop.1 shift.is_cycle
     (about_of run.domain s.link s.cycle.0 cost whole accepted
     (starts_are_whole_within_held laws beside means run book accepted orderly offered background is s c))

@@ -13,7 +13,7 @@ use Rattle.cqf_model.specs.Domain.{bridge_of, cycle_of, delay_of, octet_time_of}
 use Rattle.cqf_model.specs.Network.{Network, QueuedFrame, queued_in}
 use Rattle.cqf_model.specs.Run.{Run, end_of_run}
 use Rattle.cqf_model.specs.Table.{link_cost, table_of}
-use Rattle.cqf_model.specs.Traffic.{Carried, whole_at}
+use Rattle.cqf_model.specs.Policing.{Carried, whole_at}
 use Rattle.cqf_model.specs.Promise.{wire_in_cycle}
 use Rattle.cqf_lists.proofs.Members.{contains_cases, contains_filter, contains_from_filter, contains_here, contains_later, contains_none}
 use Rattle.cqf_lists.proofs.Sums.{sum_filter, sum_member}
@@ -29,7 +29,7 @@ use Rattle.cqf_laws_instants.specs.Instants.{in_turn_from}
 use Rattle.cqf_laws_timing.specs.Latency.{FramesAreWholeWithinHeld, FramesAreWholeWithinQueued, IsWholeWithin}
 use Rattle.cqf_laws_instants.proofs.Booked.{queued_of_stream, sent_one}
 use Rattle.cqf_laws_instants.proofs.Dues.{alone_is_due, now_within}
-use Rattle.cqf_laws_instants.proofs.Turns.{wire}
+use Rattle.cqf_laws_instants.proofs.DueStarts.{wire}
 use Rattle.cqf_laws_instants.proofs.Shorts.{sent_least}
 
 -- what a frame takes of the wire
@@ -124,7 +124,7 @@ module _ (laws : CycleLaws) (beside : RunBesideIsRunAlone) (shift : GatesMeanThe
       let due : batch d net.carried link (before + 1) ≡ in_turn_from ((before + 1) * n) r queue = alone_is_due laws run net.carried alone link before in_run in
       let member = contains_filter (λ (s : Sent). cycle_of d s.start.0 == before + 1) (net.carried link) sent c
       (eq-eqb (cycle_of d sent.start.0) (before + 1) is) in
-      let turn = in_turn_within ((before + 1) * n) r queue (queued_of_stream laws run net.carried alone link before (omega (arith, in_run))) sent
+      let active_cycle = in_turn_within ((before + 1) * n) r queue (queued_of_stream laws run net.carried alone link before (omega (arith, in_run))) sent
       (subst (λ (xs : List Sent). Contains xs sent) due member) in
       let takes : sum_by sent_wire (in_turn_from ((before + 1) * n) r queue) ≡ wire_in_cycle d net.carried link (before + 1) =
       ap (sum_by sent_wire) (sym due) ∙ sum_filter sent_wire (λ (s : Sent). cycle_of d s.start.0 == before + 1) (net.carried link) in
@@ -136,7 +136,7 @@ module _ (laws : CycleLaws) (beside : RunBesideIsRunAlone) (shift : GatesMeanThe
       (contains_from_filter (λ (s : Sent). cycle_of d s.start.0 == before + 1) (net.carried link) s (subst (λ (xs : List Sent). Contains xs s) (sym due) k)).0 in
       let span = slots_within r cost (in_turn_from ((before + 1) * n) r queue) each fits in
       let slots = sum_by (sent_slot r) (in_turn_from ((before + 1) * n) r queue) in
-      let bounds = whole_by n r (delay_of d link) (before + 1) cost sent.start.0 sent.octets slots enough turn.0 turn.1 span in
+      let bounds = whole_by n r (delay_of d link) (before + 1) cost sent.start.0 sent.octets slots enough active_cycle.0 active_cycle.1 span in
       let counted = sum_member sent_wire (in_turn_from ((before + 1) * n) r queue) sent (subst (λ (xs : List Sent). Contains xs sent) due member) in
       record { earliest = bounds.0; latest = bounds.1; some_cost = omega (arith, enough, counted, fits) }
 
@@ -186,7 +186,7 @@ module _ (laws : CycleLaws) (beside : RunBesideIsRunAlone) (run : Run) (net : Ne
       (eq-eqb (cycle_of d sent.start.0) (before + 1) is) in
       let streams = queued_of_stream laws run carried alone link before sooner in
       let there = subst (λ (xs : List Sent). Contains xs sent) due member in
-      let turn = in_turn_within ((before + 1) * n) r queue streams sent there in
+      let active_cycle = in_turn_within ((before + 1) * n) r queue streams sent there in
       let wires = sum_by sent_wire (in_turn_from ((before + 1) * n) r queue) in
       let bridge = bridge_of d link in
       let short = least laws run carried alone.planned alone.meets (fed laws run carried alone) bridge in
@@ -196,14 +196,15 @@ module _ (laws : CycleLaws) (beside : RunBesideIsRunAlone) (run : Run) (net : Ne
         in_turn_takes ((before + 1) * n) r queue streams,
         now_within laws run carried alone link is_link before sooner,
         load_within_cost d run.tables bridge (came run carried (end_of_run run) bridge) (policed run carried (end_of_run run) bridge)
-            (facts laws run carried alone.planned bridge) link alone.planned.orderly.trees short before,
+            (facts laws run carried alone.planned bridge) link alone.planned.accepted.overhead_short alone.planned.orderly.trees
+            alone.planned.orderly.overheads short before,
       ) in
       let enough = sent_least laws run carried alone link sent c in
       let each : (s : Sent) → Contains (in_turn_from ((before + 1) * n) r queue) s → 64 ≤ s.octets = λ s k. sent_least laws run carried alone link s
       (contains_from_filter (λ (s : Sent). cycle_of d s.start.0 == before + 1) (carried link) s (subst (λ (xs : List Sent). Contains xs s) (sym due) k)).0 in
       let span = slots_within r cost (in_turn_from ((before + 1) * n) r queue) each fits in
       let slots = sum_by (sent_slot r) (in_turn_from ((before + 1) * n) r queue) in
-      let bounds = whole_by n r (delay_of d link) (before + 1) cost sent.start.0 sent.octets slots enough turn.0 turn.1 span in
+      let bounds = whole_by n r (delay_of d link) (before + 1) cost sent.start.0 sent.octets slots enough active_cycle.0 active_cycle.1 span in
       let counted = sum_member sent_wire (in_turn_from ((before + 1) * n) r queue) sent there in
       record { earliest = bounds.0; latest = bounds.1; some_cost = omega (arith, enough, counted, fits) }
 

@@ -15,12 +15,13 @@ abbrev pub called_in_turn : Domain → List Recorded → List (ℕ × Act) → L
 called_in_turn d entries calls =
     fold (λ (before : List Recorded) (call : ℕ × Act). with_entry before call.0 call.1 (reply_to d before call.1)) entries calls
 
--- such calls add no other stream
+-- if a history admits only streams of the list, and further calls request only these, the longer history admits only these
 abbrev pub CallsAdmitOnly : Type 0
 CallsAdmitOnly = (d : Domain) (streams : List Asked) (entries : List Recorded) (calls : List (ℕ × Act)) → AdmitsOnly streams entries →
     ((call : ℕ × Act) → Contains calls call → AsksOnly streams call.1) → AdmitsOnly streams (called_in_turn d entries calls)
 
--- nor does a history of what was called at each seat, if its opening part admits no other stream and no call at a seat requests one
+-- a history of what was called at each seat admits only streams of the list, if its opening part admits no other stream and no call at a
+-- seat requests one
 abbrev pub SeatsAdmitOnly : Type 0
 SeatsAdmitOnly = (d : Domain) (streams : List Asked) (opening entries : List Recorded) (asked : List (List Act)) (cycles : ℕ) →
     IsHistoryOf d opening asked cycles entries → AdmitsOnly streams opening →

@@ -8,4 +8,4 @@ pub mod Covered
 pub mod InTime
 pub mod LooseInTime
 pub mod Asking
-pub mod Told
+pub mod Reported

@@ -11,7 +11,7 @@ use Rattle.cqf_model.specs.Loose.{IsAcceptedWith, IsLooseNetwork, Slack, slack_o
 use Rattle.cqf_model.specs.Network.{Network}
 use Rattle.cqf_model.specs.Run.{AreBackground, AreOffers}
 use Rattle.cqf_model.specs.Shift.{InShift}
-use Rattle.cqf_model.specs.Traffic.{Carried, whole_at}
+use Rattle.cqf_model.specs.Policing.{Carried, whole_at}
 use Rattle.cqf_laws_timing.specs.Latency.{IsTimely}
 use Rattle.cqf_laws_timing.specs.Streams.{AdmitsOnly, ArePaced, IsOfList, most_beside_all}
 use Rattle.cqf_laws_timing.specs.Verdicts.{IsAsSaid, sure_on}
@@ -33,8 +33,8 @@ pub record IsHeardOf (net : Network) (heard : Carried) (link : ℕ) (sent h : Se
   pub is_heard : Contains (heard link) h
   pub is_frame : h.frame ≡ sent.frame
 
--- in each loose network with the slack that the domain states, each frame is timely by the most that the list costs in the cycles
--- of the frame's stream, from its offer by the edge bridge's clock to its full arrival by the clock at the link's end
+-- in each loose network with the slack that the domain states, each frame is timely by the most that the list costs in the cycles of the
+-- frame's stream. Its time is measured from its offer by the edge bridge's clock to its full arrival by the clock at the link's end
 abbrev pub LooseHistoryIsTimely : Type 0
 LooseHistoryIsTimely =
     (d : Domain) (entries : List Recorded) (offers : List Offer) (background : List Background) (cycles : ℕ) (streams : List Asked) (net : Network)
@@ -42,7 +42,7 @@ LooseHistoryIsTimely =
     (link : ℕ) (sent h : Sent) → IsHeardOf net heard link sent h →
     (shift : InShift (run_of_history d entries offers background cycles) (length (tables_of d entries cycles)) sent.frame link (cycle_of d sent.start.0)) →
     (of : IsOfList d streams shift.row)
-    × IsTimely d link shift.depth (most_beside_all d streams of.asked link) shift.x.offer.at.0 (whole_at d link h)
+    × IsTimely d link shift.hop_number (most_beside_all d streams of.asked link) shift.x.offer.at.0 (whole_at d link h)
 
 -- so each frame is as the verdict says, for any deadline
 abbrev pub LooseVerdictsHold : Type 0
@@ -52,14 +52,14 @@ LooseVerdictsHold =
     (link : ℕ) (sent h : Sent) → IsHeardOf net heard link sent h →
     (shift : InShift (run_of_history d entries offers background cycles) (length (tables_of d entries cycles)) sent.frame link (cycle_of d sent.start.0)) →
     (of : IsOfList d streams shift.row) × ((deadline : ℕ) →
-    IsAsSaid shift.x.offer.at.0 (whole_at d link h) deadline (sure_on d streams of.asked link shift.depth deadline))
+    IsAsSaid shift.x.offer.at.0 (whole_at d link h) deadline (sure_on d streams of.asked link shift.hop_number deadline))
 
 -- with any slack, each frame arrives fully within the list's bounds and the slack, and so within each deadline that is at least the
 -- most
-pub record IsInTimeLoosely (d : Domain) (slack : Slack) (link depth cost at whole : ℕ) : Type 0 where
-  pub about : IsLatencyAbout d slack link depth cost at whole
+pub record IsInTimeLoosely (d : Domain) (slack : Slack) (link hop_number cost at whole : ℕ) : Type 0 where
+  pub about : IsLatencyAbout d slack link hop_number cost at whole
   pub in_time : (deadline : ℕ) →
-      depth * d.cycle_time + span_of cost (octet_time_of d link) + delay_of d link + slack.sync ≤ deadline + gap_of d link → whole ≤ at + deadline
+      hop_number * d.cycle_time + span_of cost (octet_time_of d link) + delay_of d link + slack.sync ≤ deadline + gap_of d link → whole ≤ at + deadline
 
 abbrev pub LooseHistoryIsInTime : Type 0
 LooseHistoryIsInTime =
@@ -68,4 +68,4 @@ LooseHistoryIsInTime =
     AdmitsOnly streams entries → ArePaced streams → (link : ℕ) (sent h : Sent) → IsHeardOf net heard link sent h →
     (shift : InShift (run_of_history d entries offers background cycles) (length (tables_of d entries cycles)) sent.frame link (cycle_of d sent.start.0)) →
     (of : IsOfList d streams shift.row)
-    × IsInTimeLoosely d slack link shift.depth (most_beside_all d streams of.asked link) shift.x.offer.at.0 (whole_at d link h)
+    × IsInTimeLoosely d slack link shift.hop_number (most_beside_all d streams of.asked link) shift.x.offer.at.0 (whole_at d link h)

@@ -41,7 +41,8 @@ abbrev pub AdmitsOnly : List Asked → List Recorded → Type 0
 AdmitsOnly streams entries = (e : Recorded) (asked : Asked) (receipt : Receipt) → Contains entries e → e.act ≡ Admits asked → e.reply ≡ Accepted receipt →
     Contains streams asked
 
--- this holds for an empty history, and still holds after one more call that requests no other stream, regardless of the reply
+-- an empty history admits only streams of any list. A history that admits only these still does after one more call that requests no other
+-- stream, regardless of the reply
 abbrev pub NoneAdmitsOnly : Type 0
 NoneAdmitsOnly = (streams : List Asked) → AdmitsOnly streams []
 
@@ -55,18 +56,19 @@ pub record IsOfList (d : Domain) (streams : List Asked) (row : Row) : Type 0 whe
   pub listed : Contains streams asked
   pub name : row.name ≡ asked.name
   pub octets : row.octets ≡ asked.octets
+  pub overhead : row.overhead ≡ d.overhead
   pub pace : row.pace ≡ pace_of asked
   pub tree : row.tree.items ≡ tree_of d asked.paths
 
--- in such a history, each row of a table is one of the list's
+-- each row of a table of a history that admits only streams of a list is one of the list's
 abbrev pub RowsAreOfList : Type 0
 RowsAreOfList = (d : Domain) (entries : List Recorded) (streams : List Asked) (cycles cycle : ℕ) (row : Row) → AdmitsOnly streams entries →
     Contains (table_of (tables_of d entries cycles) cycle) row → IsOfList d streams row
 
--- and no table costs more of a link than the whole list
+-- no table of a history that admits only streams of a list costs more of a link than the whole list
 abbrev pub TablesCostNoMore : Type 0
-TablesCostNoMore = (d : Domain) (entries : List Recorded) (streams : List Asked) (cycles cycle link turn : ℕ) → IsLegalHistory d entries →
-    cycles ≤ seals entries → AdmitsOnly streams entries → link_cost (table_of (tables_of d entries cycles) cycle) link turn ≤ cost_of_all d streams link turn
+TablesCostNoMore = (d : Domain) (entries : List Recorded) (streams : List Asked) (cycles cycle link active_cycle : ℕ) → IsLegalHistory d entries →
+    cycles ≤ seals entries → AdmitsOnly streams entries → link_cost (table_of (tables_of d entries cycles) cycle) link active_cycle ≤ cost_of_all d streams link active_cycle
 
 -- the history after seat 0 requests streams in turn, and that none of these requests is refused
 abbrev pub with_all : Domain → List Recorded → List Asked → List Recorded
@@ -81,10 +83,11 @@ AreGranted d entries (asked ∷ more) =
 
 -- if they are all admitted before cycle 0, they cost what the table of cycle 0 costs
 abbrev pub ListCostsItsTable : Type 0
-ListCostsItsTable = (d : Domain) (streams : List Asked) (link turn : ℕ) → AreGranted d [] streams →
-    link_cost (held_in d (with_all d [] streams) 0) link turn ≡ cost_of_all d streams link turn
+ListCostsItsTable = (d : Domain) (streams : List Asked) (link active_cycle : ℕ) → AreGranted d [] streams →
+    link_cost (held_in d (with_all d [] streams) 0) link active_cycle ≡ cost_of_all d streams link active_cycle
 
--- and no two of them have the same name, so the stream of a name is the first of that name
+-- if the streams of a list are all admitted before cycle 0, no two of them have the same name, so the stream of a name is the first of that
+-- name
 abbrev pub AdmittedHaveNames : Type 0
 AdmittedHaveNames = (d : Domain) (streams : List Asked) → AreGranted d [] streams → AllPairs (λ (a b : Asked). a.name ≢ b.name) streams
 
@@ -100,4 +103,4 @@ HistoryIsTimely =
     IsAccepted d → IsLegalHistory d entries → AreOffers d offers → AreBackground d background →
     IsBookOfHistory d entries offers background cycles book → AdmitsOnly streams entries → ArePaced streams → (s : Started) → Contains book.starts s →
     (shift : InShift (run_of_history d entries offers background cycles) (length (tables_of d entries cycles)) s.frame s.link s.cycle.0) →
-    (of : IsOfList d streams shift.row) × IsTimely d s.link shift.depth (most_beside_all d streams of.asked s.link) shift.x.offer.at.0 (whole_of d s)
+    (of : IsOfList d streams shift.row) × IsTimely d s.link shift.hop_number (most_beside_all d streams of.asked s.link) shift.x.offer.at.0 (whole_of d s)

@@ -2,17 +2,17 @@
 ghost use Rattle.cqf_laws_timing.specs.Latency.{BookIsTimely, BoundsAreShort, FramesAreWholeWithinHeld};
 ghost use Rattle.cqf_laws_timing.specs.Latency.{FramesAreWholeWithinQueued, LatencyIsWithinHeld};
 ghost use Rattle.cqf_laws_timing.specs.Latency.{StartsAreWholeWithinHeld};
-ghost use Rattle.cqf_laws_timing.specs.Listeners.{BranchesEnd, DepthsAreBridges};
+ghost use Rattle.cqf_laws_timing.specs.Listeners.{BranchesEnd, HopNumbersAreBridges};
 ghost use Rattle.cqf_laws_timing.specs.LooseStreams.{LooseHistoryIsInTime, LooseHistoryIsTimely, LooseVerdictsHold};
 ghost use Rattle.cqf_laws_timing.specs.Streams.{AdmitsOnlyGoesOn, AdmittedHaveNames, HistoryIsTimely};
 ghost use Rattle.cqf_laws_timing.specs.Streams.{ListCostsItsTable, NoneAdmitsOnly, OneOfAName, RowsAreOfList};
 ghost use Rattle.cqf_laws_timing.specs.Streams.{TablesCostNoMore};
 ghost use Rattle.cqf_laws_timing.specs.Verdicts.{VerdictsHold};
 
-/// Proves that each frame that a link sends has fully arrived in the next node within the cost of the streams that are held in the
-/// cycle of its start, or in the cycle in which it was queued. So the latency of each frame, and of each start of a book, is within
-/// its bounds. If the streams fit into the link's budget, the least bound is at most the greatest, and the greatest is less than
-/// one cycle more than the hop number.
+/// Proves bounds of the instant at which a frame has fully arrived in the next node: by the cost of the streams that are held in the cycle
+/// of its start, and by the cost of those that are held in the cycle in which it was queued. So the latency of each frame, and of each
+/// start of a book, is within its bounds. If the streams fit into the link's budget, the least bound is at most the greatest, and the
+/// greatest is less than one cycle time more than the hop number's cycle times.
 pub fn frames_are_timely()
     ensures whole { FramesAreWholeWithinHeld }
     ensures queued { FramesAreWholeWithinQueued }
@@ -62,9 +62,9 @@ pub fn lists_bound_latencies()
     cqf_laws_history::tables_are_orderly();
 }
 
-/// Proves the same for every loose network of the history. For any clocks and delays within what the domain states, frames take no
-/// less than the least and no more than the most that is reported for the list, and the verdicts on deadlines hold. With any other
-/// slack with which the domain is accepted, frames arrive within the list's bounds and that slack.
+/// Proves the same for every loose network of the history. For any clocks and delays within what the domain states, frames take no less
+/// than the least and no more than the most that is reported for the list, and the verdicts on deadlines hold. With any other slack with
+/// which the domain is accepted, frames arrive within the list's bounds for that slack.
 pub fn loose_history_is_timely()
     ensures timely { LooseHistoryIsTimely }
     ensures verdicts { LooseVerdictsHold }
@@ -78,7 +78,7 @@ pub fn loose_history_is_timely()
 /// the hop number of that link is the number of bridges on the path.
 pub fn branches_end_at_listeners()
     ensures ends { BranchesEnd }
-    ensures depths { DepthsAreBridges }
+    ensures hop_numbers { HopNumbersAreBridges }
 {
     cqf_laws_history::granted_is_a_tree();
 }

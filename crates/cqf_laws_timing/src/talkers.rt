@@ -26,9 +26,9 @@ pub fn conforming_stream_is_covered()
 /// Proves that a conforming talker loses nothing, in each run that admits only streams of a list, regardless of withdrawals, of
 /// other offers and of background frames.
 ///
-/// If its row reserves as much as is needed in the frame's cycle, each frame that it offers at the stream's first bridge while the
-/// stream is live arrives fully at each of the stream's listeners, no sooner than the least and no later than the most that is
-/// reported for the list, if the run lasts long enough. So it arrives within each deadline that is surely kept there.
+/// This concerns each frame that it offers at the stream's first bridge while the stream is live, if the stream's row reserves as much as
+/// is needed in the frame's cycle. If the run lasts long enough, the frame arrives fully at each of the stream's listeners, no sooner than
+/// the least and no later than the most that is reported for the list. So it arrives within each deadline that is surely kept there.
 pub fn conforming_stream_is_in_time()
     ensures named { ConformingStreamIsInTime }
     ensures own { ConformingOwnIsInTime }
@@ -43,10 +43,10 @@ pub fn conforming_stream_is_in_time()
 /// Proves the same for every loose network, for any clocks and delays within what the domain states, regardless of withdrawals and
 /// of offers under other names.
 ///
-/// If all offers of a stream's name conform and its row reserves as much as is needed, each of them that is made at the stream's
-/// first bridge while the stream is live leaves on each link of its tree in its cycle. It arrives fully at each listener, by the
-/// clock there, within the least and the most that is reported for the list, if the run lasts long enough. So it arrives within
-/// each deadline that is surely kept there.
+/// All offers of the stream's name have to conform, and its row has to reserve as much as is needed. Then each frame that is offered at the
+/// stream's first bridge while the stream is live leaves on each link of its tree in its cycle. It arrives fully at each listener, by the
+/// clock there, within the least and the most that is reported for the list, if the run lasts long enough. So it arrives within each
+/// deadline that is surely kept there.
 pub fn conforming_stream_is_heard_in_time()
     ensures named { LooseConformingIsInTime }
     ensures planned { LoosePlannedIsInTime }

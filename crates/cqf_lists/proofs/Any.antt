@@ -35,9 +35,9 @@ pub one_more : (n m : ℕ) → nat_lt (1 + n) (suc m) ≡ nat_lt n m
 one_more n m = grind (arith, nat_tests)
 
 -- fewer elements than all precede the first one that passes, if and only if some element passes
-place_found : {X : Type 0} (p : X → Bool) (xs : List X) → nat_lt (prefix_len (λ x. not (p x)) xs) (length xs) ≡ list_any p xs
-place_found p [] = refl
-place_found {X} p (x ∷ xs) = by_test (p x) (place_found p xs)
+index_found : {X : Type 0} (p : X → Bool) (xs : List X) → nat_lt (prefix_len (λ x. not (p x)) xs) (length xs) ≡ list_any p xs
+index_found p [] = refl
+index_found {X} p (x ∷ xs) = by_test (p x) (index_found p xs)
   where
     -- the same with one more element in front, by that element's test
     by_test : (b : Bool) → nat_lt (prefix_len (λ z. not (p z)) xs) (length xs) ≡ list_any p xs →
@@ -52,4 +52,4 @@ some_cond false n = refl
 
 -- there is a first index that passes if and only if some element passes
 pub position_any : {X : Type 0} (p : X → Bool) (xs : List X) → is_some (position p xs) ≡ list_any p xs
-position_any p xs = some_cond (nat_lt (prefix_len (λ x. not (p x)) xs) (length xs)) (prefix_len (λ x. not (p x)) xs) ∙ place_found p xs
+position_any p xs = some_cond (nat_lt (prefix_len (λ x. not (p x)) xs) (length xs)) (prefix_len (λ x. not (p x)) xs) ∙ index_found p xs

@@ -12,60 +12,60 @@ use Rattle.std.proofs.lemmas.List.Elements.{filter-append}
 use Rattle.cqf_lists.specs.ByNumber.{AddsTo, AreListsBy, lists_of}
 
 -- with no lists, the count is 0
-pub no_lists : {X : Type 0} (told : ℕ → List X) (lists : List (Vec X Global)) → lists ≡ [] → AreListsBy told 0 (lists_of lists)
-no_lists {X} told lists none = record {
+pub no_lists : {X : Type 0} (reported : ℕ → List X) (lists : List (Vec X Global)) → lists ≡ [] → AreListsBy reported 0 (lists_of lists)
+no_lists {X} reported lists none = record {
   one_each = ap (λ (l : List (Vec X Global)). length (lists_of l)) none;
   each = λ k d below. absurd (omega (arith, below));
 }
 
 -- one more list: the one of the next number
-pub list_more : {X : Type 0} (told : ℕ → List X) (n : ℕ) (lists after : List (Vec X Global)) (last : Vec X Global) → AreListsBy told n (lists_of lists) →
-    last.items ≡ told n → after ≡ lists ++ last ∷ [] → AreListsBy told (n + 1) (lists_of after)
-list_more {X} told n lists after last h is more = record {
-  one_each = ap length same ∙ length-append (lists_of lists) (told n ∷ []) ∙ ap (λ k. k + 1) h.one_each;
+pub list_more : {X : Type 0} (reported : ℕ → List X) (n : ℕ) (lists after : List (Vec X Global)) (last : Vec X Global) → AreListsBy reported n (lists_of lists) →
+    last.items ≡ reported n → after ≡ lists ++ last ∷ [] → AreListsBy reported (n + 1) (lists_of after)
+list_more {X} reported n lists after last h is more = record {
+  one_each = ap length same ∙ length-append (lists_of lists) (reported n ∷ []) ∙ ap (λ k. k + 1) h.one_each;
   each = λ k none below. ap (λ (l : List (List X)). get_or l k none) same ∙ by k none below (cases_lt k n);
 }
   where
     -- the contents of the lists
-    same : lists_of after ≡ lists_of lists ++ told n ∷ []
+    same : lists_of after ≡ lists_of lists ++ reported n ∷ []
     same = ap lists_of more ∙ map-append (λ (l : Vec X Global). l.items) lists (last ∷ []) ∙ ap (λ (l : List X). lists_of lists ++ l ∷ []) is
 
     -- the earlier lists, and the new one
-    by : (k : ℕ) (none : List X) → k < n + 1 → (k < n) ⊎ (n ≤ k) → get_or (lists_of lists ++ told n ∷ []) k none ≡ told k
-    by k none below (inl l) = get_or_append_left (lists_of lists) (told n ∷ []) none k (omega (arith, l, h.one_each)) ∙ h.each k none l
+    by : (k : ℕ) (none : List X) → k < n + 1 → (k < n) ⊎ (n ≤ k) → get_or (lists_of lists ++ reported n ∷ []) k none ≡ reported k
+    by k none below (inl l) = get_or_append_left (lists_of lists) (reported n ∷ []) none k (omega (arith, l, h.one_each)) ∙ h.each k none l
     by k none below (inr g) =
         let first : k - n ≡ 0 = omega (arith, below) in
         let here : n ≡ k = omega (arith, below, g) in
-        get_or-append_right (lists_of lists) (told n ∷ []) n k none h.one_each g ∙ ap (λ (j : ℕ). get_or (told n ∷ []) j none) first ∙ ap told here
+        get_or-append_right (lists_of lists) (reported n ∷ []) n k none h.one_each g ∙ ap (λ (j : ℕ). get_or (reported n ∷ []) j none) first ∙ ap reported here
 
 -- an element is appended to the list at an index
-pub put_to : {X : Type 0} (lists : List (Vec X Global)) (place k : ℕ) (own old d : Vec X Global) (x : X) →
-    place ≡ k → place < length lists → old ≡ get_or lists place d → own.items ≡ old.items ++ x ∷ [] →
-    AddsTo (lists_of lists) (lists_of (set lists place own)) k x
-put_to {X} lists place k own old d x is below at more = record {
-  as_many = ap length same ∙ length-set (lists_of lists) place own.items;
+pub put_to : {X : Type 0} (lists : List (Vec X Global)) (index k : ℕ) (own old d : Vec X Global) (x : X) →
+    index ≡ k → index < length lists → old ≡ get_or lists index d → own.items ≡ old.items ++ x ∷ [] →
+    AddsTo (lists_of lists) (lists_of (set lists index own)) k x
+put_to {X} lists index k own old d x is below at more = record {
+  as_many = ap length same ∙ length-set (lists_of lists) index own.items;
   own = λ none.
       ap (λ (zs : List (List X)). get_or zs k none) same
-      ∙ ap (λ (j : ℕ). get_or (set (lists_of lists) place own.items) j none) (sym is)
-      ∙ get_or-set_same (lists_of lists) place own.items none (omega (arith, below, length-map lists (λ (l : Vec X Global). l.items)))
+      ∙ ap (λ (j : ℕ). get_or (set (lists_of lists) index own.items) j none) (sym is)
+      ∙ get_or-set_same (lists_of lists) index own.items none (omega (arith, below, length-map lists (λ (l : Vec X Global). l.items)))
       ∙ more ∙ ap (λ (v : Vec X Global). v.items ++ x ∷ []) at
-      ∙ ap (λ (front : List X). front ++ x ∷ []) (sym (get_or-map (λ (l : Vec X Global). l.items) lists place d none below))
+      ∙ ap (λ (front : List X). front ++ x ∷ []) (sym (get_or-map (λ (l : Vec X Global). l.items) lists index d none below))
       ∙ ap (λ (j : ℕ). get_or (lists_of lists) j none ++ x ∷ []) is;
   others = λ other none apart.
       ap (λ (zs : List (List X)). get_or zs other none) same
-      ∙ get_or-set_other (lists_of lists) place other own.items none (λ e. apart (e ∙ is));
+      ∙ get_or-set_other (lists_of lists) index other own.items none (λ e. apart (e ∙ is));
 }
   where
     -- the contents of the updated lists
-    same : lists_of (set lists place own) ≡ set (lists_of lists) place own.items
-    same = map-set (λ (l : Vec X Global). l.items) lists place own
+    same : lists_of (set lists index own) ≡ set (lists_of lists) index own.items
+    same = map-set (λ (l : Vec X Global). l.items) lists index own
 
 -- the list at a number's index is what the function gives for that number
-pub list_there : {X : Type 0} (told : ℕ → List X) (count : ℕ) (lists : List (Vec X Global)) (k place : ℕ) (list d : Vec X Global) →
-    AreListsBy told count (lists_of lists) → k < count → place ≡ k → list ≡ get_or lists place d → list.items ≡ told k
-list_there {X} told count lists k place list d are below at there =
-    let inside : place < length lists = omega (arith, below, at, are.one_each, length-map lists (λ (l : Vec X Global). l.items)) in
-    ap (λ (l : Vec X Global). l.items) there ∙ sym (get_or-map (λ (l : Vec X Global). l.items) lists place d [] inside)
+pub list_there : {X : Type 0} (reported : ℕ → List X) (count : ℕ) (lists : List (Vec X Global)) (k index : ℕ) (list d : Vec X Global) →
+    AreListsBy reported count (lists_of lists) → k < count → index ≡ k → list ≡ get_or lists index d → list.items ≡ reported k
+list_there {X} reported count lists k index list d are below at there =
+    let inside : index < length lists = omega (arith, below, at, are.one_each, length-map lists (λ (l : Vec X Global). l.items)) in
+    ap (λ (l : Vec X Global). l.items) there ∙ sym (get_or-map (λ (l : Vec X Global). l.items) lists index d [] inside)
     ∙ ap (λ (j : ℕ). get_or (lists_of lists) j []) at ∙ are.each k [] below
 
 -- what is made of those elements of a list that have a given key

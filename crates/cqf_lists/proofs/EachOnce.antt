@@ -10,7 +10,7 @@ use Rattle.cqf_lists.specs.Lists.{each_once}
 use Rattle.cqf_lists.proofs.Any.{none_member}
 use Rattle.cqf_lists.proofs.Members.{any_member, contains_at, contains_cases, contains_here, contains_later, contains_none}
 use Rattle.cqf_lists.proofs.Pairs.{pairs_none, pairs_push}
-use Rattle.cqf_lists.proofs.Places.{slice_get-take, slice_get_parts}
+use Rattle.cqf_lists.proofs.Indices.{slice_get-take, slice_get_parts}
 
 -- the kept elements, with one more unless it is a repetition
 abbrev pub kept_with : {X : Type 0} → Bool → List X → X → List X
@@ -100,10 +100,10 @@ module _ {X : Type 0} (same : X → X → Bool) where
   once_apart xs = pairs [] xs (pairs_none (λ (a b : X). same a b ≡ false))
 
   -- an element at an index among the kept ones was there before, or is the new one at the end
-  new_place : (b : Bool) (kept : List X) (x : X) (p : ℕ) (z : X) → slice_get (kept_with b kept x) p ≡ Some z →
+  new_index : (b : Bool) (kept : List X) (x : X) (p : ℕ) (z : X) → slice_get (kept_with b kept x) p ≡ Some z →
       (slice_get kept p ≡ Some z) ⊎ ((b ≡ false) × (p ≡ length kept) × (x ≡ z))
-  new_place true kept x p z e = inl e
-  new_place false kept x p z e = elim (slice_get_parts kept (x ∷ []) p z e) [
+  new_index true kept x p z e = inl e
+  new_index false kept x p z e = elim (slice_get_parts kept (x ∷ []) p z e) [
     | inl a ↦ inl a
     | inr w ↦ inr (refl, last w.0 w.1 w.2, here w.0 w.2)
   ]
@@ -117,12 +117,12 @@ module _ {X : Type 0} (same : X → X → Bool) where
       here (suc k) f = absurd cc
 
   -- each kept element is from the list; those kept before it are what is kept of the elements before it
-  place : (kept xs : List X) (p : ℕ) (z : X) → slice_get (fold (keep same) kept xs) p ≡ Some z →
+  index : (kept xs : List X) (p : ℕ) (z : X) → slice_get (fold (keep same) kept xs) p ≡ Some z →
       (slice_get kept p ≡ Some z) ⊎ ((i : ℕ) × (slice_get xs i ≡ Some z) × (take p (fold (keep same) kept xs) ≡ fold (keep same) kept (take i xs)))
-  place kept [] p z e = inl e
-  place kept (x ∷ xs) p z e = elim (place (keep same kept x) xs p z e) [
+  index kept [] p z e = inl e
+  index kept (x ∷ xs) p z e = elim (index (keep same kept x) xs p z e) [
     | inr w ↦ inr (suc w.0, w.1, w.2)
-    | inl a ↦ elim (new_place (list_any (λ y. same y x) kept) kept x p z a) [
+    | inl a ↦ elim (new_index (list_any (λ y. same y x) kept) kept x p z a) [
       | inl k ↦ inl k
       | inr w ↦ (let f = front (keep same kept x) xs in
           let grown : keep same kept x ≡ kept ++ x ∷ [] = ap (λ (b : Bool). kept_with b kept x) w.0 in
@@ -133,9 +133,9 @@ module _ {X : Type 0} (same : X → X → Bool) where
   ]
 
   -- each kept element is from the list; those kept before it are what is kept of the elements before it
-  pub once_place : (xs : List X) (p : ℕ) (z : X) → slice_get (each_once same xs) p ≡ Some z → (i : ℕ) × (slice_get xs i ≡ Some z) ×
+  pub once_index : (xs : List X) (p : ℕ) (z : X) → slice_get (each_once same xs) p ≡ Some z → (i : ℕ) × (slice_get xs i ≡ Some z) ×
       (take p (each_once same xs) ≡ each_once same (take i xs))
-  once_place xs p z e = elim (place [] xs p z e) [ inl n ↦ absurd cc | inr w ↦ w ]
+  once_index xs p z e = elim (index [] xs p z e) [ inl n ↦ absurd cc | inr w ↦ w ]
 
 -- ---- concatenated lists
 
@@ -161,20 +161,20 @@ module _ {X A : Type 0} (f : X → List A) where
   }
 
   -- each element of a concatenation is from one of the lists
-  pub flat_place : (xs : List X) (i : ℕ) (z : A) → slice_get (flat_map f xs) i ≡ Some z → StandsIn xs i z
-  flat_place [] i z e = absurd cc
-  flat_place (x ∷ xs) i z e = elim (slice_get_parts (f x) (flat_map f xs) i z e) [
+  pub flat_index : (xs : List X) (i : ℕ) (z : A) → slice_get (flat_map f xs) i ≡ Some z → StandsIn xs i z
+  flat_index [] i z e = absurd cc
+  flat_index (x ∷ xs) i z e = elim (slice_get_parts (f x) (flat_map f xs) i z e) [
     | inl a ↦ in_first x xs i z a
-    | inr w ↦ (let r = flat_place xs w.0 z w.2 in record {
+    | inr w ↦ (let r = flat_index xs w.0 z w.2 in record {
       x = r.x;
       of_list = contains_later x xs r.x r.of_list;
       k = r.k;
       at = r.at;
-      before = λ y j h g. behind (f x) (flat_map f xs) i w.0 y w.1 (r.before y j h g);
+      before = λ y j h g. following (f x) (flat_map f xs) i w.0 y w.1 (r.before y j h g);
     })
   ]
     where
-      behind : (front rest : List A) (i k : ℕ) (y : A) → i ≡ length front + k → Contains (take k rest) y → Contains (take i (front ++ rest)) y
-      behind [] rest i k y e c = let same_i : k ≡ i = omega (arith, e) in subst (λ (n : ℕ). Contains (take n rest) y) same_i c
-      behind (a ∷ front) rest zero k y e c = absurd (omega (arith, e))
-      behind (a ∷ front) rest (suc i) k y e c = contains_later a (take i (front ++ rest)) y (behind front rest i k y (omega (arith, e)) c)
+      following : (front rest : List A) (i k : ℕ) (y : A) → i ≡ length front + k → Contains (take k rest) y → Contains (take i (front ++ rest)) y
+      following [] rest i k y e c = let same_i : k ≡ i = omega (arith, e) in subst (λ (n : ℕ). Contains (take n rest) y) same_i c
+      following (a ∷ front) rest zero k y e c = absurd (omega (arith, e))
+      following (a ∷ front) rest (suc i) k y e c = contains_later a (take i (front ++ rest)) y (following front rest i k y (omega (arith, e)) c)

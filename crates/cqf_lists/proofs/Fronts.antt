@@ -28,8 +28,8 @@ front_more {X} whole front more Late f late =
     }
 
 -- prepending a list prepends it to the front
-pub front_behind : {X : Type 0} (before whole front : List X) (Late : X → Type 0) → Front whole front Late → Front (before ++ whole) (before ++ front) Late
-front_behind {X} before whole front Late f =
+pub front_after : {X : Type 0} (before whole front : List X) (Late : X → Type 0) → Front whole front Late → Front (before ++ whole) (before ++ front) Late
+front_after {X} before whole front Late f =
     record { rest = f.rest; is = ap (λ (xs : List X). before ++ xs) f.is ∙ sym (append_assoc before front f.rest); late = f.late }
 
 -- the filtered front is the front of the filtered list

@@ -3,7 +3,7 @@ use Rattle.std.proofs.Common.{◌≡◌, ℕ, ◌<◌, Bool, true, false, List, 
 use Rattle.std.specs.Prelude.{[], ◌∷◌, ◌++◌, if◌then◌else◌, option_map, zero, suc}
 use Rattle.std.proofs.lemmas.Bool.{cases_lt}
 use Rattle.cqf_lists.specs.Lists.{each_below, least, or_else}
-use Rattle.cqf_lists.proofs.Places.{nil_from_none}
+use Rattle.cqf_lists.proofs.Indices.{nil_from_none}
 
 -- if a concatenation is empty, both its lists are
 append_nil_parts : {X : Type 0} (xs ys : List X) → xs ++ ys ≡ [] → (xs ≡ []) × (ys ≡ [])

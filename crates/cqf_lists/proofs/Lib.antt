@@ -17,7 +17,7 @@ pub mod Numbers
 pub mod Ones
 pub mod Pairs
 pub mod Picked
-pub mod Places
+pub mod Indices
 pub mod Ranks
 pub mod Sorted
 pub mod Sums

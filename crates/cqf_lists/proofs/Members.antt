@@ -149,8 +149,8 @@ pub contains_at : {X : Type 0} (xs : List X) (k : ℕ) (x : X) → slice_get xs 
 contains_at xs k x e = (k, slice_get_within xs k x e, get_or_from_slice_get xs k x x e)
 
 -- a member is at some index
-pub place_of_member : {X : Type 0} (xs : List X) (x : X) → Contains xs x → (k : ℕ) × (slice_get xs k ≡ Some x)
-place_of_member xs x (k, h, e) = (k, slice_get-get_or xs k x h ∙ ap (λ z. Some z) e)
+pub index_of_member : {X : Type 0} (xs : List X) (x : X) → Contains xs x → (k : ℕ) × (slice_get xs k ≡ Some x)
+index_of_member xs x (k, h, e) = (k, slice_get-get_or xs k x h ∙ ap (λ z. Some z) e)
 
 -- a member of a front is a member of the list
 pub contains_from_take : {X : Type 0} (xs : List X) (n : ℕ) (x : X) → Contains (take n xs) x → Contains xs x

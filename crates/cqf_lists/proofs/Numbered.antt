@@ -9,7 +9,7 @@ use Rattle.std.proofs.lemmas.List.Elements.{filter-append}
 use Rattle.std.proofs.lemmas.Option.{same_Some}
 use Rattle.cqf_lists.proofs.Members.{contains_cases, contains_from_map, contains_here, contains_later, contains_map, contains_none}
 use Rattle.cqf_lists.proofs.Pairs.{pairs_cons, pairs_map, pairs_none, pairs_weaker}
-use Rattle.cqf_lists.proofs.Places.{enumerate_from-push}
+use Rattle.cqf_lists.proofs.Indices.{enumerate_from-push}
 
 module _ {X Y : Type 0} (with_number : ℕ × X → Y) (keep : Y → Bool) (xs : List X) (k : ℕ) (x d : X) (inside : k < length xs) (there : x ≡ get_or xs k d) where
   -- the first k elements, each with its number
@@ -80,16 +80,16 @@ unnumbered {X} {Y} f p n (x ∷ xs) = step (p x) (unnumbered f p (n + 1) xs)
     step false e = e
 
 -- the result for an element and its number is in the list of results
-pub numbered_there : {X Y : Type 0} (with_number : ℕ × X → Y) (xs : List X) (place : ℕ) (x : X) → slice_get xs place ≡ Some x →
-    Contains (map with_number (enumerate_from 1 xs)) (with_number (place + 1, x))
-numbered_there with_number xs place x e =
-    contains_map with_number (enumerate_from 1 xs) (place + 1, x) (enum_there 1 place (place + 1) xs x (omega arith) e)
+pub numbered_there : {X Y : Type 0} (with_number : ℕ × X → Y) (xs : List X) (index : ℕ) (x : X) → slice_get xs index ≡ Some x →
+    Contains (map with_number (enumerate_from 1 xs)) (with_number (index + 1, x))
+numbered_there with_number xs index x e =
+    contains_map with_number (enumerate_from 1 xs) (index + 1, x) (enum_there 1 index (index + 1) xs x (omega arith) e)
 
 -- an element is at the index that the number in its result gives
 pub record StandsAt {X Y : Type 0} (number : Y → ℕ) (element : Y → X) (xs : List X) (y : Y) : Type 0 where
-  pub place : ℕ
-  pub numbered : number y ≡ place + 1
-  pub is_there : slice_get xs place ≡ Some (element y)
+  pub index : ℕ
+  pub numbered : number y ≡ index + 1
+  pub is_there : slice_get xs index ≡ Some (element y)
 
 -- results for each element and its number, from which both can be recovered
 module _ {X Y : Type 0} (with_number : ℕ × X → Y) (number : Y → ℕ) (element : Y → X)
@@ -100,7 +100,7 @@ module _ {X Y : Type 0} (with_number : ℕ × X → Y) (number : Y → ℕ) (ele
       let w = contains_from_map with_number (enumerate_from 1 xs) y c in
       let r = enum_at 1 xs w.0 w.1 in
       let own : w.0.0 ≡ number y = sym (numbers w.0) ∙ ap number w.2 in
-      record { place = r.0; numbered = omega (arith, own, r.1); is_there = r.2 ∙ ap (λ (x : X). Some x) (sym (elements w.0) ∙ ap element w.2) }
+      record { index = r.0; numbered = omega (arith, own, r.1); is_there = r.2 ∙ ap (λ (x : X). Some x) (sym (elements w.0) ∙ ap element w.2) }
 
   -- the results are in the order of their numbers
   pub numbered_pairs : AllPairs (λ (a b : Y). number a < number b) (map with_number (enumerate_from 1 xs))

@@ -22,16 +22,16 @@ pairs_append {X} R xs ys first second across i j d l inside = elim (cases_lt j (
   | inr j_out ↦ elim (cases_lt i (length xs)) [
     | inl i_in ↦ subst (λ z. R z (get_or (xs ++ ys) j d)) (sym (get_or_append_left xs ys d i i_in))
         (subst (λ z. R (get_or xs i d) z) (sym (get_or-append_right xs ys (length xs) j d refl j_out))
-        (across (get_or xs i d) (get_or ys (j - length xs) d) (Contains-get_or xs i d i_in) (Contains-get_or ys (j - length xs) d (behind j j_out inside))))
+        (across (get_or xs i d) (get_or ys (j - length xs) d) (Contains-get_or xs i d i_in) (Contains-get_or ys (j - length xs) d (following j j_out inside))))
     | inr i_out ↦ subst (λ z. R z (get_or (xs ++ ys) j d)) (sym (get_or-append_right xs ys (length xs) i d refl i_out))
         (subst (λ z. R (get_or ys (i - length xs) d) z) (sym (get_or-append_right xs ys (length xs) j d refl j_out))
-        (second (i - length xs) (j - length xs) d (omega (arith, l, i_out)) (behind j j_out inside)))
+        (second (i - length xs) (j - length xs) d (omega (arith, l, i_out)) (following j j_out inside)))
   ]
 ]
   where
     -- an index after the first list is one in the second
-    behind : (j : ℕ) → length xs ≤ j → j < length (xs ++ ys) → j - length xs < length ys
-    behind j from upto = omega (arith, from, upto, length-append xs ys)
+    following : (j : ℕ) → length xs ≤ j → j < length (xs ++ ys) → j - length xs < length ys
+    following j from upto = omega (arith, from, upto, length-append xs ys)
 
 -- the pairs of a concatenation of many lists
 pub pairs_below : {X : Type 0} (R : X → X → Type 0) (f : ℕ → List X) (n : ℕ) → ((k : ℕ) → k < n → AllPairs R (f k)) →

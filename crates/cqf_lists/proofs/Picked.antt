@@ -17,9 +17,9 @@ filter_one {X} p f (suc n) k l apart =
           filter_none p (each_below f n) (λ x h. let w = contains_from_below f n x h in apart w.0 x (λ same. omega (arith, same, e, w.1)) w.2) in
           split ∙ ap (λ (xs : List X). xs ++ filter p (f n)) before ∙ ap (λ (j : ℕ). filter p (f j)) e
       | inr differ ↦
-          let behind : filter p (f n) ≡ [] = filter_none p (f n) (λ x h. apart n x differ h) in
+          let following : filter p (f n) ≡ [] = filter_none p (f n) (λ x h. apart n x differ h) in
           let here : filter p (each_below f n) ≡ filter p (f k) = filter_one p f n k (less differ) apart in
-          split ∙ ap (λ (xs : List X). filter p (each_below f n) ++ xs) behind ∙ append-nil (filter p (each_below f n)) ∙ here
+          split ∙ ap (λ (xs : List X). filter p (each_below f n) ++ xs) following ∙ append-nil (filter p (each_below f n)) ∙ here
     ]
   where
     -- a number that isn't the last is below the last

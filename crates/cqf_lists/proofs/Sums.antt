@@ -36,9 +36,9 @@ sum_flat f g [] = refl
 sum_flat f g (x ∷ xs) = sum_by-append f (g x) (flat_map g xs) ∙ ap (λ z. sum_by f (g x) + z) (sum_flat f g xs) ∙ sym (sum_by-cons (λ x. sum_by f (g x)) x xs)
 
 -- numbering the elements doesn't change the sum
-pub sum_places : {X : Type 0} (f : X → ℕ) (n : ℕ) (xs : List X) → sum_by (λ (x : ℕ × X). f x.1) (enumerate_from n xs) ≡ sum_by f xs
-sum_places f n [] = refl
-sum_places {X} f n (x ∷ xs) = sum_by-cons (λ (x : ℕ × X). f x.1) (n, x) (enumerate_from (n + 1) xs) ∙ ap (λ z. f x + z) (sum_places f (n + 1) xs)
+pub sum_indices : {X : Type 0} (f : X → ℕ) (n : ℕ) (xs : List X) → sum_by (λ (x : ℕ × X). f x.1) (enumerate_from n xs) ≡ sum_by f xs
+sum_indices f n [] = refl
+sum_indices {X} f n (x ∷ xs) = sum_by-cons (λ (x : ℕ × X). f x.1) (n, x) (enumerate_from (n + 1) xs) ∙ ap (λ z. f x + z) (sum_indices f (n + 1) xs)
     ∙ sym (sum_by-cons f x xs)
 
 -- the sum of sums of two terms

@@ -3,7 +3,7 @@ use Rattle.std.proofs.Common.{ℕ, ◌≡◌, ◌≤◌, ◌<◌, inl, inr, List
 use Rattle.std.specs.Prelude.{Contains, slice_index_or}
 use Rattle.std.proofs.lemmas.List.{get_or_append_left}
 use Rattle.cqf_lists.proofs.Members.{contains_one}
-use Rattle.cqf_lists.proofs.Places.{in_either}
+use Rattle.cqf_lists.proofs.Indices.{in_either}
 use Rattle.cqf_units.specs.Timing.{idle_after}
 use Rattle.cqf_model.specs.declared.ports.Arrival.{Arrival}
 use Rattle.cqf_model.specs.GateList.{IsOpen}

@@ -6,7 +6,7 @@ use Rattle.cqf_lists.proofs.EachBelow.{filter_each, filter_none}
 use Rattle.cqf_units.proofs.Cycles.{cycle_below, cycle_is}
 use Rattle.cqf_model.specs.Domain.{bridge_of, cycle_of}
 use Rattle.cqf_model.specs.Run.{Run}
-use Rattle.cqf_model.specs.Traffic.{Carried, Policed, policed_before, received_before}
+use Rattle.cqf_model.specs.Policing.{Carried, Policed, policed_before, received_before}
 use Rattle.cqf_model.specs.Network.{QueuedFrame, queued_before, queued_by, queued_in}
 use Rattle.cqf_model.proofs.Policing.{police_member}
 use Rattle.cqf_model.proofs.Coming.{before_when, queued_front, queued_when}

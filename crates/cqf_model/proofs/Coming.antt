@@ -17,8 +17,8 @@ use Rattle.cqf_model.specs.declared.frames.Sent.{Sent}
 use Rattle.cqf_model.specs.Domain.{Domain, bridge_of, cycle_of, enters}
 use Rattle.cqf_model.specs.Run.{Run}
 use Rattle.cqf_model.specs.Table.{goes_to}
-use Rattle.cqf_model.specs.Traffic.{Carried, DroppedFor, ExceedsGate, LacksRow, Policed, Queued, Received, Verdict, came_by, is_offered_at, numbered}
-use Rattle.cqf_model.specs.Traffic.{offer_received, offered_at, police_all, policed_before, received_at, received_before, relayed_at, sent_received, whole_at}
+use Rattle.cqf_model.specs.Policing.{Carried, DroppedFor, ExceedsGate, LacksRow, Policed, Queued, Received, Verdict, came_by, is_offered_at, numbered}
+use Rattle.cqf_model.specs.Policing.{offer_received, offered_at, police_all, policed_before, received_at, received_before, relayed_at, sent_received, whole_at}
 use Rattle.cqf_model.specs.Network.{QueuedFrame, backed_at, backed_frame, backed_in, comes_in, is_backed_at, numbered_background, queued_before, queued_by}
 use Rattle.cqf_model.specs.Network.{queued_frame, queued_in, queued_to}
 use Rattle.cqf_model.proofs.Policing.{police_member, police_more}
@@ -43,7 +43,7 @@ offered_when offers bridge t x h =
 -- a queued frame comes when it was whole at the bridge
 pub queued_when : (d : Domain) (l : ℕ) (x : Received) (verdict : Verdict) (q : QueuedFrame) → Contains (queued_by d l x verdict) q → q.arrival.at.0 ≡ x.at
 queued_when d l x (Queued row) q h =
-    let k = contains_if (list_any (λ next. next == l) (goes_to row (came_by x.way))) (queued_frame d x row ∷ []) q h in
+    let k = contains_if (list_any (λ next. next == l) (goes_to row (came_by x.ingress))) (queued_frame d x row ∷ []) q h in
     sym (ap (λ (y : QueuedFrame). y.arrival.at.0) (contains_one (queued_frame d x row) q k))
 queued_when d l x (DroppedFor reason) q h = absurd (contains_none q h)
 queued_when d l x LacksRow q h = absurd (contains_none q h)

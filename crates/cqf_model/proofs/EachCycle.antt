@@ -15,33 +15,33 @@ use Rattle.cqf_model.specs.declared.topology.Pace.{Pace}
 use Rattle.cqf_model.specs.declared.topology.Row.{Row}
 use Rattle.cqf_model.specs.Domain.{Domain, budget}
 use Rattle.cqf_model.specs.History.{left_on}
-use Rattle.cqf_model.specs.Paces.{each_cycle, is_turn}
+use Rattle.cqf_model.specs.Paces.{each_cycle, is_active}
 use Rattle.cqf_model.specs.StreamGate.{stream_list}
 use Rattle.cqf_model.specs.Table.{cost_on, crosses, link_cost, links_in, reserved_in, uses}
 
--- each cycle is a turn
-pub each_turn : (depth cycle : ℕ) → is_turn each_cycle depth cycle ≡ true
-each_turn depth cycle = eq-eqb ((0 + depth) % 1) (cycle % 1) (mod-one (0 + depth) ∙ sym (mod-one cycle))
+-- each cycle is active
+pub each_active_cycle : (hop_number cycle : ℕ) → is_active each_cycle hop_number cycle ≡ true
+each_active_cycle hop_number cycle = eq-eqb ((0 + hop_number) % 1) (cycle % 1) (mod-one (0 + hop_number) ∙ sym (mod-one cycle))
 
 -- its gate has two entries, at each hop number
-pub gate_same : (cycle_time reserved depth : ℕ) →
-    stream_list cycle_time reserved each_cycle depth
+pub gate_same : (cycle_time reserved hop_number : ℕ) →
+    stream_list cycle_time reserved each_cycle hop_number
     ≡ record { ipv = 6; interval = cycle_time; octet_max = Some reserved } ∷ record { ipv = 7; interval = cycle_time; octet_max = Some reserved } ∷ []
-gate_same cycle_time reserved depth = ap₂ (λ (a b : Bool). entry 6 a ∷ entry 7 b ∷ []) (each_turn depth 0) (each_turn depth 1)
+gate_same cycle_time reserved hop_number = ap₂ (λ (a b : Bool). entry 6 a ∷ entry 7 b ∷ []) (each_active_cycle hop_number 0) (each_active_cycle hop_number 1)
   where
     entry : ℕ → Bool → StreamEntry
     entry ipv b = record { ipv = ipv; interval = cycle_time; octet_max = Some (if b then reserved else 0) }
 
 -- it reserves its octets, at each hop number
-pub reserved_same : (row : Row) (depth cycle : ℕ) → row.pace ≡ each_cycle → reserved_in row depth cycle ≡ row.octets
-reserved_same row depth cycle paced =
-    ap (λ (b : Bool). if b then row.octets else 0) (ap (λ (p : Pace). is_turn p depth cycle) paced ∙ each_turn depth cycle)
+pub reserved_same : (row : Row) (hop_number cycle : ℕ) → row.pace ≡ each_cycle → reserved_in row hop_number cycle ≡ row.octets
+reserved_same row hop_number cycle paced =
+    ap (λ (b : Bool). if b then row.octets else 0) (ap (λ (p : Pace). is_active p hop_number cycle) paced ∙ each_active_cycle hop_number cycle)
 
 -- it goes in each cycle by exactly the links of its tree
 pub uses_same : (tree : List Hop) (l cycle : ℕ) → uses tree each_cycle l cycle ≡ list_any (λ k. k == l) (links_in tree)
 uses_same [] l cycle = refl
 uses_same (hop ∷ tree) l cycle =
-    ap (λ (b : Bool). ((hop.link == l) && b) || uses tree each_cycle l cycle) (each_turn hop.depth cycle)
+    ap (λ (b : Bool). ((hop.link == l) && b) || uses tree each_cycle l cycle) (each_active_cycle hop.hop_number cycle)
     ∙ and_true (hop.link == l) (uses tree each_cycle l cycle)
     ∙ ap (λ (b : Bool). (hop.link == l) || b) (uses_same tree l cycle)
   where
@@ -51,11 +51,11 @@ uses_same (hop ∷ tree) l cycle =
 
 -- its cost on a link in each cycle
 abbrev pub plain_cost : Row → ℕ → ℕ
-plain_cost row l = if crosses row l then cost_of row.octets else 0
+plain_cost row l = if crosses row l then cost_of row.overhead row.octets else 0
 
 pub cost_same : (row : Row) (l cycle : ℕ) → row.pace ≡ each_cycle → cost_on row l cycle ≡ plain_cost row l
 cost_same row l cycle paced =
-    ap (λ (b : Bool). if b then cost_of row.octets else 0)
+    ap (λ (b : Bool). if b then cost_of row.overhead row.octets else 0)
     (ap (λ (p : Pace). uses row.tree.items p l cycle) paced ∙ uses_same row.tree.items l cycle)
 
 -- the costs of such streams on a link

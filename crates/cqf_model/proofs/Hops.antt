@@ -14,11 +14,11 @@ use Rattle.cqf_model.specs.History.{Branch, node_at, tree_of, hop_to, hops_along
 use Rattle.cqf_model.specs.Table.{links_in}
 
 -- a hop by a link of the domain is inside the domain
-hop_inside : (d : Domain) (depth : ℕ) (from o : Option ℕ) → ((l : ℕ) → o ≡ Some l → l < length d.links) →
-    All (λ (hop : Hop). hop.link < length d.links) (hop_to depth from o)
-hop_inside d depth from None h = All-nil (λ (hop : Hop). hop.link < length d.links)
-hop_inside d depth from (Some l) h =
-    All-push (λ (hop : Hop). hop.link < length d.links) [] (record { link = l; depth = depth; from = from })
+hop_inside : (d : Domain) (hop_number : ℕ) (from o : Option ℕ) → ((l : ℕ) → o ≡ Some l → l < length d.links) →
+    All (λ (hop : Hop). hop.link < length d.links) (hop_to hop_number from o)
+hop_inside d hop_number from None h = All-nil (λ (hop : Hop). hop.link < length d.links)
+hop_inside d hop_number from (Some l) h =
+    All-push (λ (hop : Hop). hop.link < length d.links) [] (record { link = l; hop_number = hop_number; from = from })
     (All-nil (λ (hop : Hop). hop.link < length d.links)) (h l refl)
 
 -- the links along a branch are the domain's

@@ -5,7 +5,7 @@ use Rattle.cqf_lists.proofs.EachBelow.{contains_from_below}
 use Rattle.cqf_units.proofs.Cycles.{cycle_is}
 use Rattle.cqf_model.specs.Domain.{cycle_of}
 use Rattle.cqf_model.specs.Run.{Run}
-use Rattle.cqf_model.specs.Traffic.{Carried, Received, received_at}
+use Rattle.cqf_model.specs.Policing.{Carried, Received, received_at}
 use Rattle.cqf_model.proofs.Coming.{received_when}
 
 -- what comes in a cycle is of the cycle

@@ -1,4 +1,4 @@
--- Properties of a domain's links; nodes, ways and links that are found.
+-- Properties of a domain's links; equal nodes, and links that are found.
 use Rattle.std.proofs.Common.{◌≡◌, ℕ, ◌+◌, ◌-◌, ◌/◌, ◌*◌, ◌<◌, ◌≤◌, true, length, sym, refl, ap, ◌∙◌, inl, inr, arith, subst, eqb-true, eq-eqb}
 use Rattle.std.specs.Prelude.{Option, Some, None, false, ◌==◌, ◌&&◌}
 use Rattle.std.specs.Option.{option_map_or}
@@ -14,7 +14,7 @@ use Rattle.cqf_model.specs.declared.topology.Node.TheVariants.{Bridge, Station}
 use Rattle.cqf_model.specs.Domain.{Domain, IsAccepted, bridge_of, budget, delay_of, guard_by, guard_of, leaves, least_delay_of, octet_time_of, same_node}
 use Rattle.cqf_model.specs.Loose.{IsAcceptedWith, slack_of}
 use Rattle.cqf_model.specs.History.{link_from}
-use Rattle.cqf_model.specs.Table.{same_way}
+use Rattle.cqf_model.specs.Table.{same_ingress}
 
 -- an octet takes time at each rate
 pub rate_positive : (rate : Rate) → 0 < ticks_of_octet rate
@@ -127,12 +127,12 @@ pub same_node_itself : (a : Node) → same_node a a ≡ true
 same_node_itself (Bridge a) = eq-eqb a a refl
 same_node_itself (Station a) = eq-eqb a a refl
 
--- two ways that the test calls the same are equal
-pub same_way_true : (a b : Option ℕ) → same_way a b ≡ true → a ≡ b
-same_way_true None None e = refl
-same_way_true None (Some m) e = absurd cc
-same_way_true (Some l) None e = absurd cc
-same_way_true (Some l) (Some m) e = ap (λ (k : ℕ). Some k) (eqb-true l m e)
+-- two ingresses that the test calls the same are equal
+pub same_ingress_true : (a b : Option ℕ) → same_ingress a b ≡ true → a ≡ b
+same_ingress_true None None e = refl
+same_ingress_true None (Some m) e = absurd cc
+same_ingress_true (Some l) None e = absurd cc
+same_ingress_true (Some l) (Some m) e = ap (λ (k : ℕ). Some k) (eqb-true l m e)
 
 -- a link between two nodes is one of the domain's
 pub link_inside : (d : Domain) (from to : Option Node) (l : ℕ) → link_from d from to ≡ Some l → l < length d.links

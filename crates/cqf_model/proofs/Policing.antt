@@ -5,11 +5,11 @@ use Rattle.cqf_model.specs.declared.frames.Reason.{Reason}
 use Rattle.cqf_model.specs.declared.topology.Row.{Row}
 use Rattle.cqf_model.specs.Domain.{Domain, cycle_of}
 use Rattle.cqf_model.specs.Table.{goes_on, table_of}
-use Rattle.cqf_model.specs.Traffic.{DroppedFor, ExceedsGate, LacksRow, Policed, Queued, Received, inside_verdict, police, police_all, verdict_by, within_gate}
+use Rattle.cqf_model.specs.Policing.{DroppedFor, ExceedsGate, LacksRow, Policed, Queued, Received, inside_verdict, police, police_all, verdict_by, within_gate}
 use Rattle.cqf_lists.proofs.Members.{contains_cases, contains_here, contains_later, contains_none}
 
 -- a verdict is the one after the frames before it
-pub record IsBehind (d : Domain) (tables : List (List Row)) (bridge : ℕ) (earlier : List Policed) (xs : List Received) (p : Policed) : Type 0 where
+pub record IsAfter (d : Domain) (tables : List (List Row)) (bridge : ℕ) (earlier : List Policed) (xs : List Received) (p : Policed) : Type 0 where
   pub before : List Received
   pub x : Received
   pub after : List Received
@@ -40,16 +40,16 @@ module _ (d : Domain) (tables : List (List Row)) (bridge : ℕ) where
       ]
 
   -- and is the one after the frames before it
-  pub behind_those_before : (earlier : List Policed) (xs : List Received) (p : Policed) → Contains (police_all d tables bridge earlier xs) p →
-      IsBehind d tables bridge earlier xs p
-  behind_those_before earlier [] p c = absurd (contains_none p c)
-  behind_those_before earlier (x ∷ xs) p c =
+  pub after_those_before : (earlier : List Policed) (xs : List Received) (p : Policed) → Contains (police_all d tables bridge earlier xs) p →
+      IsAfter d tables bridge earlier xs p
+  after_those_before earlier [] p c = absurd (contains_none p c)
+  after_those_before earlier (x ∷ xs) p c =
       let first = police d tables bridge earlier x in
       let more = earlier ++ first ∷ [] in
       elim (contains_cases first (police_all d tables bridge more xs) p c) [
         | inl e ↦ record { before = []; x = x; after = xs; parts = refl; is = sym e ∙ ap (λ z. police d tables bridge z x) (sym (append-nil earlier)) }
         | inr h ↦
-            let r = behind_those_before more xs p h in
+            let r = after_those_before more xs p h in
             record {
               before = x ∷ r.before;
               x = r.x;
@@ -67,7 +67,7 @@ module _ (d : Domain) (tables : List (List Row)) (bridge : ℕ) where
   police_same others earlier (x ∷ xs) h =
       let all = λ (p : Policed). p ∷ police_all d tables bridge (earlier ++ p ∷ []) xs in
       let cycle = cycle_of d x.at in
-      let by : List Row → Policed = λ table. record { received = x; verdict = verdict_by d table bridge cycle (λ row. within_gate d earlier row x) x.way } in
+      let by : List Row → Policed = λ table. record { received = x; verdict = verdict_by d table bridge cycle (λ row. within_gate d earlier row x) x.ingress } in
       let same : police d tables bridge earlier x ≡ police d others bridge earlier x = ap by (h x (contains_here x xs)) in
       let q = police d others bridge earlier x in
       ap all same ∙ ap (λ (ps : List Policed). q ∷ ps) (police_same others (earlier ++ q ∷ []) xs (λ z k. h z (contains_later x xs z k)))

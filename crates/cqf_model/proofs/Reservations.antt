@@ -14,23 +14,23 @@ use Rattle.cqf_lists.specs.Lists.{each_below}
 use Rattle.cqf_lists.proofs.EachBelow.{first_below, get_or-singles, length-singles}
 use Rattle.cqf_model.specs.declared.gates.StreamEntry.{StreamEntry}
 use Rattle.cqf_model.specs.declared.topology.Pace.{Pace}
-use Rattle.cqf_model.specs.Paces.{is_turn}
-use Rattle.cqf_model.specs.StreamGate.{gate_cycles, gate_round, place_at, place_in, round_at, stream_entry, stream_list, within}
+use Rattle.cqf_model.specs.Paces.{is_active}
+use Rattle.cqf_model.specs.StreamGate.{gate_cycles, gate_round, index_at, index_in, round_at, stream_entry, stream_list, within}
 
 -- the index of the entry in force, by a division, if all entries are equally long
-equal_place : (n : ℕ) (e : ℕ → StreamEntry) (count offset : ℕ) → 0 < n → ((k : ℕ) → (e k).interval ≡ n) → offset < count * n →
-    place_in (each_below (λ k. e k ∷ []) count) offset ≡ offset / n
-equal_place n e zero offset some same inside = absurd (omega (arith, inside))
-equal_place n e (suc count) offset some same inside =
+equal_index : (n : ℕ) (e : ℕ → StreamEntry) (count offset : ℕ) → 0 < n → ((k : ℕ) → (e k).interval ≡ n) → offset < count * n →
+    index_in (each_below (λ k. e k ∷ []) count) offset ≡ offset / n
+equal_index n e zero offset some same inside = absurd (omega (arith, inside))
+equal_index n e (suc count) offset some same inside =
     let more = each_below (λ k. e (k + 1) ∷ []) count in
-    ap (λ (xs : List StreamEntry). place_in xs offset) (first_below (λ k. e k ∷ []) count)
-    ∙ ap (λ z. if nat_lt offset z then 0 else suc (place_in more (offset - z))) (same 0)
+    ap (λ (xs : List StreamEntry). index_in xs offset) (first_below (λ k. e k ∷ []) count)
+    ∙ ap (λ z. if nat_lt offset z then 0 else suc (index_in more (offset - z))) (same 0)
     ∙ elim (cases_lt offset n) [
-      | inl first ↦ cond-true (nat_lt offset n) 0 (suc (place_in more (offset - n))) (lt-ltb offset n first) ∙ sym (div-eq_of_lt first)
+      | inl first ↦ cond-true (nat_lt offset n) 0 (suc (index_in more (offset - n))) (lt-ltb offset n first) ∙ sym (div-eq_of_lt first)
       | inr later ↦
           let less : offset - n < count * n = omega (arith, inside, later) in
-          cond-false (nat_lt offset n) 0 (suc (place_in more (offset - n))) (le-ltb offset n later)
-          ∙ ap suc (equal_place n (λ k. e (k + 1)) count (offset - n) some (λ k. same (k + 1)) less)
+          cond-false (nat_lt offset n) 0 (suc (index_in more (offset - n))) (le-ltb offset n later)
+          ∙ ap suc (equal_index n (λ k. e (k + 1)) count (offset - n) some (λ k. same (k + 1)) less)
           ∙ omega (arith, div-eq-sub-div some later)
     ]
 
@@ -44,8 +44,8 @@ equal_round n e (suc count) same =
     omega (arith, before, last, pushed)
 
 -- the index in a round of `count` intervals of length n
-turn_of : (n count t : ℕ) → 0 < n → 0 < count → t % (count * n) / n ≡ t / n % count
-turn_of n count t some more =
+active_cycle_of : (n count t : ℕ) → 0 < n → 0 < count → t % (count * n) / n ≡ t / n % count
+active_cycle_of n count t some more =
     ap (λ z. z / n) (mod-mul t more some) ∙ div-mul-add (t / n % count) n (t % n) (mod-lt t some)
 
 -- a reservation's list repeats after a multiple of the pace's period
@@ -74,10 +74,10 @@ some_cycles pace = by_test ((pace.pause + 1) % 2 == 0)
     by_test true = omega arith
     by_test false = omega arith
 
--- a stream's turns repeat with the list's round
-pub turn_again : (pace : Pace) (depth cycle : ℕ) → is_turn pace depth (cycle % gate_cycles pace) ≡ is_turn pace depth cycle
-turn_again pace depth cycle =
-    ap (λ z. (pace.phase + depth) % (pace.pause + 1) == z)
+-- a stream's active cycles repeat with the list's round
+pub active_cycle_again : (pace : Pace) (hop_number cycle : ℕ) → is_active pace hop_number (cycle % gate_cycles pace) ≡ is_active pace hop_number cycle
+active_cycle_again pace hop_number cycle =
+    ap (λ z. (pace.phase + hop_number) % (pace.pause + 1) == z)
     (mod-mod_of_dvd (pace.pause + 1) cycle (dvd_of_mod-eq-zero (pace.pause + 1) (of_pace pace)))
 
 -- and so do even and odd cycles
@@ -85,44 +85,44 @@ pub parity_again : (pace : Pace) (cycle : ℕ) → cycle % gate_cycles pace % 2 
 parity_again pace cycle = mod-mod_of_dvd 2 cycle (dvd_of_mod-eq-zero 2 (of_two pace))
 
 -- at an instant
-module _ (n reserved : ℕ) (pace : Pace) (depth t : ℕ) (some : 0 < n) where
+module _ (n reserved : ℕ) (pace : Pace) (hop_number t : ℕ) (some : 0 < n) where
   -- the time after which the list repeats
-  round_is : gate_round (stream_list n reserved pace depth) ≡ gate_cycles pace * n
-  round_is = equal_round n (stream_entry n reserved pace depth) (gate_cycles pace) (λ k. refl)
+  round_is : gate_round (stream_list n reserved pace hop_number) ≡ gate_cycles pace * n
+  round_is = equal_round n (stream_entry n reserved pace hop_number) (gate_cycles pace) (λ k. refl)
 
   -- the index of the entry in force
-  pub gate_place : place_at (stream_list n reserved pace depth) t ≡ t / n % gate_cycles pace
-  gate_place =
+  pub gate_index : index_at (stream_list n reserved pace hop_number) t ≡ t / n % gate_cycles pace
+  gate_index =
       let rounds = gate_cycles pace * n in
       let positive : 0 < rounds = grind (arith, some, some_cycles pace) in
-      ap (λ z. place_in (stream_list n reserved pace depth) (t % z)) round_is
-      ∙ equal_place n (stream_entry n reserved pace depth) (gate_cycles pace) (t % rounds) some (λ k. refl) (mod-lt t positive)
-      ∙ turn_of n (gate_cycles pace) t some (some_cycles pace)
+      ap (λ z. index_in (stream_list n reserved pace hop_number) (t % z)) round_is
+      ∙ equal_index n (stream_entry n reserved pace hop_number) (gate_cycles pace) (t % rounds) some (λ k. refl) (mod-lt t positive)
+      ∙ active_cycle_of n (gate_cycles pace) t some (some_cycles pace)
 
   -- the number of its round
-  pub gate_round_at : round_at (stream_list n reserved pace depth) t ≡ t / n / gate_cycles pace
+  pub gate_round_at : round_at (stream_list n reserved pace hop_number) t ≡ t / n / gate_cycles pace
   gate_round_at = ap (λ z. t / z) (round_is ∙ mul_comm (gate_cycles pace) n) ∙ sym (div-div-eq-div-mul t n (gate_cycles pace))
 
   -- the entry in force
-  pub gate_entry : slice_get (stream_list n reserved pace depth) (place_at (stream_list n reserved pace depth) t) ≡ Some (stream_entry n reserved pace depth (t / n % gate_cycles pace))
+  pub gate_entry : slice_get (stream_list n reserved pace hop_number) (index_at (stream_list n reserved pace hop_number) t) ≡ Some (stream_entry n reserved pace hop_number (t / n % gate_cycles pace))
   gate_entry =
-      let e = stream_entry n reserved pace depth in
-      let place = t / n % gate_cycles pace in
-      let below : place < gate_cycles pace = mod-lt (t / n) (some_cycles pace) in
-      let inside : place < length (stream_list n reserved pace depth) = subst (λ z. place < z) (sym (length-singles e (gate_cycles pace))) below in
-      ap (slice_get (stream_list n reserved pace depth)) gate_place ∙ slice_get-get_or (stream_list n reserved pace depth) place (e 0) inside ∙ ap Some (get_or-singles e (gate_cycles pace) place (e 0) below)
+      let e = stream_entry n reserved pace hop_number in
+      let index = t / n % gate_cycles pace in
+      let below : index < gate_cycles pace = mod-lt (t / n) (some_cycles pace) in
+      let inside : index < length (stream_list n reserved pace hop_number) = subst (λ z. index < z) (sym (length-singles e (gate_cycles pace))) below in
+      ap (slice_get (stream_list n reserved pace hop_number)) gate_index ∙ slice_get-get_or (stream_list n reserved pace hop_number) index (e 0) inside ∙ ap Some (get_or-singles e (gate_cycles pace) index (e 0) below)
 
   -- its octet maximum is what the stream reserves in the cycle
   pub max_of_reservation :
-      option_and_then (λ (entry : StreamEntry). entry.octet_max) (slice_get (stream_list n reserved pace depth) (place_at (stream_list n reserved pace depth) t)) ≡ Some (if is_turn pace depth (t / n) then reserved else 0)
+      option_and_then (λ (entry : StreamEntry). entry.octet_max) (slice_get (stream_list n reserved pace hop_number) (index_at (stream_list n reserved pace hop_number) t)) ≡ Some (if is_active pace hop_number (t / n) then reserved else 0)
   max_of_reservation =
       ap (λ (z : Option StreamEntry). option_and_then (λ (entry : StreamEntry). entry.octet_max) z) gate_entry
-      ∙ ap (λ (b : Bool). Some (if b then reserved else 0)) (turn_again pace depth (t / n))
+      ∙ ap (λ (b : Bool). Some (if b then reserved else 0)) (active_cycle_again pace hop_number (t / n))
 
   -- what it passes is within what the stream reserves in the cycle
   pub within_reservation : (sum : ℕ) →
-      option_map_or (λ (entry : StreamEntry). within entry.octet_max sum) (slice_get (stream_list n reserved pace depth) (place_at (stream_list n reserved pace depth) t)) false
-      ≡ nat_le sum (if is_turn pace depth (t / n) then reserved else 0)
+      option_map_or (λ (entry : StreamEntry). within entry.octet_max sum) (slice_get (stream_list n reserved pace hop_number) (index_at (stream_list n reserved pace hop_number) t)) false
+      ≡ nat_le sum (if is_active pace hop_number (t / n) then reserved else 0)
   within_reservation sum =
       ap (λ (z : Option StreamEntry). option_map_or (λ (entry : StreamEntry). within entry.octet_max sum) z false) gate_entry
-      ∙ ap (λ (b : Bool). nat_le sum (if b then reserved else 0)) (turn_again pace depth (t / n))
+      ∙ ap (λ (b : Bool). nat_le sum (if b then reserved else 0)) (active_cycle_again pace hop_number (t / n))

@@ -5,7 +5,7 @@ use Rattle.cqf_lists.proofs.Members.{contains_here, contains_later}
 use Rattle.cqf_units.specs.Timing.{cycle_at, shortest_of, slot_of, wire_of}
 use Rattle.cqf_units.proofs.Times.{slot_within}
 use Rattle.cqf_model.specs.declared.ports.Arrival.{Arrival}
-use Rattle.cqf_model.specs.Turn.{busy, is_streams, load, slot_in, wire_in}
+use Rattle.cqf_model.specs.Due.{busy, is_streams, load, slot_in, wire_in}
 
 -- an inequality of scaled terms holds for the scaled sums
 pub sum_scaled : {X : Type 0} (f g : X → ℕ) (a b : ℕ) (xs : List X) → ((x : X) → Contains xs x → a * f x ≤ g x * b) → a * sum_by f xs ≤ sum_by g xs * b

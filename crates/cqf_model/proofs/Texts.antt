@@ -54,16 +54,16 @@ number_of (Some (Station s)) = Some s
 
 -- a node that is found by a name has it
 has_name : (d : Domain) (name : List ℕ) (node : Node) → node_named d name ≡ Some node → HasName d node name
-has_name d name node e = by_places (position (λ other. is_text other name) d.bridges) (position (λ other. is_text other name) d.stations) node refl refl e
+has_name d name node e = by_indices (position (λ other. is_text other name) d.bridges) (position (λ other. is_text other name) d.stations) node refl refl e
   where
     -- the node has the name, whether it is found among the bridges or the stations
-    by_places : (b s : Option ℕ) (node : Node) → position (λ other. is_text other name) d.bridges ≡ b → position (λ other. is_text other name) d.stations ≡ s →
+    by_indices : (b s : Option ℕ) (node : Node) → position (λ other. is_text other name) d.bridges ≡ b → position (λ other. is_text other name) d.stations ≡ s →
         node_or b s ≡ Some node → HasName d node name
-    by_places (Some b) s (Bridge k) f g h = name_found d.bridges name k (f ∙ ap number_of h)
-    by_places (Some b) s (Station k) f g h = absurd cc
-    by_places None (Some s) (Bridge k) f g h = absurd cc
-    by_places None (Some s) (Station k) f g h = name_found d.stations name k (g ∙ ap number_of h)
-    by_places None None node f g h = absurd cc
+    by_indices (Some b) s (Bridge k) f g h = name_found d.bridges name k (f ∙ ap number_of h)
+    by_indices (Some b) s (Station k) f g h = absurd cc
+    by_indices None (Some s) (Bridge k) f g h = absurd cc
+    by_indices None (Some s) (Station k) f g h = name_found d.stations name k (g ∙ ap number_of h)
+    by_indices None None node f g h = absurd cc
 
 -- so a node has one name
 pub named_once : (d : Domain) (a b : List ℕ) (node : Node) → node_named d a ≡ Some node → node_named d b ≡ Some node → a ≡ b

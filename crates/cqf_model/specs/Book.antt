@@ -10,7 +10,7 @@ use Rattle.cqf_model.specs.declared.ports.Start.{Start}
 use Rattle.cqf_model.specs.GateList.{Entry}
 use Rattle.cqf_model.specs.Domain.{Domain, cycle_of, leaves}
 use Rattle.cqf_model.specs.Run.{Run}
-use Rattle.cqf_model.specs.Traffic.{Carried, Received, Policed, Verdict, Queued, DroppedFor, LacksRow, ExceedsGate, policed_before}
+use Rattle.cqf_model.specs.Policing.{Carried, Received, Policed, Verdict, Queued, DroppedFor, LacksRow, ExceedsGate, policed_before}
 use Rattle.cqf_model.specs.Network.{IsLegalNetwork, Network, compiled_lists}
 
 -- the streams' frames that a link sends in a cycle (its batch), in the link's order, which is that of starts
@@ -54,18 +54,18 @@ drop_by cycle bridge x LacksRow = []
 drop_by cycle bridge x ExceedsGate = []
 
 -- the frame came in the cycle, and its offer has this index
-abbrev pub is_of_place : Domain → ℕ → ℕ → Policed → Bool
-is_of_place d cycle place p = (cycle_of d p.received.at == cycle) && (p.received.frame == place + 1)
+abbrev pub is_of_index : Domain → ℕ → ℕ → Policed → Bool
+is_of_index d cycle index p = (cycle_of d p.received.at == cycle) && (p.received.frame == index + 1)
 
--- the drops at a bridge in a cycle, by frame, of the first `places` offers
+-- the drops at a bridge in a cycle, by frame, of the first `indices` offers
 abbrev pub drops_in : Domain → ℕ → (ℕ → List Policed) → ℕ → ℕ → List Dropped
-drops_in d places policed cycle bridge = each_below
-    (λ place. flat_map (λ (p : Policed). drop_by cycle bridge p.received p.verdict) (filter (is_of_place d cycle place) (policed bridge)))
-    places
+drops_in d indices policed cycle bridge = each_below
+    (λ index. flat_map (λ (p : Policed). drop_by cycle bridge p.received p.verdict) (filter (is_of_index d cycle index) (policed bridge)))
+    indices
 
 -- the drops of the first cycles, by cycle, then bridge, then frame
 abbrev pub drops_of : Domain → ℕ → ℕ → (ℕ → List Policed) → List Dropped
-drops_of d cycles places policed = each_below (λ cycle. each_below (drops_in d places policed cycle) (length d.bridges)) cycles
+drops_of d cycles indices policed = each_below (λ cycle. each_below (drops_in d indices policed cycle) (length d.bridges)) cycles
 
 -- the contents of a book, and of a page of it
 pub record Contents : Type 0 where

@@ -7,16 +7,17 @@ use Rattle.cqf_model.specs.declared.topology.Link.{Link}
 use Rattle.cqf_model.specs.declared.topology.Node.{Node}
 use Rattle.cqf_model.specs.declared.topology.Node.TheVariants.{Bridge, Station}
 use Rattle.cqf_model.specs.declared.limits.Limits.{Limits}
-use Rattle.cqf_model.specs.Limits.{bridges_within, links_within, longest_cycle, stations_within}
+use Rattle.cqf_model.specs.Limits.{bridges_within, links_within, longest_cycle, most_overhead, stations_within}
 
 -- a domain: the limits that are set for it; its times in nanoseconds (the cycle time, the guard band of each link that has none of its own,
--- and the greatest difference between any two of its clocks); the names of its bridges and stations; and its directed links, each known by
--- its index
+-- and the greatest difference between any two of its clocks); the octets of a frame that its stream gates don't count; the names of its
+-- bridges and stations; and its directed links, each known by its index
 pub record Domain : Type 0 where
   pub limits : Limits
   pub cycle_time : ℕ
   pub guard : ℕ
   pub sync : ℕ
+  pub overhead : ℕ
   pub bridges : List (List ℕ)
   pub stations : List (List ℕ)
   pub links : List Link
@@ -50,6 +51,7 @@ pub record IsAccepted (d : Domain) : Type 0 where
   pub cycle_most : d.cycle_time ≤ longest_cycle
   pub guard_some : 0 < d.guard
   pub guard_short : d.guard < d.cycle_time
+  pub overhead_short : d.overhead ≤ most_overhead
   pub some_bridge : 0 < length d.bridges
   pub few_bridges : length d.bridges ≤ bridges_within d.limits
   pub few_stations : length d.stations ≤ stations_within d.limits
@@ -80,7 +82,7 @@ guard_of d l = option_map_or (guard_by d.guard) (slice_get d.links l) d.guard
 abbrev pub gap_of : Domain → ℕ → ℕ
 gap_of d l = 12 * octet_time_of d l / 25
 
--- what reservations may cost on a link, in octets a cycle
+-- what reservations may cost on a link, in octets per cycle
 abbrev pub budget : Domain → ℕ → ℕ
 budget d l = budget_of d.cycle_time (guard_of d l) (octet_time_of d l)
 

@@ -12,16 +12,16 @@
 -- - `Run`: the input of a run: tables, offers and background frames (`Run`, `IsOffer`, `IsBackground`)
 -- - `Table`: a stream's row with its tree, whose hop numbers frames follow, and what the stream costs on a link (`is_live`, `is_held`,
 --   `link_cost`)
--- - `Paces`: the cycles in which a stream's frames are at a hop number (`is_turn`)
+-- - `Paces`: the cycles in which a stream's frames are at a hop number (`is_active`)
 -- - `History`: calls, the answer that is due to each, and the table of each cycle (`reply_to`, `IsLegalHistory`, `tables_of`); the row of a
 --   stream, whose tree has each branch's k-th link at hop number k (`stream_by`, `tree_of`, and `NotATree`, which refuses other requests)
 -- - `Calls`: the history of what was requested at each seat (`acts_of`, `calls_by`, `IsHistoryOf`)
 -- - `GateList`, `Port`: the starts that a port's gates demand (`port_list`, `AreLegal`)
--- - `StreamGate`, `Traffic`: what arrives at a bridge, and what becomes of it there (`gate_passes`, `verdict_by`, `policed_before`)
+-- - `StreamGate`, `Policing`: what arrives at a bridge, and what becomes of it there (`gate_passes`, `verdict_by`, `policed_before`)
 -- - `Network`: all ports at once (`IsLegalNetwork`, `compiled_lists`), and what is lost inside (`LosesNothing`)
 -- - `Book`, `HistoryBook`: the contents of a network's book (`IsBook`, `IsOneThreadBook`), and the run of a history (`run_of_history`)
 -- - `Shift`: which offers are covered, and which frame leaves on which link in which cycle (`IsCovered`, `InShift`)
--- - `Turn`: when a frame is due at a port (`due`)
+-- - `Due`: when a frame is due at a port (`due`)
 -- - `Promise`: what a network and a book say about the shift (`MeansTheShift`, `SaysTheShift`)
 -- In addition, `Loose` defines networks whose clocks differ and whose delays vary (`IsLooseNetwork`), the subject of `cqf_laws_loose`.
 use Rattle.std.specs.Prelude.{ℕ, ◌≤◌, List, length}

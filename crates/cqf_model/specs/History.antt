@@ -60,7 +60,7 @@ seals entries = count_by (λ (e : Recorded). is_seal e.act) entries
 
 -- the node at an index of a branch
 abbrev pub node_at : Domain → Branch → ℕ → Option Node
-node_at d branch place = option_map_or (λ name. node_named d name) (slice_get branch place) None
+node_at d branch index = option_map_or (λ name. node_named d name) (slice_get branch index) None
 
 -- the link between two nodes, if both exist and the first is a bridge
 abbrev pub link_from : Domain → Option Node → Option Node → Option ℕ
@@ -71,22 +71,22 @@ link_from d (Some (Bridge b)) (Some to) = link_between d b to
 
 -- the link from the node at an index to the next one
 abbrev pub link_at : Domain → Branch → ℕ → Option ℕ
-link_at d branch place = link_from d (node_at d branch place) (node_at d branch (place + 1))
+link_at d branch index = link_from d (node_at d branch index) (node_at d branch (index + 1))
 
 -- the link to the node at an index
 abbrev pub link_before : Domain → Branch → ℕ → Option ℕ
 link_before d branch zero = None
-link_before d branch (suc place) = link_at d branch place
+link_before d branch (suc index) = link_at d branch index
 
 -- the hop by a link, if there is one
 abbrev pub hop_to : ℕ → Option ℕ → Option ℕ → List Hop
-hop_to depth from None = []
-hop_to depth from (Some l) = record { link = l; depth = depth; from = from } ∷ []
+hop_to hop_number from None = []
+hop_to hop_number from (Some l) = record { link = l; hop_number = hop_number; from = from } ∷ []
 
 -- the hops of a branch: its k-th link has hop number k
 abbrev pub hops_along : Domain → Branch → List Hop
 hops_along d branch =
-    each_below (λ place. hop_to (place + 1) (link_before d branch place) (link_at d branch place)) (length branch - 1)
+    each_below (λ index. hop_to (index + 1) (link_before d branch index) (link_at d branch index)) (length branch - 1)
 
 -- the tree of the branches: their hops in order, each link once, at its first occurrence
 abbrev pub tree_of : Domain → List Branch → List Hop
@@ -94,7 +94,7 @@ tree_of d paths = each_once (λ (a b : Hop). a.link == b.link) (flat_map (hops_a
 
 -- what each entry gives, from its index and itself, in order
 abbrev pub each_entry : {X : Type 0} → (ℕ → Recorded → List X) → List Recorded → List X
-each_entry gives entries = each_below (λ place. option_map_or (λ (e : Recorded). gives place e) (slice_get entries place) []) (length entries)
+each_entry gives entries = each_below (λ index. option_map_or (λ (e : Recorded). gives index e) (slice_get entries index) []) (length entries)
 
 -- the effect of an entry that withdraws the stream with this number; `effect` is the number of Seals before the entry
 abbrev pub withdrawal_by : ℕ → ℕ → Act → Reply → List Cycle
@@ -106,7 +106,7 @@ withdrawal_by effect number (Withdraws name) Sealed = []
 
 -- the effects of the accepted withdrawals of a stream's number, in order
 abbrev pub withdrawals : List Recorded → ℕ → List Cycle
-withdrawals entries number = each_entry (λ place e. withdrawal_by (seals (take place entries)) number e.act e.reply) entries
+withdrawals entries number = each_entry (λ index e. withdrawal_by (seals (take index entries)) number e.act e.reply) entries
 
 -- the pace of a requested stream
 abbrev pub pace_of : Asked → Pace
@@ -123,6 +123,7 @@ stream_by d entries effect (Admits asked) (Accepted receipt) = record {
   no = receipt.no;
   name = asked.name;
   octets = asked.octets;
+  overhead = d.overhead;
   pace = pace_of asked;
   tree = record { items = tree_of d asked.paths };
   admitted = record { 0 = effect };
@@ -131,7 +132,7 @@ stream_by d entries effect (Admits asked) (Accepted receipt) = record {
 
 -- the accepted streams, by number
 abbrev pub streams_of : Domain → List Recorded → List Row
-streams_of d entries = each_entry (λ place e. stream_by d entries (seals (take place entries)) e.act e.reply) entries
+streams_of d entries = each_entry (λ index e. stream_by d entries (seals (take index entries)) e.act e.reply) entries
 
 -- the streams that are held in a cycle
 abbrev pub held_in : Domain → List Recorded → ℕ → List Row
@@ -145,25 +146,25 @@ is_bridge (Some (Station s)) = false
 
 -- whether a branch doesn't begin at a bridge (tested at index 0)
 abbrev pub begins_elsewhere : Domain → Branch → ℕ → Bool
-begins_elsewhere d branch place = (place == 0) && not (is_bridge (node_at d branch 0))
+begins_elsewhere d branch index = (index == 0) && not (is_bridge (node_at d branch 0))
 
 -- whether no link leads to the node at an index from the one before
 abbrev pub lacks_link : Domain → Branch → ℕ → Bool
-lacks_link d branch place = nat_le 1 place && nat_lt place (length branch) && is_none (link_at d branch (place - 1))
+lacks_link d branch index = nat_le 1 index && nat_lt index (length branch) && is_none (link_at d branch (index - 1))
 
 -- whether the index is that of the branch's last node, and this node is a bridge
 abbrev pub ends_at_bridge : Domain → Branch → ℕ → Bool
-ends_at_bridge d branch place = (place + 1 == length branch) && is_bridge (node_at d branch place)
+ends_at_bridge d branch index = (index + 1 == length branch) && is_bridge (node_at d branch index)
 
 -- whether the index is that of the first node beyond the largest number of nodes of a branch
 abbrev pub is_beyond_most : Domain → Branch → ℕ → Bool
-is_beyond_most d branch place = (place == nodes_within d.limits) && nat_lt place (length branch)
+is_beyond_most d branch index = (index == nodes_within d.limits) && nat_lt index (length branch)
 
 -- whether a branch is broken at an index: it is empty or doesn't begin at a bridge; or no link goes from the node before to this one; or
 -- its last node is a bridge; or as many nodes precede the index as a branch may have
 abbrev pub is_broken_at : Domain → Branch → ℕ → Bool
-is_broken_at d branch place =
-    begins_elsewhere d branch place || lacks_link d branch place || ends_at_bridge d branch place || is_beyond_most d branch place
+is_broken_at d branch index =
+    begins_elsewhere d branch index || lacks_link d branch index || ends_at_bridge d branch index || is_beyond_most d branch index
 
 -- whether both nodes exist and are the same
 abbrev pub is_same : Option Node → Option Node → Bool
@@ -173,25 +174,26 @@ is_same (Some a) (Some b) = same_node a b
 
 -- whether the node at an index occurred earlier in the branch
 abbrev pub is_loop_at : Domain → Branch → ℕ → Bool
-is_loop_at d branch place = list_any (λ name. is_same (node_named d name) (node_at d branch place)) (take place branch)
+is_loop_at d branch index = list_any (λ name. is_same (node_named d name) (node_at d branch index)) (take index branch)
 
 -- the first position at which a branch fails a test; positions count through the branches as one list. Each branch is tested up to
 -- the index after its last node, so an empty branch is tested at index 0
-abbrev pub first_place : (Branch → ℕ → Bool) → List Branch → Option ℕ
-first_place fails [] = None
-first_place fails (branch ∷ paths) =
-    or_else (least (fails branch) (length branch + 1)) (option_map (λ place. length branch + place) (first_place fails paths))
+abbrev pub first_index : (Branch → ℕ → Bool) → List Branch → Option ℕ
+first_index fails [] = None
+first_index fails (branch ∷ paths) =
+    or_else (least (fails branch) (length branch + 1)) (option_map (λ index. length branch + index) (first_index fails paths))
 
 -- the first position at which a branch is broken; 0 if there is no branch
-abbrev pub broken_place : Domain → List Branch → Option ℕ
-broken_place d [] = Some 0
-broken_place d (branch ∷ paths) = first_place (is_broken_at d) (branch ∷ paths)
+abbrev pub broken_index : Domain → List Branch → Option ℕ
+broken_index d [] = Some 0
+broken_index d (branch ∷ paths) = first_index (is_broken_at d) (branch ∷ paths)
 
--- whether no node is in both parts of branches
+-- whether two parts of branches have no node in common
 abbrev pub are_apart : Branch → Branch → Bool
 are_apart xs ys = not (list_any (λ x. list_any (λ y. is_text x y) ys) xs)
 
--- whether two branches part for good: both continue after the beginning that they have in common, and no node of the two remainders is in both
+-- whether two branches part for good: both continue after the beginning that they have in common, and the two remainders have no node in
+-- common
 abbrev pub part : Branch → Branch → Bool
 part [] ys = false
 part (x ∷ xs) [] = false
@@ -206,14 +208,14 @@ make_a_tree (x ∷ xs) (y ∷ ys) = is_text x y && part xs ys
 
 -- whether a branch doesn't form a tree with one before it
 abbrev pub is_stray : List Branch → ℕ → Bool
-is_stray paths place =
-    option_map_or (λ branch. list_any (λ before. not (make_a_tree before branch)) (take place paths)) (slice_get paths place) false
+is_stray paths index =
+    option_map_or (λ branch. list_any (λ before. not (make_a_tree before branch)) (take index paths)) (slice_get paths index) false
 
 -- whether a stream may be offered in one of every `every` cycles: `every` divides 80, and the phase is less than `every`
 abbrev pub is_pace : ℕ → ℕ → Bool
 is_pace every phase = (most_every % every == 0) && nat_lt phase every
 
--- the most that these streams cost on a link in a cycle in which the frames of another stream use the link
+-- the most that these streams cost on link `l` in any one cycle in which another stream, with this tree and pace, uses the link
 abbrev pub most_beside : List Row → List Hop → Pace → ℕ → ℕ
 most_beside rows tree pace l =
     fold max 0 (each_below (λ cycle. if uses tree pace l cycle then link_cost rows l cycle ∷ [] else []) most_every)
@@ -234,7 +236,7 @@ refused_if false refused = None
 -- the refusal for a number, if there is one
 abbrev pub refused_at : (ℕ → Refused) → Option ℕ → Option Refused
 refused_at refused None = None
-refused_at refused (Some place) = Some (refused place)
+refused_at refused (Some index) = Some (refused index)
 
 -- why a request is refused, beside the streams that are held in its effect cycle: the first reason in this order
 abbrev pub refusal_of : Domain → List Row → Asked → Option Refused
@@ -242,16 +244,16 @@ refusal_of d rows asked =
     or_else (refused_if (not (is_name asked.name)) BadName)
     (or_else (refused_if (not (nat_le least_reserved asked.octets && nat_le asked.octets most_reserved)) BadOctets)
     (or_else (refused_if (not (is_pace asked.every asked.phase)) BadPace)
-    (or_else (refused_at (λ place. UnknownNode place)
+    (or_else (refused_at (λ index. UnknownNode index)
     (position (λ name. is_none (node_named d name)) (flat_map (λ branch. branch) asked.paths)))
-    (or_else (refused_at (λ place. BrokenPath place) (broken_place d asked.paths))
-    (or_else (refused_at (λ place. LoopingPath place) (first_place (is_loop_at d) asked.paths))
+    (or_else (refused_at (λ index. BrokenPath index) (broken_index d asked.paths))
+    (or_else (refused_at (λ index. LoopingPath index) (first_index (is_loop_at d) asked.paths))
     (or_else (refused_at (λ branch. NotATree branch) (least (is_stray asked.paths) (length asked.paths)))
     (or_else (refused_if (nat_lt (hops_within d.limits) (length (tree_of d asked.paths))) TooManyHops)
     (or_else (refused_if (list_any (λ (row : Row). is_text row.name asked.name) rows) NameHeld)
     (or_else (refused_if (nat_le (streams_within d.limits) (length rows)) TooManyStreams)
     (refused_at (λ l. BudgetShort l (left_on d rows (tree_of d asked.paths) (pace_of asked) l))
-    (short_link d rows (cost_of asked.octets) (pace_of asked) (tree_of d asked.paths))))))))))))
+    (short_link d rows (cost_of d.overhead asked.octets) (pace_of asked) (tree_of d asked.paths))))))))))))
 
 -- the number of the next stream
 abbrev pub next_number : Domain → List Recorded → ℕ
@@ -280,18 +282,18 @@ reply_to d entries Seals = Sealed
 
 -- a legal history: each answer is the one that is due after the entries before it, and there are not too many entries
 pub record IsLegalHistory (d : Domain) (entries : List Recorded) : Type 0 where
-  pub replies : (place : ℕ) (e : Recorded) → slice_get entries place ≡ Some e → e.reply ≡ reply_to d (take place entries) e.act
+  pub replies : (index : ℕ) (e : Recorded) → slice_get entries index ≡ Some e → e.reply ≡ reply_to d (take index entries) e.act
   pub few_seals : seals entries ≤ most_cycles
   pub few_calls : length entries - seals entries ≤ most_calls
 
 -- the indices of the Seals
-abbrev pub seal_places : List Recorded → List ℕ
-seal_places entries = each_entry (λ place e. if is_seal e.act then place ∷ [] else []) entries
+abbrev pub seal_indices : List Recorded → List ℕ
+seal_indices entries = each_entry (λ index e. if is_seal e.act then index ∷ [] else []) entries
 
 -- the table of a cycle: the streams that are held in it according to the entries before the Seal that closes it, by number. For the cycle
 -- that the next Seal would close, all entries count; for later cycles the value has no meaning
 abbrev pub table_at : Domain → List Recorded → ℕ → List Row
-table_at d entries cycle = held_in d (take (slice_index_or (seal_places entries) cycle (length entries)) entries) cycle
+table_at d entries cycle = held_in d (take (slice_index_or (seal_indices entries) cycle (length entries)) entries) cycle
 
 -- the tables of the first cycles
 abbrev pub tables_of : Domain → List Recorded → ℕ → List (List Row)

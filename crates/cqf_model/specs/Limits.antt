@@ -30,11 +30,16 @@ least_reserved = 64
 abbrev pub most_reserved : ℕ
 most_reserved = 1000000
 
+-- the most octets of a frame that a gate may leave uncounted: with more of them, frames of the shortest size could cost more than twice the
+-- octets that are counted
+abbrev pub most_overhead : ℕ
+most_overhead = 22
+
 -- the number of cycles in which all paces repeat: a stream is offered in one of every n cycles, for a divisor n of this
 abbrev pub most_every : ℕ
 most_every = 80
 
--- a port runs up to this instant at most, in nanoseconds, and its arrivals come by then
+-- a port runs up to this instant at most, in nanoseconds, and its arrivals are no later
 abbrev pub last_until : ℕ
 last_until = 100000000
 
@@ -95,26 +100,26 @@ limits_where false = profile
 abbrev pub bridges_within : Limits → ℕ
 bridges_within limits = min limits.bridges most_bridges
 
--- the number of stations that there may be, likewise
+-- the number of stations that there may be: the limit that is set, but at most what can be represented
 abbrev pub stations_within : Limits → ℕ
 stations_within limits = min limits.stations most_stations
 
--- the number of links that there may be, likewise
+-- the number of links that there may be: the limit that is set, but at most what can be represented
 abbrev pub links_within : Limits → ℕ
 links_within limits = min limits.links most_links
 
--- the number of nodes that a branch may have, likewise
+-- the number of nodes that a branch may have: the limit that is set, but at most what can be represented
 abbrev pub nodes_within : Limits → ℕ
 nodes_within limits = min limits.nodes most_nodes
 
--- the number of hops that a tree may have, likewise
+-- the number of hops that a tree may have: the limit that is set, but at most what can be represented
 abbrev pub hops_within : Limits → ℕ
 hops_within limits = min limits.hops most_hops
 
--- the number of streams that may be held at once, likewise
+-- the number of streams that may be held at once: the limit that is set, but at most what can be represented
 abbrev pub streams_within : Limits → ℕ
 streams_within limits = min limits.streams most_streams
 
--- the number of rows that a table may have, likewise
+-- the number of rows that a table may have: the limit that is set, but at most what can be represented
 abbrev pub rows_within : Limits → ℕ
 rows_within limits = min limits.rows most_offers

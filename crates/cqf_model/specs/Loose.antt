@@ -1,14 +1,14 @@
--- Loose networks: networks of a run whose bridges' clocks differ, and whose links' delays vary. What arrives at a bridge is defined from
--- starts and a link's stated delay (`whole_at` of `Traffic`). So each frame that a link sends has a second start, as the node at the link's
--- end has it: the start from which, after the stated delay, the frame is whole at the instant at which it is whole there by that node's
--- clock. The frames with these starts are what is heard.
+-- Loose networks: networks of a run whose bridges' clocks differ, and whose links' delays vary. What arrives at a bridge is defined by
+-- starts and a link's stated delay (`whole_at` of `Policing`). For any other delay, each frame that a link sends gets a second start: the
+-- one for which `whole_at` gives the instant at which the frame is whole in the node at the link's end, by that node's clock. The frames
+-- with these second starts are what the node hears.
 use Rattle.std.specs.Prelude.{ℕ, ◌≡◌, ◌+◌, ◌<◌, ◌≤◌, map, length, Contains}
 use Rattle.cqf_units.specs.Timing.{ending_of, time_of}
 use Rattle.cqf_model.specs.declared.frames.Sent.{Sent}
 use Rattle.cqf_model.specs.Domain.{Domain, IsAccepted, delay_of, guard_of, least_delay_of, octet_time_of}
 use Rattle.cqf_model.specs.Network.{IsNetworkBy, Network, compiled_lists}
 use Rattle.cqf_model.specs.Run.{Run}
-use Rattle.cqf_model.specs.Traffic.{Carried, whole_at}
+use Rattle.cqf_model.specs.Policing.{Carried, whole_at}
 
 -- the greatest difference between the clocks of the nodes at a link's two ends, and the least delay of each link, in nanoseconds. The
 -- greatest delay is the one that the domain states

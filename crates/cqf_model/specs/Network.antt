@@ -15,7 +15,7 @@ use Rattle.cqf_model.specs.StreamGate.{gate_class}
 use Rattle.cqf_model.specs.Domain.{Domain, bridge_of, cycle_of, guard_of, octet_time_of}
 use Rattle.cqf_model.specs.Run.{Run}
 use Rattle.cqf_model.specs.Table.{goes_to}
-use Rattle.cqf_model.specs.Traffic.{Carried, Policed, Received, Verdict, Queued, DroppedFor, LacksRow, ExceedsGate, came_by, gate_behind, policed_before}
+use Rattle.cqf_model.specs.Policing.{Carried, Policed, Received, Verdict, Queued, DroppedFor, LacksRow, ExceedsGate, came_by, gate_list_after, policed_before}
 
 -- a frame in a port's queues: the arrival that the port sees, labelled with the frame's number, and the number of its stream, none for a
 -- background frame
@@ -26,14 +26,14 @@ pub record QueuedFrame : Type 0 where
 -- a stream's frame, with the class that its stream's gate assigns
 abbrev pub queued_frame : Domain → Received → Row → QueuedFrame
 queued_frame d x row = record {
-  arrival = record { at = record { 0 = x.at }; class = gate_class (gate_behind d row (came_by x.way)) x.at; octets = x.octets; frame = x.frame };
+  arrival = record { at = record { 0 = x.at }; class = gate_class (gate_list_after d row (came_by x.ingress)) x.at; octets = x.octets; frame = x.frame };
   stream = Some row.no;
 }
 
 -- a frame is queued to each port that sends on a link on which its stream continues
 abbrev pub queued_by : Domain → ℕ → Received → Verdict → List QueuedFrame
 queued_by d l x (Queued row) =
-    if list_any (λ next. next == l) (goes_to row (came_by x.way)) then queued_frame d x row ∷ [] else []
+    if list_any (λ next. next == l) (goes_to row (came_by x.ingress)) then queued_frame d x row ∷ [] else []
 queued_by d l x (DroppedFor reason) = []
 queued_by d l x LacksRow = []
 queued_by d l x ExceedsGate = []

@@ -6,6 +6,6 @@ use Rattle.cqf_model.specs.declared.frames.Started.{Started}
 abbrev pub frames_on : ℕ → List Started → ℕ
 frames_on link starts = count_by (λ (start : Started). start.link == link) starts
 
--- their total octets
+-- the total octets of the starts that are on the link
 abbrev pub octets_on : ℕ → List Started → ℕ
 octets_on link starts = sum_by (λ (start : Started). if start.link == link then start.octets else 0) starts

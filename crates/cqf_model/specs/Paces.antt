@@ -8,5 +8,5 @@ each_cycle = record { pause = 0; phase = 0 }
 
 -- whether a stream's frames are at this hop number in the cycle: they are offered in the cycles of the stream's phase, and leave on a link
 -- as many cycles later as its hop number says
-abbrev pub is_turn : Pace → ℕ → ℕ → Bool
-is_turn pace depth cycle = (pace.phase + depth) % (pace.pause + 1) == cycle % (pace.pause + 1)
+abbrev pub is_active : Pace → ℕ → ℕ → Bool
+is_active pace hop_number cycle = (pace.phase + hop_number) % (pace.pause + 1) == cycle % (pace.pause + 1)

@@ -11,9 +11,9 @@ use Rattle.cqf_model.specs.Network.{IsLost, QueuedFrame, arrivals_of, queued_bef
 use Rattle.cqf_model.specs.Run.{Run, end_of_run}
 use Rattle.cqf_model.specs.Shift.{InShift, IsCovered, IsUncovered, offer_cycle}
 use Rattle.cqf_model.specs.Table.{table_of, link_cost}
-use Rattle.cqf_model.specs.Traffic.{Carried, Policed, Verdict, Queued, DroppedFor, LacksRow, ExceedsGate, came_by, numbered, offer_received}
-use Rattle.cqf_model.specs.Traffic.{policed_before, whole_at}
-use Rattle.cqf_model.specs.Turn.{due, cycle_of_place}
+use Rattle.cqf_model.specs.Policing.{Carried, Policed, Verdict, Queued, DroppedFor, LacksRow, ExceedsGate, came_by, numbered, offer_received}
+use Rattle.cqf_model.specs.Policing.{policed_before, whole_at}
+use Rattle.cqf_model.specs.Due.{due, cycle_of_index}
 
 -- the verdict that an offer must get: if it is covered, it goes on with the row that covers it; otherwise it is dropped for the first
 -- reason that applies
@@ -38,11 +38,11 @@ pub record LeavesIn (d : Domain) (carried : Carried) (frame link cycle : ℕ) : 
 -- the frame leaves on the link as one of the streams' frames that were queued to it, in its turn: in the cycle after the one in which it
 -- was queued, when those that came before it in that cycle have left
 pub record LeavesInTurn (d : Domain) (link : ℕ) (queued : List QueuedFrame) (sent : Sent) : Type 0 where
-  pub place : ℕ
-  pub in_queue : place < length queued
-  pub start : sent.start.0 ≡ due d.cycle_time (octet_time_of d link) (arrivals_of queued) place
-  pub is : Contains (sent_of queued (place, sent.start.0)) sent
-  pub cycle : cycle_of d sent.start.0 ≡ cycle_of_place d.cycle_time (arrivals_of queued) place + 1
+  pub index : ℕ
+  pub in_queue : index < length queued
+  pub start : sent.start.0 ≡ due d.cycle_time (octet_time_of d link) (arrivals_of queued) index
+  pub is : Contains (sent_of queued (index, sent.start.0)) sent
+  pub cycle : cycle_of d sent.start.0 ≡ cycle_of_index d.cycle_time (arrivals_of queued) index + 1
 
 -- the octets of the wire that a link's streams' frames take in a cycle
 abbrev pub wire_in_cycle : Domain → Carried → ℕ → ℕ → ℕ
@@ -54,7 +54,7 @@ pub record MeansTheShiftAs (run : Run) (carried heard : Carried) : Type 0 where
   pub edge : (x : Offered) → Contains (numbered run.offers) x → offer_cycle run.domain x < length run.tables →
       (verdict : Verdict) × IsPolicedAs run heard (end_of_run run) x verdict
   -- nothing else arrives at the edge: each frame that came by no link is one of the offers at this bridge, with its verdict
-  pub edge_only : (bridge : ℕ) (p : Policed) → Contains (policed_before run heard bridge (end_of_run run)) p → came_by p.received.way ≡ None →
+  pub edge_only : (bridge : ℕ) (p : Policed) → Contains (policed_before run heard bridge (end_of_run run)) p → came_by p.received.ingress ≡ None →
       (x : Offered) × (x.offer.bridge ≡ bridge) × (offer_received x ≡ p.received) × IsDecided run x p.verdict
   -- the frames leave as the shift says, each once
   pub only : (frame link cycle : ℕ) → LeavesIn run.domain carried frame link cycle → InShift run (length run.tables) frame link cycle
@@ -62,7 +62,7 @@ pub record MeansTheShiftAs (run : Run) (carried heard : Carried) : Type 0 where
   pub once : (link : ℕ) (a b : Sent) → Contains (carried link) a → Contains (carried link) b → a.frame ≡ b.frame → a ≡ b
   -- so no frame is on a link twice: the numbers of any two frames that a link carries differ
   pub apart : (link : ℕ) → AllPairs (λ (a b : Sent). a.frame ≢ b.frame) (carried link)
-  -- and each frame has the octets of the offer with its number
+  -- each frame has the octets of the offer with its number
   pub octets : (link : ℕ) (sent : Sent) (x : Offered) → Contains (carried link) sent → Contains (numbered run.offers) x →
       sent.frame ≡ x.frame → sent.octets ≡ x.offer.octets
   -- nothing is lost inside
@@ -70,7 +70,7 @@ pub record MeansTheShiftAs (run : Run) (carried heard : Carried) : Type 0 where
   -- a link's streams' frames take no more in a cycle than the streams held in it cost, and that is within the link's budget
   pub loads : (link cycle : ℕ) → link < length run.domain.links → cycle < length run.tables →
       wire_in_cycle run.domain carried link cycle ≤ link_cost (table_of run.tables cycle) link cycle
-  pub costs : (link cycle turn : ℕ) → link < length run.domain.links → link_cost (table_of run.tables cycle) link turn ≤ budget run.domain link
+  pub costs : (link cycle active_cycle : ℕ) → link < length run.domain.links → link_cost (table_of run.tables cycle) link active_cycle ≤ budget run.domain link
   -- each frame starts after those that came before it in their cycle, and is whole in the next node, by that node's clock, in the cycle of
   -- its start
   pub in_turn : (link : ℕ) (sent : Sent) → Contains (carried link) sent →
@@ -80,8 +80,8 @@ pub record MeansTheShiftAs (run : Run) (carried heard : Carried) : Type 0 where
   -- after a link with hop number k, a frame is whole in the next node more than k - 1 and less than k + 1 cycle times after its offer's instant
   pub latency : (link : ℕ) (sent h : Sent) → Contains (carried link) sent → Contains (heard link) h → h.frame ≡ sent.frame →
       (shift : InShift run (length run.tables) sent.frame link (cycle_of run.domain sent.start.0)) →
-      (shift.x.offer.at.0 + shift.depth * run.domain.cycle_time < whole_at run.domain link h + run.domain.cycle_time)
-      × (whole_at run.domain link h < shift.x.offer.at.0 + (shift.depth + 1) * run.domain.cycle_time)
+      (shift.x.offer.at.0 + shift.hop_number * run.domain.cycle_time < whole_at run.domain link h + run.domain.cycle_time)
+      × (whole_at run.domain link h < shift.x.offer.at.0 + (shift.hop_number + 1) * run.domain.cycle_time)
 
 -- the same if all nodes have the same clock and each link has its stated delay, so that what is heard is what is sent
 abbrev pub MeansTheShift : Run → Carried → Type 0
@@ -106,7 +106,7 @@ pub record SaysTheShift (run : Run) (book : Contents) : Type 0 where
   pub each_drop : (x : Dropped) → IsOfUncovered run x → Contains book.drops x
   -- no frame is on a link twice: any two starts are of different frames or on different links
   pub once_each : AllPairs (λ (a b : Started). a.frame ≡ b.frame → a.link ≢ b.link) book.starts
-  -- and each start has the octets of the offer with its number
+  -- each start has the octets of the offer with its number
   pub octets : (s : Started) (x : Offered) → Contains book.starts s → Contains (numbered run.offers) x → s.frame ≡ x.frame →
       s.octets ≡ x.offer.octets
   -- no offer is dropped twice: any two drops are of different frames

@@ -9,9 +9,9 @@ abbrev pub text_of_refusal : Refused → List ℕ
 text_of_refusal BadName = codes "BadName"
 text_of_refusal BadOctets = codes "BadOctets"
 text_of_refusal BadPace = codes "BadPace"
-text_of_refusal (UnknownNode place) = codes "UnknownNode " ++ decimal place
-text_of_refusal (BrokenPath place) = codes "BrokenPath " ++ decimal place
-text_of_refusal (LoopingPath place) = codes "LoopingPath " ++ decimal place
+text_of_refusal (UnknownNode index) = codes "UnknownNode " ++ decimal index
+text_of_refusal (BrokenPath index) = codes "BrokenPath " ++ decimal index
+text_of_refusal (LoopingPath index) = codes "LoopingPath " ++ decimal index
 text_of_refusal (NotATree branch) = codes "NotATree " ++ decimal branch
 text_of_refusal TooManyHops = codes "TooManyHops"
 text_of_refusal NameHeld = codes "NameHeld"

@@ -2,6 +2,7 @@
 -- gate, class, port or instant of sending.
 use Rattle.std.specs.Prelude.{ℕ, ◌≡◌, ◌+◌, ◌<◌, ◌≤◌, ◌++◌, List, Bool, true, false, ◌==◌, ◌&&◌, if◌then◌else◌, nat_le, nat_lt, filter, fold, Option, Some, None}
 use Rattle.std.specs.Prelude.{Contains}
+use Rattle.cqf_units.specs.Timing.{counted_of}
 use Rattle.cqf_lists.specs.Lists.{each_below}
 use Rattle.cqf_model.specs.declared.frames.Offer.{Offer}
 use Rattle.cqf_model.specs.declared.frames.Offered.{Offered}
@@ -11,7 +12,7 @@ use Rattle.cqf_model.specs.declared.topology.Row.{Row}
 use Rattle.cqf_model.specs.Domain.{Domain, cycle_of, is_text}
 use Rattle.cqf_model.specs.Run.{Run}
 use Rattle.cqf_model.specs.Table.{IsHop, begins_at, is_live, reserved_in, row_named, table_of}
-use Rattle.cqf_model.specs.Traffic.{numbered}
+use Rattle.cqf_model.specs.Policing.{numbered}
 
 -- the offers at an instant, in order of number
 abbrev pub offers_at : List Offer → ℕ → List Offered
@@ -31,11 +32,13 @@ offer_cycle d x = cycle_of d x.offer.at.0
 abbrev pub claims : Domain → Row → ℕ → Offered → Bool
 claims d row cycle x = (offer_cycle d x == cycle) && is_text row.name x.offer.stream && begins_at d row x.offer.bridge
 
--- the octets taken of a row's reservation in a cycle after one more offer: an offer that claims no more than is left takes its octets, and
--- any other offer takes none
+-- the octets taken of a row's reservation in a cycle after one more offer: an offer that claims no more than is left takes those of its
+-- octets that gates count, and any other offer takes none
 abbrev pub take_octets : Domain → Row → ℕ → ℕ → Offered → ℕ
 take_octets d row cycle taken x =
-    if claims d row cycle x && nat_le (taken + x.offer.octets) (reserved_in row 0 cycle) then taken + x.offer.octets else taken
+    if claims d row cycle x && nat_le (taken + counted_of d.overhead x.offer.octets) (reserved_in row 0 cycle)
+    then taken + counted_of d.overhead x.offer.octets
+    else taken
 
 -- the octets that the covered ones among these offers take of a row's reservation in a cycle, one offer after the other
 abbrev pub taken_by : Domain → Row → ℕ → List Offered → ℕ
@@ -47,7 +50,7 @@ row_for d tables x = row_named (table_of tables (offer_cycle d x)) x.offer.strea
 
 -- the octets that an offer would take together with those before it of its row and cycle
 abbrev pub asked_with : Domain → List Offer → Offered → Row → ℕ
-asked_with d offers x row = taken_by d row (offer_cycle d x) (offers_before offers x) + x.offer.octets
+asked_with d offers x row = taken_by d row (offer_cycle d x) (offers_before offers x) + counted_of d.overhead x.offer.octets
 
 -- the offer is covered by the row
 pub record IsCovered (run : Run) (x : Offered) (row : Row) : Type 0 where
@@ -62,13 +65,13 @@ pub record IsNotLive (run : Run) (x : Offered) (row : Row) : Type 0 where
   pub named : row_for run.domain run.tables x ≡ Some row
   pub not_live : is_live row (offer_cycle run.domain x) ≡ false
 
--- it is live, but its tree begins at another bridge
+-- the row that an offer names is live, but its tree begins at another bridge
 pub record BeginsElsewhere (run : Run) (x : Offered) (row : Row) : Type 0 where
   pub named : row_for run.domain run.tables x ≡ Some row
   pub live : is_live row (offer_cycle run.domain x) ≡ true
   pub elsewhere : begins_at run.domain row x.offer.bridge ≡ false
 
--- it is live and begins at this bridge, but has fewer octets left
+-- the row that an offer names is live and begins at the offer's bridge, but has fewer octets left than the offer has
 pub record IsShort (run : Run) (x : Offered) (row : Row) : Type 0 where
   pub named : row_for run.domain run.tables x ≡ Some row
   pub live : is_live row (offer_cycle run.domain x) ≡ true
@@ -92,9 +95,9 @@ pub record IsUncovered (run : Run) (x : Offered) (reason : Reason) : Type 0 wher
 pub record InShift (run : Run) (cycles frame link cycle : ℕ) : Type 0 where
   pub x : Offered
   pub row : Row
-  pub depth : ℕ
+  pub hop_number : ℕ
   pub covered : IsCovered run x row
   pub is_frame : frame ≡ x.frame
-  pub is_hop : IsHop row depth link
-  pub is_cycle : cycle ≡ offer_cycle run.domain x + depth
+  pub is_hop : IsHop row hop_number link
+  pub is_cycle : cycle ≡ offer_cycle run.domain x + hop_number
   pub within_run : cycle < cycles

@@ -30,7 +30,7 @@ pub enum Refused {
     /// The node at this position occurred earlier in its branch.
     LoopingPath(usize),
     /// The branch of this number, from 0, doesn't form a tree with one before it: it begins at another bridge, is the
-    /// same as an earlier branch, or has a node of one after a different beginning.
+    /// same as an earlier branch, or has a node of an earlier branch, but after other nodes.
     NotATree(usize),
     /// The tree has more hops than the limits allow.
     TooManyHops,
@@ -39,6 +39,7 @@ pub enum Refused {
     /// As many streams are held as the limits allow.
     TooManyStreams,
     /// The first link of the tree, in its order, whose budget has fewer octets left than the stream costs, and the octets left.
+    /// What a link has left is the least over the cycles in which the stream uses it.
     BudgetShort { link: u16, left: u32 },
     /// No held stream has the name.
     NotHeld,

@@ -28,13 +28,16 @@ pub const LEAST_OCTETS: u32 = 64;
 /// The most octets that a stream may reserve in a cycle.
 pub const MOST_OCTETS: u32 = 1_000_000;
 
+/// The most octets of a frame that a gate may leave uncounted.
+pub const MOST_OVERHEAD: u32 = 22;
+
 /// The number of cycles in which all paces repeat: a stream is offered in one of every n cycles, for a divisor n of this.
 pub const MOST_EVERY: u32 = 80;
 
 /// The longest cycle, guard band and link delay, in nanoseconds.
 pub const LONGEST_CYCLE: u32 = 10_000_000;
 
-/// The instant up to which a port runs at most, in nanoseconds. Its arrivals come by then.
+/// The instant up to which a port runs at most, in nanoseconds. Its arrivals are no later.
 pub const LAST_UNTIL: u64 = 100_000_000;
 
 /// The most bridges of a domain that can be represented.
@@ -118,42 +121,44 @@ impl Limits {
         self.bridges.min(MOST_BRIDGES)
     }
 
-    /// Returns the number of stations that a domain may have, likewise.
+    /// Returns the number of stations that a domain may have: the limit that is set, but at most what can be
+    /// represented.
     pub fn stations_within(&self) -> usize
         ensures { result ≡ stations_within self.now }
     {
         self.stations.min(MOST_STATIONS)
     }
 
-    /// Returns the number of links that a domain may have, likewise.
+    /// Returns the number of links that a domain may have: the limit that is set, but at most what can be represented.
     pub fn links_within(&self) -> usize
         ensures { result ≡ links_within self.now }
     {
         self.links.min(MOST_LINKS)
     }
 
-    /// Returns the number of nodes that a branch may have, likewise.
+    /// Returns the number of nodes that a branch may have: the limit that is set, but at most what can be represented.
     pub fn nodes_within(&self) -> usize
         ensures { result ≡ nodes_within self.now }
     {
         self.nodes.min(MOST_NODES)
     }
 
-    /// Returns the number of hops that a tree may have, likewise.
+    /// Returns the number of hops that a tree may have: the limit that is set, but at most what can be represented.
     pub fn hops_within(&self) -> usize
         ensures { result ≡ hops_within self.now }
     {
         self.hops.min(MOST_HOPS)
     }
 
-    /// Returns the number of streams that may be held at once, likewise.
+    /// Returns the number of streams that may be held at once: the limit that is set, but at most what can be
+    /// represented.
     pub fn streams_within(&self) -> usize
         ensures { result ≡ streams_within self.now }
     {
         self.streams.min(MOST_STREAMS)
     }
 
-    /// Returns the number of rows that a table may have, likewise.
+    /// Returns the number of rows that a table may have: the limit that is set, but at most what can be represented.
     pub fn rows_within(&self) -> u32
         ensures { result ≡ rows_within self.now }
     {

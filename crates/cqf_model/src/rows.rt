@@ -1,17 +1,17 @@
 //! What a row says about its stream: the cycles in which it is live and held, and its tree.
 ghost use Rattle.std.specs.Prelude.{◌≡◌, ◌<◌, ◌==◌, ◌&&◌, ◌+◌, nat_lt, IfOk};
 ghost use Rattle.std.specs.List.{list_any};
-ghost use Rattle.cqf_model.specs.Table.{crosses, goes_to, is_held, is_live, residence, same_way};
+ghost use Rattle.cqf_model.specs.Table.{crosses, goes_to, is_held, is_live, residence, same_ingress};
 
 use crate::{Hop, Row};
 use cqf_units::{Cycle, Memory};
 use std::alloc::Global;
 
-/// Returns whether two ways are the same: both from the edge, or both by the same link.
-fn is_same_way(from: Option<u16>, way: Option<u16>) -> bool
-    ensures { result ≡ same_way from way }
+/// Returns whether the two are the same link, or both are `None`, the edge.
+fn is_same_ingress(from: Option<u16>, ingress: Option<u16>) -> bool
+    ensures { result ≡ same_ingress from ingress }
 {
-    match (from, way) {
+    match (from, ingress) {
         (None, None) => true,
         (Some(link), Some(other)) => link == other,
         _ => false,
@@ -25,15 +25,14 @@ fn has_link(hops: &[Hop], link: u16) -> bool
     hops.iter().any(|hop| hop.link == link)
 }
 
-/// Returns whether one of the hops leads on by the link from this way.
-fn leads_on(hops: &[Hop], way: Option<u16>, link: u16) -> bool
-    ensures { result ≡ list_any (λ hop. same_way hop.from way && (hop.link == link)) hops.now }
+/// Returns whether one of the hops is by the link and follows the link `ingress`, or the edge if `ingress` is `None`.
+fn leads_on(hops: &[Hop], ingress: Option<u16>, link: u16) -> bool
+    ensures { result ≡ list_any (λ hop. same_ingress hop.from ingress && (hop.link == link)) hops.now }
 {
-    hops.iter()
-        .any(|hop| is_same_way(hop.from, way) && hop.link == link)
+    hops.iter().any(|hop| is_same_ingress(hop.from, ingress) && hop.link == link)
 }
 
-/// Returns whether a cycle is before the given number of cycles after an end.
+/// Returns whether a cycle is before the cycle that is `cycles` cycles after `end`.
 fn is_under_way(cycle: u32, end: u32, cycles: u8) -> bool
     ensures { result ≡ nat_lt cycle (end + cycles) }
 {
@@ -53,7 +52,7 @@ impl Row {
     }
 
     /// Returns whether the stream is held in the cycle, with its costs, gates and name: admitted and, if it was
-    /// withdrawn, not yet past the cycle in which its last frame leaves the last bridge of its deepest branch.
+    /// withdrawn, not yet past the cycle in which its last frame leaves the last bridge of its longest branch.
     pub fn is_held(&self, cycle: Cycle) -> bool
         ensures { result ≡ is_held self.now cycle.0 }
     {
@@ -70,7 +69,7 @@ impl Row {
     {
         let mut most = 0;
         for hop in self.tree.as_slice() {
-            most = most.max(hop.depth);
+            most = most.max(hop.hop_number);
         }
         most
     }
@@ -82,11 +81,12 @@ impl Row {
         has_link(self.tree.as_slice(), link)
     }
 
-    /// Returns whether a frame goes on by the link, from the edge, for which `way` is `None`, or from the link that it came by.
-    pub fn goes_on_by(&self, way: Option<u16>, link: u16) -> bool
-        ensures { result ≡ list_any (λ next. next == link) (goes_to self.now way) }
+    /// Returns whether a frame of the stream goes on by `link`. The frame came by the link `ingress`, or was offered at the edge
+    /// bridge if `ingress` is `None`.
+    pub fn goes_on_by(&self, ingress: Option<u16>, link: u16) -> bool
+        ensures { result ≡ list_any (λ next. next == link) (goes_to self.now ingress) }
     {
-        leads_on(self.tree.as_slice(), way, link)
+        leads_on(self.tree.as_slice(), ingress, link)
     }
 
     /// Returns a copy of the row, or `Memory` if an allocation fails.
@@ -97,6 +97,7 @@ impl Row {
             no: self.no,
             name: self.name.copied(),
             octets: self.octets,
+            overhead: self.overhead,
             pace: self.pace,
             tree: self.tree.try_copy(alloc)?,
             admitted: self.admitted,

@@ -22,14 +22,14 @@ pub struct Link {
     pub rate: Rate,
     /// The greatest delay of a frame, in nanoseconds: propagation and bridge processing together.
     pub delay: u32,
-    /// The least delay, at most the greatest.
+    /// The least delay of a frame, in nanoseconds, at most the greatest.
     pub least: u32,
     /// Its own guard band, in nanoseconds; `None` if it has the domain's.
     pub guard: Option<u32>,
 }
 
 impl Link {
-    /// Returns its guard band, given the domain's.
+    /// Returns the link's guard band, in nanoseconds: its own if it has one, otherwise the domain's, `guard`.
     pub fn guard_by(&self, guard: u32) -> u32
         ensures { result ≡ guard_by guard self.now }
     {
@@ -43,7 +43,7 @@ pub struct Hop {
     /// The link's number.
     pub link: u16,
     /// The hop number, from 1: the number of links from the stream's first bridge to the link's end.
-    pub depth: u8,
+    pub hop_number: u8,
     /// The link before it, by which frames arrive at the bridge that this one leaves; `None` for hop number 1.
     pub from: Option<u16>,
 }
@@ -66,8 +66,10 @@ pub struct Row {
     /// The stream's number, from 0, in the order of accepted admissions.
     pub no: u32,
     pub name: Name,
-    /// The reservation, in octets in each of the stream's own cycles.
+    /// The reservation, in octets in each of the stream's own cycles, as its gates count them.
     pub octets: u32,
+    /// How many octets of each frame the gates of its domain don't count. The stream's cost includes them.
+    pub overhead: u32,
     pub pace: Pace,
     /// The hops of its tree, in the order in which their links first occur in the branches.
     pub tree: Tree,

@@ -26,7 +26,7 @@ impl Model for Tree {
 }
 
 impl Tree {
-    /// Returns a tree of these hops, or `Memory` if an allocation fails.
+    /// Returns the tree with these hops, at most 200. Returns `Memory` if an allocation fails.
     pub fn new(alloc: Global, hops: &[Hop]) -> Result<Tree, Memory>
         requires { length hops.now ≤ most_hops }
         ensures { IfOk result (λ tree. tree.items ≡ hops.now) }

@@ -8,12 +8,12 @@ use Rattle.cqf_model.specs.declared.topology.Node.{Node}
 use Rattle.cqf_model.specs.declared.topology.Node.TheVariants.{Bridge, Station}
 use Rattle.cqf_model.specs.Domain.{node_or}
 use Rattle.cqf_topology.specs.declared.faults.DomainFault.TheVariants.{UnknownName}
-use Rattle.cqf_topology.specs.DomainText.{place_of, with_front}
+use Rattle.cqf_topology.specs.DomainText.{index_of, with_front}
 use Rattle.cqf_topology.specs.LinkTimes.{AreReadTimes}
-use Rattle.cqf_topology.proofs.Accepted.{place-within}
+use Rattle.cqf_topology.proofs.Accepted.{index-within}
 use Rattle.cqf_topology.proofs.Refusals.{and_then-Ok, ok_or-Ok}
 use Rattle.cqf_network.specs.declared.draft.NetworkLink.{NetworkLink}
-use Rattle.cqf_network.specs.declared.draft.OneWay.{OneWay}
+use Rattle.cqf_network.specs.declared.draft.OneDirection.{OneDirection}
 use Rattle.cqf_network.specs.declared.faults.NetworkFault.{NetworkFault}
 use Rattle.cqf_network.specs.declared.faults.NetworkFault.TheVariants.{Domain}
 use Rattle.cqf_network.specs.Edges.{Edge, back_of, edges_of, end_named, is_talkers, joined, joined_edge, may_lead, without_other}
@@ -22,13 +22,13 @@ use Rattle.cqf_network.specs.NetworkDomain.{EdgeInside, IsFrameSize, IsReadLink,
 -- a node that is found is one of the file
 named_inside : (bridges stations : List (List ℕ)) (name : List ℕ) (node : Node) → end_named bridges stations name ≡ Some node →
     NodeInside (length bridges) (length stations) node
-named_inside bridges stations name node e = by (place_of name bridges) (place_of name stations) refl refl e
+named_inside bridges stations name node e = by (index_of name bridges) (index_of name stations) refl refl e
   where
-    by : (b s : Option ℕ) → place_of name bridges ≡ b → place_of name stations ≡ s → node_or b s ≡ Some node → NodeInside (length bridges) (length stations) node
+    by : (b s : Option ℕ) → index_of name bridges ≡ b → index_of name stations ≡ s → node_or b s ≡ Some node → NodeInside (length bridges) (length stations) node
     by (Some b) s is_b is_s found =
-        let same : Bridge b ≡ node = cc in subst (NodeInside (length bridges) (length stations)) same (place-within name bridges b is_b)
+        let same : Bridge b ≡ node = cc in subst (NodeInside (length bridges) (length stations)) same (index-within name bridges b is_b)
     by None (Some s) is_b is_s found =
-        let same : Station s ≡ node = cc in subst (NodeInside (length bridges) (length stations)) same (place-within name stations s is_s)
+        let same : Station s ≡ node = cc in subst (NodeInside (length bridges) (length stations)) same (index-within name stations s is_s)
     by None None is_b is_s found = absurd cc
 
 -- what joining gives of an edge: its ends are there, it may lead from the one to the other, and its times and the size of frames beside
@@ -40,21 +40,21 @@ pub record IsJoinedEdge (bridges stations : ℕ) (edge : Edge) : Type 0 where
   pub other_is_read : ForSome edge.other IsFrameSize
 
 -- so is a link that is joined
-edge_joined : (bridges stations : List (List ℕ)) (element : ℕ) (other : Option ℕ) (way : OneWay) (edge : Edge) → AreReadTimes way.times →
-    ForSome other IsFrameSize → joined_edge bridges stations element other way ≡ Ok edge → IsJoinedEdge (length bridges) (length stations) edge
-edge_joined bridges stations element other way edge read size e =
-    let (from, from_is, rest) = and_then-Ok (ok_or (end_named bridges stations way.from) (Domain (UnknownName way.from))) _ edge e in
-    let (to, to_is, last) = and_then-Ok (ok_or (end_named bridges stations way.to) (Domain (UnknownName way.to))) _ edge rest in
+edge_joined : (bridges stations : List (List ℕ)) (element : ℕ) (other : Option ℕ) (path : OneDirection) (edge : Edge) → AreReadTimes path.times →
+    ForSome other IsFrameSize → joined_edge bridges stations element other path ≡ Ok edge → IsJoinedEdge (length bridges) (length stations) edge
+edge_joined bridges stations element other path edge read size e =
+    let (from, from_is, rest) = and_then-Ok (ok_or (end_named bridges stations path.from) (Domain (UnknownName path.from))) _ edge e in
+    let (to, to_is, last) = and_then-Ok (ok_or (end_named bridges stations path.to) (Domain (UnknownName path.to))) _ edge rest in
     by from to (may_lead from to) refl
-    (named_inside bridges stations way.from from (ok_or-Ok _ (Domain (UnknownName way.from)) from from_is))
-    (named_inside bridges stations way.to to (ok_or-Ok _ (Domain (UnknownName way.to)) to to_is)) last
+    (named_inside bridges stations path.from from (ok_or-Ok _ (Domain (UnknownName path.from)) from from_is))
+    (named_inside bridges stations path.to to (ok_or-Ok _ (Domain (UnknownName path.to)) to to_is)) last
   where
     by : (from to : Node) (may : Bool) → may_lead from to ≡ may → NodeInside (length bridges) (length stations) from →
         NodeInside (length bridges) (length stations) to →
-        cond may (Ok (record { from = from; to = to; times = way.times; other = other; element = element })) (Err (Domain (UnknownName way.to))) ≡ Ok edge →
+        cond may (Ok (record { from = from; to = to; times = path.times; other = other; element = element })) (Err (Domain (UnknownName path.to))) ≡ Ok edge →
         IsJoinedEdge (length bridges) (length stations) edge
     by from to true may from_in to_in found =
-        let made : Edge = record { from = from; to = to; times = way.times; other = other; element = element } in
+        let made : Edge = record { from = from; to = to; times = path.times; other = other; element = element } in
         let same : made ≡ edge = cc in
         subst (IsJoinedEdge (length bridges) (length stations)) same
         (record { inside = record { from_inside = from_in; to_inside = to_in }; may = may; times_are_read = read; other_is_read = size })

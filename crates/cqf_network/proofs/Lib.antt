@@ -1,6 +1,6 @@
 pub mod JoinLemmas
 pub mod PairLemmas
-pub mod PlaceLemmas
+pub mod IndexLemmas
 pub mod InsideLemmas
 pub mod CheckedLemmas
 pub mod ReadLemmas
@@ -10,7 +10,7 @@ pub mod StepLemmas
 pub mod OrderLemmas
 pub mod MarkLemmas
 pub mod LinkLemmas
-pub mod WayLemmas
+pub mod PathLemmas
 pub mod PartLemmas
 pub mod ShortLemmas
 pub mod ListenerLemmas

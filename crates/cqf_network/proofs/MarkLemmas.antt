@@ -9,7 +9,7 @@ use Rattle.cqf_model.specs.declared.topology.Node.{Node}
 use Rattle.cqf_model.specs.declared.topology.Node.TheVariants.{Bridge, Station}
 use Rattle.cqf_network.specs.Ends.{AreMarked, IsMarkedBy, is_marked, open_to}
 use Rattle.cqf_network.specs.Steps.{AreBefore, LeadsInto}
-use Rattle.cqf_network.specs.Ways.{led_by, led_to}
+use Rattle.cqf_network.specs.Paths.{led_by, led_to}
 
 -- a number that leads to a node is a link's number
 pub open_within : (links : List Link) (room : ℕ → Bool) (node end : Node) (l : ℕ) → open_to links room node l ≡ Some end → l < length links

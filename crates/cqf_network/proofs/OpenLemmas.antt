@@ -105,7 +105,7 @@ pairs_apart pairs none i j d before inside same =
       a = get_or pairs i d;
       b = get_or pairs j d;
       at_twin = slice_get-get_or pairs i d (omega (arith, before, inside));
-      at_place = slice_get-get_or pairs j d inside;
+      at_index = slice_get-get_or pairs j d inside;
       equal = same_pair_itself (get_or pairs i d) (get_or pairs j d) same;
     })
 
@@ -279,6 +279,7 @@ module _ (text : NetworkText) (edges : List Edge) (readable : IsReadableNetwork 
       cycle_most = open_to.in_range.most;
       guard_some = readable.guard_some;
       guard_short = omega (arith, open_to.above_guards, longest_others text.guard (map link_of (bridge_edges edges)));
+      overhead_short = readable.overhead_most;
       some_bridge = readable.some_bridge;
       few_bridges = passed.few_bridges;
       few_stations = passed.few_stations;
@@ -346,11 +347,11 @@ module _ (text : NetworkText) (edges : List Edge) (readable : IsReadableNetwork 
   }
 
 -- domains of equal parts are equal
-pub same_domain : (limits limits' : Limits) (candidates candidates' : List ℕ) (guard guard' sync sync' : ℕ) (bridges bridges' stations stations' : List (List ℕ)) (links links' : List Link)
-    (talkers talkers' : List TalkerLink) → limits ≡ limits' → candidates ≡ candidates' → guard ≡ guard' → sync ≡ sync' → bridges ≡ bridges' → stations ≡ stations' → links ≡ links' →
+pub same_domain : (limits limits' : Limits) (candidates candidates' : List ℕ) (guard guard' sync sync' overhead overhead' : ℕ) (bridges bridges' stations stations' : List (List ℕ)) (links links' : List Link)
+    (talkers talkers' : List TalkerLink) → limits ≡ limits' → candidates ≡ candidates' → guard ≡ guard' → sync ≡ sync' → overhead ≡ overhead' → bridges ≡ bridges' → stations ≡ stations' → links ≡ links' →
     talkers ≡ talkers'
     → ◌≡◌ {A = NetworkDomain}
-    (record { limits = limits; candidates = candidates; guard = guard; sync = sync; bridges = bridges; stations = stations; links = links; talkers = talkers })
-    (record { limits = limits'; candidates = candidates'; guard = guard'; sync = sync'; bridges = bridges'; stations = stations'; links = links'; talkers = talkers' })
-same_domain limits limits' candidates candidates' guard guard' sync sync' bridges bridges' stations stations' links links' talkers talkers' m c g a b s l t =
-    λ i. record { limits = m i; candidates = c i; guard = g i; sync = a i; bridges = b i; stations = s i; links = l i; talkers = t i }
+    (record { limits = limits; candidates = candidates; guard = guard; sync = sync; overhead = overhead; bridges = bridges; stations = stations; links = links; talkers = talkers })
+    (record { limits = limits'; candidates = candidates'; guard = guard'; sync = sync'; overhead = overhead'; bridges = bridges'; stations = stations'; links = links'; talkers = talkers' })
+same_domain limits limits' candidates candidates' guard guard' sync sync' overhead overhead' bridges bridges' stations stations' links links' talkers talkers' m c g a o b s l t =
+    λ i. record { limits = m i; candidates = c i; guard = g i; sync = a i; overhead = o i; bridges = b i; stations = s i; links = l i; talkers = t i }

@@ -26,15 +26,15 @@ before_higher : (x y : ℕ) (xs ys : List ℕ) → y < x → is_before (x ∷ xs
 before_higher x y xs ys l = grind (arith, nat_tests)
 
 -- a path that doesn't come before another of its length is the same, or comes after it
-pub same_or_behind : (xs ys : List ℕ) → length xs ≡ length ys → is_before xs ys ≡ false → (xs ≡ ys) ⊎ (is_before ys xs ≡ true)
-same_or_behind [] [] e b = inl refl
-same_or_behind [] (y ∷ ys) e b = absurd (omega (arith, e))
-same_or_behind (x ∷ xs) [] e b = absurd (omega (arith, e))
-same_or_behind (x ∷ xs) (y ∷ ys) e b = elim (compared x y) [
+pub same_or_after : (xs ys : List ℕ) → length xs ≡ length ys → is_before xs ys ≡ false → (xs ≡ ys) ⊎ (is_before ys xs ≡ true)
+same_or_after [] [] e b = inl refl
+same_or_after [] (y ∷ ys) e b = absurd (omega (arith, e))
+same_or_after (x ∷ xs) [] e b = absurd (omega (arith, e))
+same_or_after (x ∷ xs) (y ∷ ys) e b = elim (compared x y) [
   | inl same ↦ subst (λ (z : ℕ). (x ∷ xs ≡ z ∷ ys) ⊎ (is_before (z ∷ ys) (x ∷ xs) ≡ true)) same
-      (elim (same_or_behind xs ys (shorter x y xs ys e) (sym (before_same x xs ys) ∙ ap (λ z. is_before (x ∷ xs) (z ∷ ys)) same ∙ b)) [
+      (elim (same_or_after xs ys (shorter x y xs ys e) (sym (before_same x xs ys) ∙ ap (λ z. is_before (x ∷ xs) (z ∷ ys)) same ∙ b)) [
         | inl all ↦ inl (ap (λ zs. x ∷ zs) all)
-        | inr behind ↦ inr (before_same x ys xs ∙ behind)
+        | inr following ↦ inr (before_same x ys xs ∙ following)
       ])
   | inr apart ↦ elim apart [
     | inl lower ↦ absurd (let t = before_lower x y xs ys lower in cc)
@@ -71,9 +71,9 @@ before_stays (x ∷ xs) (y ∷ ys) more rest e b = elim (compared x y) [
 ]
 
 -- after a common beginning, what follows decides
-pub before_behind : (front xs ys : List ℕ) → is_before (front ++ xs) (front ++ ys) ≡ is_before xs ys
-before_behind [] xs ys = refl
-before_behind (f ∷ front) xs ys = before_same f (front ++ xs) (front ++ ys) ∙ before_behind front xs ys
+pub before_after : (front xs ys : List ℕ) → is_before (front ++ xs) (front ++ ys) ≡ is_before xs ys
+before_after [] xs ys = refl
+before_after (f ∷ front) xs ys = before_same f (front ++ xs) (front ++ ys) ∙ before_after front xs ys
 
 -- none comes before itself
 pub not_before_itself : (xs : List ℕ) → is_before xs xs ≡ false

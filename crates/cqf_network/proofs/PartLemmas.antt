@@ -12,9 +12,9 @@ use Rattle.cqf_model.specs.declared.topology.Link.{Link}
 use Rattle.cqf_model.specs.declared.topology.Node.{Node}
 use Rattle.cqf_model.specs.declared.topology.Node.TheVariants.{Station}
 use Rattle.cqf_network.specs.Steps.{is_before, led_along}
-use Rattle.cqf_network.specs.Ways.{IsFirstWay, IsWay, led_by, led_to}
-use Rattle.cqf_network.specs.WayLaws.{EndsOnce, PartForGood, ends_along}
-use Rattle.cqf_network.proofs.OrderLemmas.{before_stays, same_or_behind}
+use Rattle.cqf_network.specs.Paths.{IsFirstPath, IsPath, led_by, led_to}
+use Rattle.cqf_network.specs.PathLaws.{EndsOnce, PartForGood, ends_along}
+use Rattle.cqf_network.proofs.OrderLemmas.{before_stays, same_or_after}
 use Rattle.cqf_network.proofs.StepLemmas.{along-append, along-push}
 
 -- the parts of a test that holds
@@ -38,20 +38,20 @@ leads_through links from mid to front back to_mid to_end =
     along-append (led_to links) from front back ∙ ap (λ (o : Option Node). option_and_then (λ n. led_along (led_to links) n back) o) to_mid ∙ to_end
 
 -- two first paths are the same
-pub first_is_one : (links : List Link) (room : ℕ → Bool) (from to : Node) (way other : List ℕ) → IsFirstWay links room from to way →
-    IsFirstWay links room from to other → way ≡ other
-first_is_one links room from to way other first also =
-    let as_long : length way ≡ length other = omega (arith, first.shortest other also.is_way, also.shortest way first.is_way) in
-    elim (same_or_behind way other as_long (also.least way first.is_way as_long)) [
+pub first_is_one : (links : List Link) (room : ℕ → Bool) (from to : Node) (path other : List ℕ) → IsFirstPath links room from to path →
+    IsFirstPath links room from to other → path ≡ other
+first_is_one links room from to path other first also =
+    let as_long : length path ≡ length other = omega (arith, first.shortest other also.is_path, also.shortest path first.is_path) in
+    elim (same_or_after path other as_long (also.least path first.is_path as_long)) [
       | inl same ↦ same
-      | inr before ↦ absurd (let not_before = first.least other also.is_way (sym as_long) in cc)
+      | inr before ↦ absurd (let not_before = first.least other also.is_path (sym as_long) in cc)
     ]
 
 -- the beginning of a first path is the first path to the node where it leads
-pub first_begins : (links : List Link) (room : ℕ → Bool) (from mid to : Node) (front back : List ℕ) → IsFirstWay links room from to (front ++ back) →
-    led_along (led_to links) from front ≡ Some mid → IsFirstWay links room from mid front
+pub first_begins : (links : List Link) (room : ℕ → Bool) (from mid to : Node) (front back : List ℕ) → IsFirstPath links room from to (front ++ back) →
+    led_along (led_to links) from front ≡ Some mid → IsFirstPath links room from mid front
 first_begins links room from mid to front back first to_mid = record {
-  is_way = record { leads = to_mid; roomy = roomy.0; few = omega (arith, first.is_way.few, length-append front back) };
+  is_path = record { leads = to_mid; roomy = roomy.0; few = omega (arith, first.is_path.few, length-append front back) };
   shortest = λ other is. elim (cases_lt (length other) (length front)) [
     | inl shorter ↦ absurd (omega (
       arith,
@@ -72,40 +72,40 @@ first_begins links room from mid to front back first to_mid = record {
 }
   where
     roomy : (list_all room front ≡ true) × (list_all room back ≡ true)
-    roomy = both_true (list_all room front) (list_all room back) (sym (list_all-append room front back) ∙ first.is_way.roomy)
+    roomy = both_true (list_all room front) (list_all room back) (sym (list_all-append room front back) ∙ first.is_path.roomy)
 
     -- another path to that node that is no longer, followed by the rest
-    through : (other : List ℕ) → IsWay links room from mid other → length other ≤ length front → IsWay links room from to (other ++ back)
+    through : (other : List ℕ) → IsPath links room from mid other → length other ≤ length front → IsPath links room from to (other ++ back)
     through other is short = record {
-      leads = leads_through links from mid to other back is.leads (leads_on links from mid to front back to_mid first.is_way.leads);
+      leads = leads_through links from mid to other back is.leads (leads_on links from mid to front back to_mid first.is_path.leads);
       roomy = list_all-append room other back ∙ true_both (list_all room other) (list_all room back) is.roomy roomy.1;
-      few = omega (arith, short, first.is_way.few, length-append front back, length-append other back);
+      few = omega (arith, short, first.is_path.few, length-append front back, length-append other back);
     }
 
 -- a node in which a link of a path ends: some of its links lead there
-pub record Reached (links : List Link) (from : Node) (way : List ℕ) (end : Node) : Type 0 where
+pub record Reached (links : List Link) (from : Node) (path : List ℕ) (end : Node) : Type 0 where
   pub first : ℕ
   pub front : List ℕ
   pub back : List ℕ
-  pub is : way ≡ (first ∷ front) ++ back
+  pub is : path ≡ (first ∷ front) ++ back
   pub leads : led_along (led_to links) from (first ∷ front) ≡ Some end
 
-pub reached : (links : List Link) (from : Node) (way : List ℕ) (end : Node) → Contains (ends_along links from way) end → Reached links from way end
+pub reached : (links : List Link) (from : Node) (path : List ℕ) (end : Node) → Contains (ends_along links from path) end → Reached links from path end
 reached links from [] end c = absurd (contains_none end c)
-reached links from (l ∷ way) end c = by_step (λ node inside. reached links node way end inside) (led_to links from l) refl c
+reached links from (l ∷ path) end c = by_step (λ node inside. reached links node path end inside) (led_to links from l) refl c
   where
-    by_step : ((node : Node) → Contains (ends_along links node way) end → Reached links node way end) → (o : Option Node) → led_to links from l ≡ o →
-        Contains (option_map_or (λ node. node ∷ ends_along links node way) o []) end → Reached links from (l ∷ way) end
+    by_step : ((node : Node) → Contains (ends_along links node path) end → Reached links node path end) → (o : Option Node) → led_to links from l ≡ o →
+        Contains (option_map_or (λ node. node ∷ ends_along links node path) o []) end → Reached links from (l ∷ path) end
     by_step later None e inside = absurd (contains_none end inside)
-    by_step later (Some node) e inside = elim (contains_cases node (ends_along links node way) end inside) [
+    by_step later (Some node) e inside = elim (contains_cases node (ends_along links node path) end inside) [
       | inl here ↦ record {
         first = l;
         front = [];
-        back = way;
+        back = path;
         is = refl;
         leads = ap (λ (o : Option Node). option_and_then (λ n. Some n) o) e ∙ ap (λ (n : Node). Some n) here;
       }
-      | inr behind ↦ (let more = later node behind in record {
+      | inr following ↦ (let more = later node following in record {
         first = l;
         front = more.first ∷ more.front;
         back = more.back;
@@ -138,10 +138,10 @@ none_from_station links station l =
     elim (slice_get links l) as (λ o. option_and_then (led_by (Station station)) o ≡ None) [ None ↦ refl | Some link ↦ refl ]
 
 -- so a path from there ends there
-from_station : (links : List Link) (station : ℕ) (to : Node) (way : List ℕ) → led_along (led_to links) (Station station) way ≡ Some to → to ≡ Station station
+from_station : (links : List Link) (station : ℕ) (to : Node) (path : List ℕ) → led_along (led_to links) (Station station) path ≡ Some to → to ≡ Station station
 from_station links station to [] e = let same : Some (Station station) ≡ Some to = e in cc
-from_station links station to (l ∷ way) e =
-    absurd (let none = ap (option_and_then (λ end. led_along (led_to links) end way)) (none_from_station links station l) in cc)
+from_station links station to (l ∷ path) e =
+    absurd (let none = ap (option_and_then (λ end. led_along (led_to links) end path)) (none_from_station links station l) in cc)
 
 -- equal lists with a common beginning go on alike
 next_same : (common : List ℕ) (x y : ℕ) (xs ys : List ℕ) → common ++ (x ∷ xs) ≡ common ++ (y ∷ ys) → x ≡ y
@@ -150,40 +150,40 @@ next_same (c ∷ common) x y xs ys e = next_same common x y xs ys (let rest : co
 
 -- if a first path continues from a node to an end, the links up to there are the first path to that end
 record Up (links : List Link) (room : ℕ → Bool) (from end : Node) (common : List ℕ) (x : ℕ) : Type 0 where
-  behind : List ℕ
-  first : IsFirstWay links room from end (common ++ (x ∷ behind))
+  following : List ℕ
+  first : IsFirstPath links room from end (common ++ (x ∷ following))
 
-up_to : (links : List Link) (room : ℕ → Bool) (from node to end : Node) (common : List ℕ) (x : ℕ) (rest : List ℕ) → IsFirstWay links room from to (common ++ (x ∷ rest)) →
+up_to : (links : List Link) (room : ℕ → Bool) (from node to end : Node) (common : List ℕ) (x : ℕ) (rest : List ℕ) → IsFirstPath links room from to (common ++ (x ∷ rest)) →
     led_along (led_to links) from common ≡ Some node → Contains (ends_along links node (x ∷ rest)) end → Up links room from end common x
 up_to links room from node to end common x rest first to_node c =
     let r = reached links node (x ∷ rest) end c in
     let is = r.is in
     let same : r.first ≡ x = cc in
     let whole : common ++ (x ∷ rest) ≡ (common ++ (r.first ∷ r.front)) ++ r.back = ap (λ ws. common ++ ws) is ∙ sym (append_assoc common (r.first ∷ r.front) r.back) in
-    let begins : IsFirstWay links room from end (common ++ (r.first ∷ r.front)) =
-    first_begins links room from end to (common ++ (r.first ∷ r.front)) r.back (subst (λ (ws : List ℕ). IsFirstWay links room from to ws) whole first)
+    let begins : IsFirstPath links room from end (common ++ (r.first ∷ r.front)) =
+    first_begins links room from end to (common ++ (r.first ∷ r.front)) r.back (subst (λ (ws : List ℕ). IsFirstPath links room from to ws) whole first)
     (leads_through links from node end common (r.first ∷ r.front) to_node r.leads) in
-    record { behind = r.front; first = subst (λ (l : ℕ). IsFirstWay links room from end (common ++ (l ∷ r.front))) same begins }
+    record { following = r.front; first = subst (λ (l : ℕ). IsFirstPath links room from end (common ++ (l ∷ r.front))) same begins }
 
 -- if two first paths continue by different links, no node is an end in both afterwards
-apart_behind : (links : List Link) (room : ℕ → Bool) (from node to there : Node) (common : List ℕ) (x y : ℕ) (rest more : List ℕ) → x ≢ y →
-    IsFirstWay links room from to (common ++ (x ∷ rest)) → IsFirstWay links room from there (common ++ (y ∷ more)) →
+apart_after : (links : List Link) (room : ℕ → Bool) (from node to there : Node) (common : List ℕ) (x y : ℕ) (rest more : List ℕ) → x ≢ y →
+    IsFirstPath links room from to (common ++ (x ∷ rest)) → IsFirstPath links room from there (common ++ (y ∷ more)) →
     led_along (led_to links) from common ≡ Some node → (end : Node) → Contains (ends_along links node (x ∷ rest)) end → ¬ Contains (ends_along links node (y ∷ more)) end
-apart_behind links room from node to there common x y rest more differ first also to_node end one other =
+apart_after links room from node to there common x y rest more differ first also to_node end one other =
     let a = up_to links room from node to end common x rest first to_node one in
     let b = up_to links room from node there end common y more also to_node other in
-    differ (next_same common x y a.behind b.behind (first_is_one links room from end (common ++ (x ∷ a.behind)) (common ++ (y ∷ b.behind)) a.first b.first))
+    differ (next_same common x y a.following b.following (first_is_one links room from end (common ++ (x ∷ a.following)) (common ++ (y ∷ b.following)) a.first b.first))
 
 -- two first paths to two different stations part for good
-pub first_ways_part : (links : List Link) (room : ℕ → Bool) (from : Node) (station there : ℕ) (way other : List ℕ) → station ≢ there →
-    IsFirstWay links room from (Station station) way → IsFirstWay links room from (Station there) other → PartForGood links from way other
-first_ways_part links room from station there way other differ first also = elim (beginning way other) [
+pub first_paths_part : (links : List Link) (room : ℕ → Bool) (from : Node) (station there : ℕ) (path other : List ℕ) → station ≢ there →
+    IsFirstPath links room from (Station station) path → IsFirstPath links room from (Station there) other → PartForGood links from path other
+first_paths_part links room from station there path other differ first also = elim (beginning path other) [
   | Parts common x y rest more is other_is apart ↦ (
-      let one : IsFirstWay links room from (Station station) (common ++ (x ∷ rest)) = subst (λ (ws : List ℕ). IsFirstWay links room from (Station station) ws) is first in
-      let two : IsFirstWay links room from (Station there) (common ++ (y ∷ more)) =
-      subst (λ (ws : List ℕ). IsFirstWay links room from (Station there) ws) other_is also in
+      let one : IsFirstPath links room from (Station station) (common ++ (x ∷ rest)) = subst (λ (ws : List ℕ). IsFirstPath links room from (Station station) ws) is first in
+      let two : IsFirstPath links room from (Station there) (common ++ (y ∷ more)) =
+      subst (λ (ws : List ℕ). IsFirstPath links room from (Station there) ws) other_is also in
       option_and_then_some (λ end. led_along (led_to links) end (x ∷ rest)) (led_along (led_to links) from common) (Station station)
-      (sym (along-append (led_to links) from common (x ∷ rest)) ∙ one.is_way.leads)
+      (sym (along-append (led_to links) from common (x ∷ rest)) ∙ one.is_path.leads)
       (λ node to_node on.
       record {
         common = common;
@@ -192,18 +192,18 @@ first_ways_part links room from station there way other differ first also = elim
         second = y;
         rest = rest;
         more = more;
-        way_is = is;
+        path_is = is;
         other_is = other_is;
         to_node = to_node;
         differ = apart;
-        apart = apart_behind links room from node (Station station) (Station there) common x y rest more apart one two to_node;
+        apart = apart_after links room from node (Station station) (Station there) common x y rest more apart one two to_node;
       }))
   | Begins rest is ↦ absurd (differ (one_station station there
-      (from_station links station (Station there) rest (leads_on links from (Station station) (Station there) way rest first.is_way.leads
-      (sym (ap (led_along (led_to links) from) is) ∙ also.is_way.leads)))))
+      (from_station links station (Station there) rest (leads_on links from (Station station) (Station there) path rest first.is_path.leads
+      (sym (ap (led_along (led_to links) from) is) ∙ also.is_path.leads)))))
   | IsBegun rest is ↦ absurd (differ (sym (one_station there station
-      (from_station links there (Station station) rest (leads_on links from (Station there) (Station station) other rest also.is_way.leads
-      (sym (ap (led_along (led_to links) from) is) ∙ first.is_way.leads))))))
+      (from_station links there (Station station) rest (leads_on links from (Station there) (Station station) other rest also.is_path.leads
+      (sym (ap (led_along (led_to links) from) is) ∙ first.is_path.leads))))))
 ]
   where
     one_station : (a b : ℕ) → Station b ≡ Station a → a ≡ b
@@ -212,33 +212,33 @@ first_ways_part links room from station there way other differ first also = elim
 -- no first path has a loop
 goes_round : (links : List Link) (room : ℕ → Bool) (from mid to : Node) (front : List ℕ) (first : ℕ) (loop back : List ℕ) →
     led_along (led_to links) from front ≡ Some mid → led_along (led_to links) mid (first ∷ loop) ≡ Some mid →
-    ¬ IsFirstWay links room from to (front ++ ((first ∷ loop) ++ back))
+    ¬ IsFirstPath links room from to (front ++ ((first ∷ loop) ++ back))
 goes_round links room from mid to front first loop back to_mid round is =
     let on : led_along (led_to links) mid back ≡ Some to =
-    leads_on links mid mid to (first ∷ loop) back round (leads_on links from mid to front ((first ∷ loop) ++ back) to_mid is.is_way.leads) in
+    leads_on links mid mid to (first ∷ loop) back round (leads_on links from mid to front ((first ∷ loop) ++ back) to_mid is.is_path.leads) in
     let parts = both_true (list_all room front) (list_all room ((first ∷ loop) ++ back))
-    (sym (list_all-append room front ((first ∷ loop) ++ back)) ∙ is.is_way.roomy) in
+    (sym (list_all-append room front ((first ∷ loop) ++ back)) ∙ is.is_path.roomy) in
     let roomy = both_true (list_all room (first ∷ loop)) (list_all room back) (sym (list_all-append room (first ∷ loop) back) ∙ parts.1) in
     let long : length (front ++ ((first ∷ loop) ++ back)) ≡ length front + (1 + length loop + length back) =
     omega (arith, length-append front ((first ∷ loop) ++ back), length-append (first ∷ loop) back) in
     let short : length (front ++ back) ≡ length front + length back = length-append front back in
-    let shortcut : IsWay links room from to (front ++ back) = record {
+    let shortcut : IsPath links room from to (front ++ back) = record {
       leads = leads_through links from mid to front back to_mid on;
       roomy = list_all-append room front back ∙ true_both (list_all room front) (list_all room back) parts.0 roomy.1;
-      few = omega (arith, long, short, is.is_way.few);
+      few = omega (arith, long, short, is.is_path.few);
     } in
     omega (arith, long, short, is.shortest (front ++ back) shortcut)
 
 -- no node occurs twice on a first path
-pub ends_once : (links : List Link) (room : ℕ → Bool) (from to : Node) (way : List ℕ) → IsFirstWay links room from to way → EndsOnce links from way
-ends_once links room from to way first = record {
+pub ends_once : (links : List Link) (room : ℕ → Bool) (from to : Node) (path : List ℕ) → IsFirstPath links room from to path → EndsOnce links from path
+ends_once links room from to path first = record {
   not_again = λ c.
-      let r = reached links from way from c in
-      goes_round links room from from to [] r.first r.front r.back refl r.leads (subst (λ (ws : List ℕ). IsFirstWay links room from to ws) r.is first);
+      let r = reached links from path from c in
+      goes_round links room from from to [] r.first r.front r.back refl r.leads (subst (λ (ws : List ℕ). IsFirstPath links room from to ws) r.is first);
   once = λ front l rest node end is to_node by_link c.
       let r = reached links end rest end c in
-      let whole : way ≡ (front ++ l ∷ []) ++ ((r.first ∷ r.front) ++ r.back) =
+      let whole : path ≡ (front ++ l ∷ []) ++ ((r.first ∷ r.front) ++ r.back) =
       is ∙ ap (λ ws. front ++ (l ∷ ws)) r.is ∙ sym (append_assoc front (l ∷ []) ((r.first ∷ r.front) ++ r.back)) in
       goes_round links room from end to (front ++ l ∷ []) r.first r.front r.back (along-push (led_to links) from node end front l to_node by_link) r.leads
-      (subst (λ (ws : List ℕ). IsFirstWay links room from to ws) whole first);
+      (subst (λ (ws : List ℕ). IsFirstPath links room from to ws) whole first);
 }

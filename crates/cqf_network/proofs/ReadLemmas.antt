@@ -15,17 +15,17 @@ use Rattle.cqf_topology.specs.declared.keys.Key.TheVariants.{Cycle, Guard, Bridg
 use Rattle.cqf_topology.specs.declared.toml_faults.TomlFault.{TomlFault}
 use Rattle.cqf_topology.specs.declared.toml_faults.TomlFault.TheVariants.{BadValue}
 use Rattle.cqf_topology.specs.Fields.{are_tables, name_from, names_at, number_from, read_at, value_at, whole_document, within_range}
-use Rattle.cqf_topology.specs.DomainText.{domain_keys, if_some, link_keys, sync_from}
+use Rattle.cqf_topology.specs.DomainText.{domain_keys, if_some, link_keys, overhead_from, sync_from}
 use Rattle.cqf_topology.specs.LinkTimes.{AreReadTimes, times_read}
-use Rattle.cqf_topology.proofs.Ordered.{sync-range, times-read}
+use Rattle.cqf_topology.proofs.Ordered.{overhead-range, sync-range, times-read}
 use Rattle.cqf_topology.proofs.Refusals.{and_then-Ok, and_then-Some, each_from-All, if_some-Ok, names-named, number-range, ok_or-Ok, within_range-Some}
 use Rattle.cqf_network.specs.declared.draft.NetworkLink.{NetworkLink}
-use Rattle.cqf_network.specs.declared.draft.OneWay.{OneWay}
+use Rattle.cqf_network.specs.declared.draft.OneDirection.{OneDirection}
 use Rattle.cqf_network.specs.Faults.{or_network, network_fault}
 use Rattle.cqf_network.specs.declared.faults.NetworkFault.TheVariants.{BadOther}
 use Rattle.cqf_network.specs.NetworkDomain.{AreCandidates, IsCycleTime, IsFrameSize, IsReadLink, IsReadableNetwork}
 use Rattle.cqf_network.specs.NetworkText.{NetworkText, candidates_by, candidates_of, candidates_read, cycle_from, cycles_from, duplex_at, link_read, links_from}
-use Rattle.cqf_network.specs.NetworkText.{links_of_array, links_read, one_from, one_of_text, one_way_read, other_at, other_by, draft_from, network_keys}
+use Rattle.cqf_network.specs.NetworkText.{links_of_array, links_read, one_from, one_of_text, one_direction_read, other_at, other_by, draft_from, network_keys}
 use Rattle.cqf_network.specs.NetworkText.{draft_of_text, network_with_cycles, some_few}
 
 -- if reading as a network file succeeds, so did reading
@@ -85,14 +85,14 @@ candidates_range None table found are h = table_range (value_at Cycle table) fou
 candidates_range (Some cycles) table found are h = let same : cycles ≡ found = cc in subst AreCandidates same are
 
 -- the times of a link
-way_range : (table : Members) (way : OneWay) → one_way_read table ≡ Ok way → AreReadTimes way.times
-way_range table way h =
-    let (from, from_is, h1) = and_then-Ok (read_at From name_from table) _ way h in
-    let (to, to_is, h2) = and_then-Ok (read_at To name_from table) _ way h1 in
-    let (times, times_are, h3) = and_then-Ok (times_read table) _ way h2 in
-    let made : OneWay = record { from = from; to = to; times = times } in
-    let same : made ≡ way = cc in
-    subst (λ (w : OneWay). AreReadTimes w.times) same (times-read table times times_are)
+path_range : (table : Members) (path : OneDirection) → one_direction_read table ≡ Ok path → AreReadTimes path.times
+path_range table path h =
+    let (from, from_is, h1) = and_then-Ok (read_at From name_from table) _ path h in
+    let (to, to_is, h2) = and_then-Ok (read_at To name_from table) _ path h1 in
+    let (times, times_are, h3) = and_then-Ok (times_read table) _ path h2 in
+    let made : OneDirection = record { from = from; to = to; times = times } in
+    let same : made ≡ path = cc in
+    subst (λ (w : OneDirection). AreReadTimes w.times) same (times-read table times times_are)
 
 -- what its station may send beside streams
 other_range : (o : Option Data) (found : Option ℕ) → other_by o ≡ Ok found → ForSome found IsFrameSize
@@ -106,13 +106,13 @@ other_range (Some d) found h octets said =
 
 link_range : (table : Members) (link : NetworkLink) → link_read table ≡ Ok link → IsReadLink link
 link_range table link h =
-    let (there, there_is, h1) = and_then-Ok (or_network (one_way_read table)) _ link h in
+    let (there, there_is, h1) = and_then-Ok (or_network (one_direction_read table)) _ link h in
     let (duplex, duplex_is, h2) = and_then-Ok (duplex_at table) _ link h1 in
     let (other, other_is, h3) = and_then-Ok (other_at table) _ link h2 in
     let made : NetworkLink = record { there = there; duplex = duplex; other = other } in
     let same : made ≡ link = cc in
     subst IsReadLink same (record {
-      times_are_read = way_range table there (or_network_read (one_way_read table) there there_is);
+      times_are_read = path_range table there (or_network_read (one_direction_read table) there there_is);
       other_is_read = other_range (get_member (codes "other") table) other other_is;
     })
 
@@ -139,17 +139,20 @@ cycles_readable : (limits : Limits) (table : Members) (candidates : List ℕ) (t
 cycles_readable limits table candidates text are h =
     let (guard, guard_is, h2) = and_then-Ok (or_network (read_at Guard (number_from 1 10000000) table)) _ text h in
     let (sync, sync_is, h3) = and_then-Ok (or_network (sync_from table)) _ text h2 in
-    let (bridges, bridges_are, h4) = and_then-Ok (or_network (and_then (names_at Bridges table) (if_some Bridges))) _ text h3 in
-    let (stations, stations_are, h5) = and_then-Ok (or_network (names_at Stations table)) _ text h4 in
-    let (links, links_are, h6) = and_then-Ok (links_read table) _ text h5 in
+    let (overhead, overhead_is, h4) = and_then-Ok (or_network (overhead_from table)) _ text h3 in
+    let (bridges, bridges_are, h5) = and_then-Ok (or_network (and_then (names_at Bridges table) (if_some Bridges))) _ text h4 in
+    let (stations, stations_are, h6) = and_then-Ok (or_network (names_at Stations table)) _ text h5 in
+    let (links, links_are, h7) = and_then-Ok (links_read table) _ text h6 in
     let (names, named, some) = and_then-Ok (names_at Bridges table) (if_some Bridges) bridges (or_network_read _ bridges bridges_are) in
     let some_is = if_some-Ok Bridges names bridges some in
-    let made : NetworkText = record { limits = limits; candidates = candidates; guard = guard; sync = sync; bridges = bridges; stations = stations; links = links } in
+    let made : NetworkText =
+    record { limits = limits; candidates = candidates; guard = guard; sync = sync; overhead = overhead; bridges = bridges; stations = stations; links = links } in
     let same : made ≡ text = cc in
     subst IsReadableNetwork same (record {
       are_candidates = are;
       guard_some = (number-range Guard 1 10000000 table guard (or_network_read _ guard guard_is)).0;
       sync_most = sync-range table sync (or_network_read _ sync sync_is);
+      overhead_most = overhead-range table overhead (or_network_read _ overhead overhead_is);
       some_bridge = some_is.1;
       bridges_named = subst (All (λ name. IsTrue (is_name name))) some_is.0 (names-named Bridges table names named);
       stations_named = names-named Stations table stations (or_network_read _ stations stations_are);
@@ -161,10 +164,12 @@ cycles_limits : (limits : Limits) (table : Members) (candidates : List ℕ) (tex
 cycles_limits limits table candidates text h =
     let (guard, guard_is, h2) = and_then-Ok (or_network (read_at Guard (number_from 1 10000000) table)) _ text h in
     let (sync, sync_is, h3) = and_then-Ok (or_network (sync_from table)) _ text h2 in
-    let (bridges, bridges_are, h4) = and_then-Ok (or_network (and_then (names_at Bridges table) (if_some Bridges))) _ text h3 in
-    let (stations, stations_are, h5) = and_then-Ok (or_network (names_at Stations table)) _ text h4 in
-    let (links, links_are, h6) = and_then-Ok (links_read table) _ text h5 in
-    let made : NetworkText = record { limits = limits; candidates = candidates; guard = guard; sync = sync; bridges = bridges; stations = stations; links = links } in
+    let (overhead, overhead_is, h4) = and_then-Ok (or_network (overhead_from table)) _ text h3 in
+    let (bridges, bridges_are, h5) = and_then-Ok (or_network (and_then (names_at Bridges table) (if_some Bridges))) _ text h4 in
+    let (stations, stations_are, h6) = and_then-Ok (or_network (names_at Stations table)) _ text h5 in
+    let (links, links_are, h7) = and_then-Ok (links_read table) _ text h6 in
+    let made : NetworkText =
+    record { limits = limits; candidates = candidates; guard = guard; sync = sync; overhead = overhead; bridges = bridges; stations = stations; links = links } in
     let same : made ≡ text = cc in ap (λ (t : NetworkText). t.limits) (sym same)
 
 -- within which limits a text is read

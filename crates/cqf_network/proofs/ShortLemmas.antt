@@ -10,7 +10,7 @@ use Rattle.cqf_lists.proofs.Members.{contains_here, contains_later, find_some}
 use Rattle.cqf_model.specs.declared.topology.Link.{Link}
 use Rattle.cqf_model.specs.declared.topology.Node.{Node}
 use Rattle.cqf_network.specs.Steps.{led_along}
-use Rattle.cqf_network.specs.Ways.{IsFirstWay, IsWay, NoWay, has_room, led_by, led_to, short_link}
+use Rattle.cqf_network.specs.Paths.{IsFirstPath, IsPath, NoWay, has_room, led_by, led_to, short_link}
 
 -- if not all elements pass a test, one fails it
 record Fails (test : ℕ → Bool) (xs : List ℕ) : Type 0 where
@@ -27,11 +27,11 @@ one_fails test (x ∷ xs) e = elim (cases_Bool (test x)) [
 ]
 
 -- if a path isn't one with room, some link of it is short
-pub some_short : (links : List Link) (left : List ℕ) (cost : ℕ) (from to : Node) (way : List ℕ) → NoWay links (has_room left cost) from to →
-    IsWay links (λ l. true) from to way → (l : ℕ) × (short_link left cost way ≡ Some l)
-some_short links left cost from to way none is = elim (cases_Bool (list_all (has_room left cost) way)) [
-  | inl roomy ↦ absurd (none way (record { leads = is.leads; roomy = roomy; few = is.few }))
-  | inr short ↦ (let f = one_fails (has_room left cost) way short in find_some (λ l. not (has_room left cost l)) way f.one f.within (ap not f.fails))
+pub some_short : (links : List Link) (left : List ℕ) (cost : ℕ) (from to : Node) (path : List ℕ) → NoWay links (has_room left cost) from to →
+    IsPath links (λ l. true) from to path → (l : ℕ) × (short_link left cost path ≡ Some l)
+some_short links left cost from to path none is = elim (cases_Bool (list_all (has_room left cost) path)) [
+  | inl roomy ↦ absurd (none path (record { leads = is.leads; roomy = roomy; few = is.few }))
+  | inr short ↦ (let f = one_fails (has_room left cost) path short in find_some (λ l. not (has_room left cost l)) path f.one f.within (ap not f.fails))
 ]
 
 -- at no cost, a link has room if what it has left is known
@@ -48,39 +48,39 @@ link_there links node end l e = by_link (slice_get links l) refl e
     by_link (Some link) is some = slice_get_within links l link is
 
 -- so each link of a path has room
-roomy_at_no_cost : (links : List Link) (left : List ℕ) (from to : Node) (way : List ℕ) → length left ≡ length links →
-    led_along (led_to links) from way ≡ Some to → list_all (has_room left 0) way ≡ true
+roomy_at_no_cost : (links : List Link) (left : List ℕ) (from to : Node) (path : List ℕ) → length left ≡ length links →
+    led_along (led_to links) from path ≡ Some to → list_all (has_room left 0) path ≡ true
 roomy_at_no_cost links left from to [] same e = refl
-roomy_at_no_cost links left from to (l ∷ way) same e = by_step (λ end more. roomy_at_no_cost links left end to way same more) (led_to links from l) refl e
+roomy_at_no_cost links left from to (l ∷ path) same e = by_step (λ end more. roomy_at_no_cost links left end to path same more) (led_to links from l) refl e
   where
-    by_step : ((end : Node) → led_along (led_to links) end way ≡ Some to → list_all (has_room left 0) way ≡ true) → (o : Option Node) → led_to links from l ≡ o →
-        option_and_then (λ end. led_along (led_to links) end way) o ≡ Some to → (has_room left 0 l && list_all (has_room left 0) way) ≡ true
+    by_step : ((end : Node) → led_along (led_to links) end path ≡ Some to → list_all (has_room left 0) path ≡ true) → (o : Option Node) → led_to links from l ≡ o →
+        option_and_then (λ end. led_along (led_to links) end path) o ≡ Some to → (has_room left 0 l && list_all (has_room left 0) path) ≡ true
     by_step rest None is none = absurd cc
     by_step rest (Some end) is more =
         let inside : l < length left = omega (arith, same, link_there links from end l is) in
-        ap (λ b. b && list_all (has_room left 0) way) (has_at_no_cost left l inside) ∙ rest end more
+        ap (λ b. b && list_all (has_room left 0) path) (has_at_no_cost left l inside) ∙ rest end more
 
-all_pass : (way : List ℕ) → list_all (λ l. true) way ≡ true
+all_pass : (path : List ℕ) → list_all (λ l. true) path ≡ true
 all_pass [] = refl
-all_pass (l ∷ way) = all_pass way
+all_pass (l ∷ path) = all_pass path
 
 -- at no cost the paths are those without the condition of room
-without : (links : List Link) (left : List ℕ) (from to : Node) (way : List ℕ) → IsWay links (has_room left 0) from to way → IsWay links (λ l. true) from to way
-without links left from to way is = record { leads = is.leads; roomy = all_pass way; few = is.few }
+without : (links : List Link) (left : List ℕ) (from to : Node) (path : List ℕ) → IsPath links (has_room left 0) from to path → IsPath links (λ l. true) from to path
+without links left from to path is = record { leads = is.leads; roomy = all_pass path; few = is.few }
 
-within : (links : List Link) (left : List ℕ) (from to : Node) (way : List ℕ) → length left ≡ length links → IsWay links (λ l. true) from to way →
-    IsWay links (has_room left 0) from to way
-within links left from to way same is = record { leads = is.leads; roomy = roomy_at_no_cost links left from to way same is.leads; few = is.few }
+within : (links : List Link) (left : List ℕ) (from to : Node) (path : List ℕ) → length left ≡ length links → IsPath links (λ l. true) from to path →
+    IsPath links (has_room left 0) from to path
+within links left from to path same is = record { leads = is.leads; roomy = roomy_at_no_cost links left from to path same is.leads; few = is.few }
 
 -- and so is the first
-pub first_at_no_cost : (links : List Link) (left : List ℕ) (from to : Node) (way : List ℕ) → length left ≡ length links →
-    IsFirstWay links (has_room left 0) from to way → IsFirstWay links (λ l. true) from to way
-first_at_no_cost links left from to way same first = record {
-  is_way = without links left from to way first.is_way;
+pub first_at_no_cost : (links : List Link) (left : List ℕ) (from to : Node) (path : List ℕ) → length left ≡ length links →
+    IsFirstPath links (has_room left 0) from to path → IsFirstPath links (λ l. true) from to path
+first_at_no_cost links left from to path same first = record {
+  is_path = without links left from to path first.is_path;
   shortest = λ other is. first.shortest other (within links left from to other same is);
   least = λ other is as_long. first.least other (within links left from to other same is) as_long;
 }
 
 pub none_at_no_cost : (links : List Link) (left : List ℕ) (from to : Node) → length left ≡ length links →
     NoWay links (has_room left 0) from to → NoWay links (λ l. true) from to
-none_at_no_cost links left from to same none way is = none way (within links left from to way same is)
+none_at_no_cost links left from to same none path is = none path (within links left from to path same is)

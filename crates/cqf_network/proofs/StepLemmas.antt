@@ -2,8 +2,8 @@
 use Rattle.std.proofs.Common.{◌≡◌, ◌∙◌, ◌+◌, ◌≤◌, ℕ, Bool, true, false, List, [], ◌∷◌, ◌++◌, Option, Some, None, length, refl, sym, ap, subst, inl, inr, arith, length-append}
 use Rattle.std.specs.Prelude.{option_and_then}
 use Rattle.std.proofs.lemmas.Option.{option_and_then_some}
-use Rattle.cqf_network.specs.Steps.{AreBefore, IsFirstInto, IsFirstStep, LeadsInto, WayInto, is_before, led_along}
-use Rattle.cqf_network.proofs.OrderLemmas.{before_behind, higher_alone, same_or_behind, stays_before}
+use Rattle.cqf_network.specs.Steps.{AreBefore, IsFirstInto, IsFirstStep, LeadsInto, PathInto, is_before, led_along}
+use Rattle.cqf_network.proofs.OrderLemmas.{before_after, higher_alone, same_or_after, stays_before}
 
 -- appended steps lead on from where the first ones lead
 pub along-append : {N : Type 0} (next : N → ℕ → Option N) (from : N) (xs ys : List ℕ) →
@@ -21,10 +21,10 @@ along-one : {N : Type 0} (next : N → ℕ → Option N) (node : N) (step : ℕ)
 along-one next node step = elim (next node step) as (λ o. option_and_then (λ end. Some end) o ≡ o) [ None ↦ refl | Some end ↦ refl ]
 
 -- and an appended step leads on from where the path leads
-pub along-push : {N : Type 0} (next : N → ℕ → Option N) (from node end : N) (way : List ℕ) (step : ℕ) → led_along next from way ≡ Some node →
-    next node step ≡ Some end → led_along next from (way ++ step ∷ []) ≡ Some end
-along-push {N} next from node end way step to_node to_end =
-    along-append next from way (step ∷ [])
+pub along-push : {N : Type 0} (next : N → ℕ → Option N) (from node end : N) (path : List ℕ) (step : ℕ) → led_along next from path ≡ Some node →
+    next node step ≡ Some end → led_along next from (path ++ step ∷ []) ≡ Some end
+along-push {N} next from node end path step to_node to_end =
+    along-append next from path (step ∷ [])
     ∙ ap (λ (o : Option N). option_and_then (λ n. led_along next n (step ∷ [])) o) to_node
     ∙ along-one next node step
     ∙ to_end
@@ -40,16 +40,16 @@ pushed x [] = record { front = []; last = x; is = refl }
 pushed x (y ∷ ys) = let rest = pushed y ys in record { front = x ∷ rest.front; last = rest.last; is = ap (λ zs. x ∷ zs) rest.is }
 
 -- a path into a set from outside: a path into the set before it, and a last step
-record Parted {N : Type 0} (next : N → ℕ → Option N) (ends before : N → Bool) (from : N) (way : List ℕ) (there : N) : Type 0 where
+record Parted {N : Type 0} (next : N → ℕ → Option N) (ends before : N → Bool) (from : N) (path : List ℕ) (there : N) : Type 0 where
   front : List ℕ
   last : ℕ
   node : N
-  is : way ≡ front ++ last ∷ []
-  into : WayInto next before from front node
+  is : path ≡ front ++ last ∷ []
+  into : PathInto next before from front node
   leads : LeadsInto next ends node last there
 
-parted : {N : Type 0} (next : N → ℕ → Option N) (ends before : N → Bool) (from there : N) (way : List ℕ) → AreBefore next ends before →
-    ends from ≡ false → WayInto next ends from way there → Parted next ends before from way there
+parted : {N : Type 0} (next : N → ℕ → Option N) (ends before : N → Bool) (from there : N) (path : List ℕ) → AreBefore next ends before →
+    ends from ≡ false → PathInto next ends from path there → Parted next ends before from path there
 parted {N} next ends before from there [] are outside into =
     absurd (let here : from ≡ there = cc (into.leads) in let inside = ap ends here in let yes = into.inside in cc)
 parted {N} next ends before from there (x ∷ xs) are outside into =
@@ -72,21 +72,21 @@ length_pushed : (xs : List ℕ) (x : ℕ) → length (xs ++ x ∷ []) ≡ length
 length_pushed xs x = length-append xs (x ∷ [])
 
 -- the first path into a set is the first path into the set before it, followed by the first step that leads on
-pub one_more : {N : Type 0} (next : N → ℕ → Option N) (ends before : N → Bool) (from node end : N) (way : List ℕ) (step : ℕ) → AreBefore next ends before →
-    ends from ≡ false → IsFirstInto next before from way node → IsFirstStep next ends node step end → IsFirstInto next ends from (way ++ step ∷ []) end
-one_more {N} next ends before from node end way step are outside first last = record {
-  into = record { leads = along-push next from node end way step first.into.leads last.leads.leads; inside = last.leads.inside };
+pub one_more : {N : Type 0} (next : N → ℕ → Option N) (ends before : N → Bool) (from node end : N) (path : List ℕ) (step : ℕ) → AreBefore next ends before →
+    ends from ≡ false → IsFirstInto next before from path node → IsFirstStep next ends node step end → IsFirstInto next ends from (path ++ step ∷ []) end
+one_more {N} next ends before from node end path step are outside first last = record {
+  into = record { leads = along-push next from node end path step first.into.leads last.leads.leads; inside = last.leads.inside };
   shortest = λ other there into. shortest other there (parted next ends before from there other are outside into);
   least = λ other there into same. least other there (parted next ends before from there other are outside into) same;
 }
   where
-    shortest : (other : List ℕ) (there : N) → Parted next ends before from other there → length (way ++ step ∷ []) ≤ length other
+    shortest : (other : List ℕ) (there : N) → Parted next ends before from other there → length (path ++ step ∷ []) ≤ length other
     shortest other there p =
-        omega (arith, first.shortest p.front p.node p.into, ap length p.is, length_pushed p.front p.last, length_pushed way step)
+        omega (arith, first.shortest p.front p.node p.into, ap length p.is, length_pushed p.front p.last, length_pushed path step)
 
     -- the same beginning leads to the same node, and the step after it is the least
-    same_front : (front : List ℕ) (last_step : ℕ) (there_node there : N) → WayInto next before from front there_node → LeadsInto next ends there_node last_step there →
-        front ≡ way → is_before (front ++ last_step ∷ []) (way ++ step ∷ []) ≡ false
+    same_front : (front : List ℕ) (last_step : ℕ) (there_node there : N) → PathInto next before from front there_node → LeadsInto next ends there_node last_step there →
+        front ≡ path → is_before (front ++ last_step ∷ []) (path ++ step ∷ []) ≡ false
     same_front front last_step there_node there into leads e =
         let both = ap (led_along next from) e in
         let one = into.leads in
@@ -94,28 +94,28 @@ one_more {N} next ends before from node end way step are outside first last = re
         let same : there_node ≡ node = cc in
         let least : step ≤ last_step =
         last.least last_step there (record { leads = subst (λ (n : N). next n last_step ≡ Some there) same leads.leads; inside = leads.inside }) in
-        subst (λ (ws : List ℕ). is_before (ws ++ last_step ∷ []) (way ++ step ∷ []) ≡ false) (sym e)
-        (before_behind way (last_step ∷ []) (step ∷ []) ∙ higher_alone last_step step least)
+        subst (λ (ws : List ℕ). is_before (ws ++ last_step ∷ []) (path ++ step ∷ []) ≡ false) (sym e)
+        (before_after path (last_step ∷ []) (step ∷ []) ∙ higher_alone last_step step least)
 
-    least : (other : List ℕ) (there : N) → Parted next ends before from other there → length other ≡ length (way ++ step ∷ []) → is_before other (way ++ step ∷ []) ≡ false
+    least : (other : List ℕ) (there : N) → Parted next ends before from other there → length other ≡ length (path ++ step ∷ []) → is_before other (path ++ step ∷ []) ≡ false
     least other there p same =
-        let as_long : length p.front ≡ length way = omega (arith, ap length p.is, length_pushed p.front p.last, length_pushed way step, same) in
-        subst (λ (o : List ℕ). is_before o (way ++ step ∷ []) ≡ false) (sym p.is)
-        (elim (same_or_behind p.front way as_long (first.least p.front p.node p.into as_long)) [
+        let as_long : length p.front ≡ length path = omega (arith, ap length p.is, length_pushed p.front p.last, length_pushed path step, same) in
+        subst (λ (o : List ℕ). is_before o (path ++ step ∷ []) ≡ false) (sym p.is)
+        (elim (same_or_after p.front path as_long (first.least p.front p.node p.into as_long)) [
           | inl e ↦ same_front p.front p.last p.node there p.into p.leads e
-          | inr behind ↦ stays_before way p.front (p.last ∷ []) (step ∷ []) (sym as_long) behind
+          | inr following ↦ stays_before path p.front (p.last ∷ []) (step ∷ []) (sym as_long) following
         ])
 
 -- if no path of at most n steps leads into the set before, none of at most n + 1 steps leads from outside into the set
 pub none_more : {N : Type 0} (next : N → ℕ → Option N) (ends before : N → Bool) (from : N) (most : ℕ) → AreBefore next ends before → ends from ≡ false →
-    ((way : List ℕ) (end : N) → length way ≤ most → ¬ WayInto next before from way end) → (way : List ℕ) (end : N) → length way ≤ most + 1 → ¬ WayInto next ends from way end
-none_more next ends before from most are outside none way end short into =
-    let p = parted next ends before from end way are outside into in
+    ((path : List ℕ) (end : N) → length path ≤ most → ¬ PathInto next before from path end) → (path : List ℕ) (end : N) → length path ≤ most + 1 → ¬ PathInto next ends from path end
+none_more next ends before from most are outside none path end short into =
+    let p = parted next ends before from end path are outside into in
     none p.front p.node (omega (arith, short, ap length p.is, length_pushed p.front p.last)) p.into
 
 -- from outside, no path without steps leads into a set
-pub none_at_once : {N : Type 0} (next : N → ℕ → Option N) (ends : N → Bool) (from : N) → ends from ≡ false → (way : List ℕ) (end : N) → length way ≤ 0 →
-    ¬ WayInto next ends from way end
+pub none_at_once : {N : Type 0} (next : N → ℕ → Option N) (ends : N → Bool) (from : N) → ends from ≡ false → (path : List ℕ) (end : N) → length path ≤ 0 →
+    ¬ PathInto next ends from path end
 none_at_once next ends from outside [] end short into = let here = into.leads in let inside = into.inside in let same : from ≡ end = cc in absurd (let e = ap ends same in cc)
 none_at_once next ends from outside (x ∷ xs) end short into = absurd (omega (arith, short))
 

@@ -17,7 +17,7 @@ use Rattle.cqf_traffic.specs.declared.faults.FlowsFault.TheVariants as flows_fau
 use Rattle.cqf_traffic.specs.FlowsText.{or_streams, traffic_or}
 use Rattle.cqf_traffic.specs.TrafficText.{traffic_from}
 use Rattle.cqf_network.specs.StreamsText.{StreamText, branches_if, first_lack, first_lack_of, first_lack_within, listeners_read, octets_from, pacing_from, shortest_read}
-use Rattle.cqf_network.specs.StreamsText.{network_streams_of_text, stream_from, streams_from, streams_in, streams_of_array, talker_read, way_by}
+use Rattle.cqf_network.specs.StreamsText.{network_streams_of_text, path_by, stream_from, streams_from, streams_in, streams_of_array, talker_read}
 
 -- what was read, before its fault is converted
 pub map_both-Ok : {A E F : Type 0} (f : E → F) (r : Result A E) (x : A) → result_map_both (λ y. y) f r ≡ Ok x → r ≡ Ok x
@@ -32,7 +32,7 @@ pub record HasRead (table : Members) (s : StreamText) : Type 0 where
   pub branches : branches_if table ≡ Ok given
   pub talker : talker_read table ≡ Ok s.talker
   pub listeners : listeners_read table ≡ Ok s.listeners
-  pub way : way_by given s.talker s.listeners ≡ Ok s.way
+  pub path : path_by given s.talker s.listeners ≡ Ok s.path
   pub deadline : deadline_from table ≡ Ok s.deadline
   pub traffic : traffic_from table ≡ Ok s.traffic
   pub shortest : shortest_read s.traffic table ≡ Ok s.shortest
@@ -56,7 +56,7 @@ has_read table s h =
     let (paths, at_paths, h4) = and_then-Ok (or_streams (branches_if table)) _ s h3 in
     let (talker, at_talker, h5) = and_then-Ok (or_streams (talker_read table)) _ s h4 in
     let (listeners, at_listeners, h6) = and_then-Ok (or_streams (listeners_read table)) _ s h5 in
-    let (way, at_way, h7) = and_then-Ok (or_streams (way_by paths talker listeners)) _ s h6 in
+    let (path, at_path, h7) = and_then-Ok (or_streams (path_by paths talker listeners)) _ s h6 in
     let (deadline, at_deadline, h8) = and_then-Ok (or_streams (deadline_from table)) _ s h7 in
     let (traffic, at_traffic, h9) = and_then-Ok (traffic_or table) _ s h8 in
     let (shortest, at_shortest, h10) = and_then-Ok (shortest_read traffic table) _ s h9 in
@@ -64,7 +64,7 @@ has_read table s h =
       name = name;
       octets = octets;
       pacing = pacing;
-      way = way;
+      path = path;
       talker = talker;
       listeners = listeners;
       deadline = deadline;
@@ -80,7 +80,7 @@ has_read table s h =
       branches = map_both-Ok flows_fault.Streams (branches_if table) paths at_paths;
       talker = map_both-Ok flows_fault.Streams (talker_read table) talker at_talker;
       listeners = map_both-Ok flows_fault.Streams (listeners_read table) listeners at_listeners;
-      way = map_both-Ok flows_fault.Streams (way_by paths talker listeners) way at_way;
+      path = map_both-Ok flows_fault.Streams (path_by paths talker listeners) path at_path;
       deadline = map_both-Ok flows_fault.Streams (deadline_from table) deadline at_deadline;
       traffic = map_both-Ok flows_fault.BadValue (traffic_from table) traffic at_traffic;
       shortest = at_shortest;

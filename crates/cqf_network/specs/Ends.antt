@@ -4,10 +4,10 @@ use Rattle.cqf_model.specs.declared.topology.Link.{Link}
 use Rattle.cqf_model.specs.declared.topology.Node.{Node}
 use Rattle.cqf_model.specs.declared.topology.Node.TheVariants.{Bridge, Station}
 use Rattle.cqf_model.specs.Domain.{same_node}
-use Rattle.cqf_network.specs.declared.way_ends.Ends.{Ends}
-use Rattle.cqf_network.specs.declared.way_ends.Ends.TheVariants as ends
+use Rattle.cqf_network.specs.declared.path_ends.Ends.{Ends}
+use Rattle.cqf_network.specs.declared.path_ends.Ends.TheVariants as ends
 use Rattle.cqf_network.specs.Steps.{LeadsInto, SomeLeadsInto}
-use Rattle.cqf_network.specs.Ways.{led_to}
+use Rattle.cqf_network.specs.Paths.{led_to}
 
 -- whether a node is in a set of bridges that is given by a mark for each bridge
 abbrev pub is_marked : List Bool → Node → Bool

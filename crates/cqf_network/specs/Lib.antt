@@ -4,8 +4,8 @@ pub mod Edges
 pub mod NetworkDomain
 pub mod StreamsText
 pub mod NetworkFlows
-pub mod Ways
+pub mod Paths
 pub mod Steps
 pub mod Ends
-pub mod WayLaws
+pub mod PathLaws
 pub mod Listeners

@@ -7,7 +7,7 @@ use Rattle.cqf_lists.specs.Results.{and_then, refuse}
 use Rattle.cqf_units.specs.Name.{is_name}
 use Rattle.cqf_model.specs.Domain.{Domain, guard_by}
 use Rattle.cqf_model.specs.declared.limits.Limits.{Limits}
-use Rattle.cqf_model.specs.Limits.{bridges_within, links_within, longest_cycle, stations_within}
+use Rattle.cqf_model.specs.Limits.{bridges_within, links_within, longest_cycle, most_overhead, stations_within}
 use Rattle.cqf_model.specs.declared.topology.Link.{Link}
 use Rattle.cqf_model.specs.declared.topology.Node.{Node}
 use Rattle.cqf_model.specs.declared.topology.Node.TheVariants.{Bridge, Station}
@@ -22,14 +22,15 @@ use Rattle.cqf_network.specs.Edges.{Edge, first_long_delay, first_long_gap, firs
 use Rattle.cqf_network.specs.Edges.{is_talkers, joined, bridge_edge_count, reaches_each, talkers_of}
 use Rattle.cqf_network.specs.NetworkText.{NetworkText, one_of_text, draft_of_text}
 
--- the domain of a network file: its limits, the candidates for the cycle time in the order of preference, the guard
--- band, how far clocks may differ, names by number, the plan's links by number, and the talkers' links. Times are in
--- nanoseconds
+-- the domain of a network file: its limits, the candidates for the cycle time in order of preference, the guard band,
+-- how far clocks may differ, the octets of a frame that gates don't count, names by number, the plan's links by number,
+-- and the access links. Times are in nanoseconds
 pub record NetworkDomain : Type 0 where
   pub limits : Limits
   pub candidates : List ℕ
   pub guard : ℕ
   pub sync : ℕ
+  pub overhead : ℕ
   pub bridges : List (List ℕ)
   pub stations : List (List ℕ)
   pub links : List Link
@@ -37,7 +38,8 @@ pub record NetworkDomain : Type 0 where
 
 -- the plan's domain with a given cycle time, within the file's limits
 abbrev pub domain_at : NetworkDomain → ℕ → Domain
-domain_at network cycle_time = domain_with network.limits cycle_time network.guard network.sync network.bridges network.stations network.links
+domain_at network cycle_time =
+    domain_with network.limits cycle_time network.guard network.sync network.overhead network.bridges network.stations network.links
 
 -- the range of a cycle time, in nanoseconds
 pub record IsCycleTime (cycle_time : ℕ) : Type 0 where
@@ -67,13 +69,13 @@ pub record AreCandidates (cycles : List ℕ) : Type 0 where
   pub few_cycles : length cycles ≤ 1000
   pub cycle_times : All IsCycleTime cycles
 
--- how many octets a frame may have
+-- a number of octets that a frame may have
 pub record IsFrameSize (octets : ℕ) : Type 0 where
   pub least : 64 ≤ octets
   pub most : octets ≤ 1522
 
--- an access link goes from a station of the network to one of its bridges, its least delay is at most the greatest, and what its station
--- sends beside streams are frames
+-- an access link goes from a station of the network to one of its bridges. Its least delay is at most the greatest. A frame of no stream
+-- that its station sends has a size that a frame may have
 pub record IsTalkerLink (network : NetworkDomain) (link : TalkerLink) : Type 0 where
   pub station_there : link.station < length network.stations
   pub bridge_there : link.bridge < length network.bridges
@@ -81,7 +83,7 @@ pub record IsTalkerLink (network : NetworkDomain) (link : TalkerLink) : Type 0 w
   pub ordered : link.least ≤ link.delay
   pub other_is_size : ForSome link.other IsFrameSize
 
--- how many access links there may be: four for each station that there may be
+-- the number of access links that there may be: four for each station that there may be
 abbrev pub access_within : Limits → ℕ
 access_within limits = 4 * stations_within limits
 
@@ -138,6 +140,7 @@ network_with text edges = record {
   candidates = text.candidates;
   guard = text.guard;
   sync = text.sync;
+  overhead = text.overhead;
   bridges = text.bridges;
   stations = text.stations;
   links = map link_of (bridge_edges edges);
@@ -177,11 +180,11 @@ checked text =
 abbrev pub open_network_of_text : Limits → Option (List ℕ) → List ℕ → Result NetworkDomain NetworkFault
 open_network_of_text limits given text = and_then (draft_of_text limits given text) checked
 
--- that of a text whose cycle time isn't open
+-- the domain of a text whose cycle time isn't open, or its first fault
 abbrev pub network_of_text : Limits → List ℕ → Result NetworkDomain NetworkFault
 network_of_text limits text = and_then (one_of_text limits text) checked
 
--- a node's number is below the given number of bridges or stations; and so for both ends of an edge
+-- a node's number is below the given number of bridges or stations; and the same for both ends of an edge
 abbrev pub NodeInside : ℕ → ℕ → Node → Type 0
 NodeInside bridges stations (Bridge b) = b < bridges
 NodeInside bridges stations (Station s) = s < stations
@@ -190,7 +193,7 @@ pub record EdgeInside (bridges stations : ℕ) (edge : Edge) : Type 0 where
   pub from_inside : NodeInside bridges stations edge.from
   pub to_inside : NodeInside bridges stations edge.to
 
--- a link's delays are in their ranges and in order, and so is the size of frames beside streams
+-- a link's delays are in their ranges and in order, and the size of frames of no stream is in its range
 pub record IsReadLink (link : NetworkLink) : Type 0 where
   pub times_are_read : AreReadTimes link.there.times
   pub other_is_read : ForSome link.other IsFrameSize
@@ -200,6 +203,7 @@ pub record IsReadableNetwork (text : NetworkText) : Type 0 where
   pub are_candidates : AreCandidates text.candidates
   pub guard_some : 0 < text.guard
   pub sync_most : text.sync ≤ longest_cycle
+  pub overhead_most : text.overhead ≤ most_overhead
   pub some_bridge : 0 < length text.bridges
   pub bridges_named : All (λ name. IsTrue (is_name name)) text.bridges
   pub stations_named : All (λ name. IsTrue (is_name name)) text.stations

@@ -13,7 +13,7 @@ use Rattle.cqf_network.specs.declared.network_flows.NetworkFlow.{NetworkFlow}
 use Rattle.cqf_network.specs.declared.talkers.Talker.{Talker}
 use Rattle.cqf_network.specs.StreamsText.{listeners_read, shortest_read, talker_read}
 
--- a stream as its talker has it, and where the text says them its talker, its listeners, and how long its shortest frame is
+-- a stream as its talker has it, and, if the text gives them, its talker, its listeners, and how many octets its shortest frame has
 pub record NetworkFlowText : Type 0 where
   pub flow : FlowText
   pub talker : Option Talker
@@ -46,7 +46,7 @@ abbrev pub network_flows_of_array : Items → Result (List NetworkFlowText) Flow
 network_flows_of_array items =
     if are_tables items then network_flows_from items else Err (flows_fault.Streams (toml_fault.BadValue key.Streams))
 
--- the streams of a document, and of a text: where it is TOML and no key is missing, each is read
+-- the streams of a document, and those of a text. If the text is TOML and no key is missing, each stream is read
 abbrev pub network_flows_in : Members → Result (List NetworkFlowText) FlowsFault
 network_flows_in table = and_then (or_streams (read_at key.Streams as_array table)) network_flows_of_array
 

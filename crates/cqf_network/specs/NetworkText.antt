@@ -8,10 +8,10 @@ use Rattle.cqf_topology.specs.declared.keys.Key.TheVariants.{Cycle, Guard, Bridg
 use Rattle.cqf_topology.specs.declared.toml_faults.TomlFault.{TomlFault}
 use Rattle.cqf_topology.specs.declared.toml_faults.TomlFault.TheVariants.{BadValue}
 use Rattle.cqf_topology.specs.Fields.{are_tables, each_from, name_from, names_at, number_from, read_at, value_at, whole_document}
-use Rattle.cqf_topology.specs.DomainText.{domain_keys, if_some, link_keys, sync_from}
+use Rattle.cqf_topology.specs.DomainText.{domain_keys, if_some, link_keys, overhead_from, sync_from}
 use Rattle.cqf_topology.specs.LinkTimes.{times_read}
 use Rattle.cqf_network.specs.declared.draft.NetworkLink.{NetworkLink}
-use Rattle.cqf_network.specs.declared.draft.OneWay.{OneWay}
+use Rattle.cqf_network.specs.declared.draft.OneDirection.{OneDirection}
 use Rattle.cqf_network.specs.declared.faults.NetworkFault.{NetworkFault}
 use Rattle.cqf_network.specs.declared.faults.NetworkFault.TheVariants.{BadDuplex, BadOther}
 use Rattle.cqf_network.specs.Faults.{or_network, network_fault}
@@ -23,6 +23,7 @@ pub record NetworkText : Type 0 where
   pub candidates : List ℕ
   pub guard : ℕ
   pub sync : ℕ
+  pub overhead : ℕ
   pub bridges : List (List ℕ)
   pub stations : List (List ℕ)
   pub links : List NetworkLink
@@ -68,7 +69,7 @@ duplex_by (Some d) = ok_or (as_bool d) BadDuplex
 abbrev pub duplex_at : Members → Result Bool NetworkFault
 duplex_at table = duplex_by (get_member (codes "duplex") table)
 
--- how long the frames may be that the station of an access link sends beside streams: 64 to 1,522 octets; none where the text says nothing
+-- the greatest size of a frame of no stream that the station of an access link sends: 64 to 1,522 octets; none if the text doesn't give it
 abbrev pub other_by : Option Data → Result (Option ℕ) NetworkFault
 other_by None = Ok None
 other_by (Some d) = and_then (ok_or (number_from 64 1522 d) BadOther) (λ octets. Ok (Some octets))
@@ -76,9 +77,9 @@ other_by (Some d) = and_then (ok_or (number_from 64 1522 d) BadOther) (λ octets
 abbrev pub other_at : Members → Result (Option ℕ) NetworkFault
 other_at table = other_by (get_member (codes "other") table)
 
--- a link's table: there, whether back, and what its station may send beside streams
-abbrev pub one_way_read : Members → Result OneWay TomlFault
-one_way_read table =
+-- a link's table: its written direction, whether it also has the opposite one, and what its station may send beside streams
+abbrev pub one_direction_read : Members → Result OneDirection TomlFault
+one_direction_read table =
     and_then (read_at From name_from table) (λ from.
     and_then (read_at To name_from table) (λ to.
     and_then (times_read table) (λ times.
@@ -86,7 +87,7 @@ one_way_read table =
 
 abbrev pub link_read : Members → Result NetworkLink NetworkFault
 link_read table =
-    and_then (or_network (one_way_read table)) (λ there.
+    and_then (or_network (one_direction_read table)) (λ there.
     and_then (duplex_at table) (λ duplex.
     and_then (other_at table) (λ other.
     Ok (record { there = there; duplex = duplex; other = other }))))
@@ -101,21 +102,31 @@ links_of_array items = if are_tables items then links_from items else Err (netwo
 abbrev pub links_read : Members → Result (List NetworkLink) NetworkFault
 links_read table = and_then (or_network (read_at Links as_array table)) links_of_array
 
--- a domain's table, but for its cycle times, which these are
+-- a domain's table, with these cycle times in place of its own
 abbrev pub network_with_cycles : Limits → Members → List ℕ → Result NetworkText NetworkFault
 network_with_cycles limits table candidates =
     and_then (or_network (read_at Guard (number_from 1 10000000) table)) (λ guard.
     and_then (or_network (sync_from table)) (λ sync.
+    and_then (or_network (overhead_from table)) (λ overhead.
     and_then (or_network (and_then (names_at Bridges table) (if_some Bridges))) (λ bridges.
     and_then (or_network (names_at Stations table)) (λ stations.
     and_then (links_read table) (λ links.
-    Ok (record { limits = limits; candidates = candidates; guard = guard; sync = sync; bridges = bridges; stations = stations; links = links }))))))
+    Ok (record {
+      limits = limits;
+      candidates = candidates;
+      guard = guard;
+      sync = sync;
+      overhead = overhead;
+      bridges = bridges;
+      stations = stations;
+      links = links;
+    })))))))
 
 -- a domain's table, whose cycle time may be open
 abbrev pub draft_from : Limits → Option (List ℕ) → Members → Result NetworkText NetworkFault
 draft_from limits given table = and_then (or_network (candidates_read given table)) (network_with_cycles limits table)
 
--- one whose cycle time isn't open
+-- a domain's table, whose cycle time isn't open
 abbrev pub one_from : Limits → Members → Result NetworkText NetworkFault
 one_from limits table =
     and_then (or_network (read_at Cycle (number_from 10000 10000000) table)) (λ cycle. network_with_cycles limits table (cycle ∷ []))
@@ -124,6 +135,6 @@ one_from limits table =
 abbrev pub draft_of_text : Limits → Option (List ℕ) → List ℕ → Result NetworkText NetworkFault
 draft_of_text limits given text = and_then (or_network (whole_document (network_keys given) Links link_keys text)) (draft_from limits given)
 
--- the same of a text whose cycle time isn't open
+-- what the text of a domain says whose cycle time isn't open, or the first fault of reading it
 abbrev pub one_of_text : Limits → List ℕ → Result NetworkText NetworkFault
 one_of_text limits text = and_then (or_network (whole_document domain_keys Links link_keys text)) (one_from limits)

@@ -4,14 +4,14 @@ use Rattle.std.specs.Prelude.{ℕ, ◌≡◌, ◌≤◌, Bool, true, false, ◌=
 -- where a list of steps leads from a node, if each step can be taken
 abbrev pub led_along : {N : Type 0} → (N → ℕ → Option N) → N → List ℕ → Option N
 led_along next node [] = Some node
-led_along next node (step ∷ way) = option_and_then (λ end. led_along next end way) (next node step)
+led_along next node (step ∷ path) = option_and_then (λ end. led_along next end path) (next node step)
 
 -- whether the first of two paths of one length comes before the second: its step has the lower number where they first
 -- differ
 abbrev pub is_before : List ℕ → List ℕ → Bool
 is_before [] other = false
-is_before (step ∷ way) [] = false
-is_before (step ∷ way) (first ∷ other) = if step == first then is_before way other else nat_lt step first
+is_before (step ∷ path) [] = false
+is_before (step ∷ path) (first ∷ other) = if step == first then is_before path other else nat_lt step first
 
 -- a step leads from a node into a set
 pub record LeadsInto {N : Type 0} (next : N → ℕ → Option N) (ends : N → Bool) (node : N) (step : ℕ) (end : N) : Type 0 where
@@ -24,7 +24,7 @@ pub record SomeLeadsInto {N : Type 0} (next : N → ℕ → Option N) (ends : N 
   pub end : N
   pub leads : LeadsInto next ends node step end
 
--- it is the step with the lowest number that leads into the set
+-- the step with the lowest number that leads from the node into the set
 pub record IsFirstStep {N : Type 0} (next : N → ℕ → Option N) (ends : N → Bool) (node : N) (step : ℕ) (end : N) : Type 0 where
   pub leads : LeadsInto next ends node step end
   pub least : (other : ℕ) (there : N) → LeadsInto next ends node other there → step ≤ other
@@ -35,19 +35,19 @@ pub record AreBefore {N : Type 0} (next : N → ℕ → Option N) (ends before :
   pub all : (node : N) → SomeLeadsInto next ends node → before node ≡ true
 
 -- a path leads from a node into a set
-pub record WayInto {N : Type 0} (next : N → ℕ → Option N) (ends : N → Bool) (from : N) (way : List ℕ) (end : N) : Type 0 where
-  pub leads : led_along next from way ≡ Some end
+pub record PathInto {N : Type 0} (next : N → ℕ → Option N) (ends : N → Bool) (from : N) (path : List ℕ) (end : N) : Type 0 where
+  pub leads : led_along next from path ≡ Some end
   pub inside : ends end ≡ true
 
--- it is the first such path: no other is shorter, and none of the same length comes before it
-pub record IsFirstInto {N : Type 0} (next : N → ℕ → Option N) (ends : N → Bool) (from : N) (way : List ℕ) (end : N) : Type 0 where
-  pub into : WayInto next ends from way end
-  pub shortest : (other : List ℕ) (there : N) → WayInto next ends from other there → length way ≤ length other
-  pub least : (other : List ℕ) (there : N) → WayInto next ends from other there → length other ≡ length way → is_before other way ≡ false
+-- the first path from a node into a set: no other is shorter, and none of the same length comes before it
+pub record IsFirstInto {N : Type 0} (next : N → ℕ → Option N) (ends : N → Bool) (from : N) (path : List ℕ) (end : N) : Type 0 where
+  pub into : PathInto next ends from path end
+  pub shortest : (other : List ℕ) (there : N) → PathInto next ends from other there → length path ≤ length other
+  pub least : (other : List ℕ) (there : N) → PathInto next ends from other there → length other ≡ length path → is_before other path ≡ false
 
 -- no step leads from the node into the set; and no path of at most `most` steps does
 abbrev pub NoneLeadsInto : {N : Type 0} → (N → ℕ → Option N) → (N → Bool) → N → Type 0
 NoneLeadsInto {N} next ends node = (step : ℕ) (end : N) → ¬ LeadsInto next ends node step end
 
 abbrev pub NoneInto : {N : Type 0} → (N → ℕ → Option N) → (N → Bool) → N → ℕ → Type 0
-NoneInto {N} next ends from most = (way : List ℕ) (end : N) → length way ≤ most → ¬ WayInto next ends from way end
+NoneInto {N} next ends from most = (path : List ℕ) (end : N) → length path ≤ most → ¬ PathInto next ends from path end

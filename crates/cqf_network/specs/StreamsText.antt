@@ -19,8 +19,8 @@ use Rattle.cqf_traffic.specs.TrafficText.{TrafficText, first_owed, has_traffic}
 use Rattle.cqf_network.specs.declared.pacing.Pacing.{Pacing}
 use Rattle.cqf_network.specs.declared.pacing.Pacing.TheVariants.{Given, InStep}
 use Rattle.cqf_network.specs.declared.talkers.Talker.{Talker}
-use Rattle.cqf_network.specs.declared.wanted.WantedWay.{WantedWay}
-use Rattle.cqf_network.specs.declared.wanted.WantedWay.TheVariants as wanted
+use Rattle.cqf_network.specs.declared.wanted.WantedPath.{WantedPath}
+use Rattle.cqf_network.specs.declared.wanted.WantedPath.TheVariants as wanted
 use Rattle.cqf_network.specs.declared.streams.Stream.{Stream}
 
 -- the path that a stream is to take: along given branches, or from a talker or bridge to its listeners
@@ -28,20 +28,20 @@ pub data WantedText : Type 0 where
   Along : List (List (List ℕ)) → WantedText
   Between : List ℕ → List (List ℕ) → WantedText
 
--- a stream of a network file: its name, its octets a cycle if the text gives them, in which cycles it is offered, its path, its talker and its
--- listeners if the text gives them, its deadline, its traffic, and how long its shortest frame is if the text says it
+-- a stream of a network file: its name, its octets per cycle if the text gives them, in which cycles it is offered, its path, its talker
+-- and its listeners if the text gives them, its deadline, its traffic, and how long its shortest frame is if the text says it
 pub record StreamText : Type 0 where
   pub name : List ℕ
   pub octets : Option ℕ
   pub pacing : Pacing
-  pub way : WantedText
+  pub path : WantedText
   pub talker : Option Talker
   pub listeners : Option (List (List ℕ))
   pub deadline : Option ℕ
   pub traffic : Option TrafficText
   pub shortest : Option ℕ
 
-abbrev pub wanted_text : WantedWay → WantedText
+abbrev pub wanted_text : WantedPath → WantedText
 wanted_text (wanted.Along paths) = Along (map (λ path. map string_bytes path.items) paths.items)
 wanted_text (wanted.Between from to) = Between from to.items
 
@@ -50,7 +50,7 @@ stream_text stream = record {
   name = string_bytes stream.name;
   octets = stream.octets;
   pacing = stream.pacing;
-  way = wanted_text stream.way;
+  path = wanted_text stream.path;
   talker = stream.talker;
   listeners = option_map (λ names. names.items) stream.listeners;
   deadline = stream.deadline;
@@ -67,7 +67,7 @@ has_path table = is_some (value_at Path table) || is_some (value_at Paths table)
 abbrev pub owed_keys : Members → List Key
 owed_keys table = Name ∷ ((if has_traffic table then [] else Octets ∷ []) ++ (if has_path table then [] else From ∷ To ∷ []))
 
--- the first key that it lacks
+-- the first key that a stream's table lacks
 abbrev pub first_lack : Members → Option FlowsFault
 first_lack table =
     option_or (option_map (λ key. flows_fault.Streams (toml_fault.Missing key)) (first_absent (owed_keys table) table))
@@ -97,12 +97,12 @@ in_step_by (Some d) = ok_or (as_bool d) flows_fault.BadInStep
 abbrev pub in_step_at : Members → Result Bool FlowsFault
 in_step_at table = in_step_by (get_member (codes "in-step") table)
 
--- its pacing is open: its talker is in step, and nothing says of how many cycles it is offered in one
+-- the pacing of a stream is open: its talker is in step, and its table has no `every`
 abbrev pub is_pacing_open : Bool → Members → Bool
 is_pacing_open in_step table = in_step && is_none (value_at Every table)
 
--- in which cycles it is offered: in one of `every`, from this phase on; or, if that is open, in those that the plan chooses, and then no key
--- may give the phase
+-- in which cycles a stream is offered: in one of `every`, from this phase on; or, if its pacing is open, in those that the plan chooses.
+-- With an open pacing, its table may not have `phase`
 abbrev pub pacing_by : ℕ → ℕ → Bool → Members → Result Pacing FlowsFault
 pacing_by every phase in_step table =
     if is_pacing_open in_step table
@@ -126,7 +126,8 @@ abbrev pub listeners_by : Option Items → Data → Result (List (List ℕ)) Tom
 listeners_by None d = and_then (ok_or (name_from d) (toml_fault.BadValue To)) (λ name. Ok (name ∷ []))
 listeners_by (Some items) d = and_then (names_from To items) if_listeners
 
--- a talker by a text: the name of a node; or of a station and of the bridge at the other end of its access link, with `@` between
+-- a talker by a text: the name of a node; or the names of a station and of the bridge at the other end of its access link, with `@` between
+-- them
 abbrev pub talker_at_bridge : ℕ → List ℕ → Option Talker
 talker_at_bridge at text =
     option_and_then (λ node. option_map (λ bridge. record { node = node; bridge = Some bridge }) (if_name (drop (suc at) text))) (if_name (take at text))
@@ -138,7 +139,7 @@ talker_by (Some at) text = talker_at_bridge at text
 abbrev pub talker_of_text : List ℕ → Option Talker
 talker_of_text text = talker_by (position (λ octet. octet == 64) text) text
 
--- the talker of a stream's table, and its listeners, where it has them
+-- the talker of a stream's table, and its listeners, if it has them
 abbrev pub talker_from : Data → Option Talker
 talker_from d = option_and_then talker_of_text (as_str d)
 
@@ -156,8 +157,8 @@ listeners_if (Some d) = and_then (listeners_by (as_array d) d) (λ names. Ok (So
 abbrev pub listeners_read : Members → Result (Option (List (List ℕ))) TomlFault
 listeners_read table = listeners_if (value_at To table)
 
--- how long the shortest frame of a stream is, where its table says it: 64 octets and more, and no more than its traffic's greatest, or any
--- frame's
+-- how many octets the shortest frame of a stream has, if its table gives it: at least 64, and at most the size of its traffic, or 1,522
+-- without traffic
 abbrev pub shortest_by : Option Data → ℕ → Result (Option ℕ) FlowsFault
 shortest_by None most = Ok None
 shortest_by (Some d) most = and_then (ok_or (number_from 64 most d) flows_fault.BadLeastSize) (λ octets. Ok (Some octets))
@@ -166,20 +167,20 @@ abbrev pub shortest_read : Option TrafficText → Members → Result (Option ℕ
 shortest_read traffic table =
     shortest_by (get_member (codes "least-size") table) (option_map_or (λ (t : TrafficText). t.size) traffic 1522)
 
--- the way between its talker's node and its listeners
+-- the path between its talker's node and its listeners
 abbrev pub between_ends : Option Talker → Option (List (List ℕ)) → Result WantedText TomlFault
 between_ends None to = Err (toml_fault.BadValue From)
 between_ends (Some talker) None = Err (toml_fault.BadValue To)
 between_ends (Some talker) (Some to) = Ok (Between talker.node to)
 
--- the branches of a stream's table, where it has them
+-- the branches of a stream's table, if it has them
 abbrev pub branches_if : Members → Result (Option (List (List (List ℕ)))) TomlFault
 branches_if table = if has_path table then and_then (branches_from table) (λ paths. Ok (Some paths)) else Ok None
 
--- the way by the branches that are given, or else by the ends
-abbrev pub way_by : Option (List (List (List ℕ))) → Option Talker → Option (List (List ℕ)) → Result WantedText TomlFault
-way_by (Some paths) talker to = Ok (Along paths)
-way_by None talker to = between_ends talker to
+-- the path along the branches that are given, or otherwise between the ends
+abbrev pub path_by : Option (List (List (List ℕ))) → Option Talker → Option (List (List ℕ)) → Result WantedText TomlFault
+path_by (Some paths) talker to = Ok (Along paths)
+path_by None talker to = between_ends talker to
 
 -- a stream's table; its traffic is read after its other keys
 abbrev pub stream_from : Members → Result StreamText FlowsFault
@@ -190,7 +191,7 @@ stream_from table =
     and_then (or_streams (branches_if table)) (λ paths.
     and_then (or_streams (talker_read table)) (λ talker.
     and_then (or_streams (listeners_read table)) (λ listeners.
-    and_then (or_streams (way_by paths talker listeners)) (λ way.
+    and_then (or_streams (path_by paths talker listeners)) (λ path.
     and_then (or_streams (deadline_from table)) (λ deadline.
     and_then (traffic_or table) (λ traffic.
     and_then (shortest_read traffic table) (λ shortest.
@@ -198,7 +199,7 @@ stream_from table =
       name = name;
       octets = octets;
       pacing = pacing;
-      way = way;
+      path = path;
       talker = talker;
       listeners = listeners;
       deadline = deadline;

@@ -25,33 +25,33 @@ fn ends_of_all(alloc: Global, edges: &[JoinedEdge]) -> Result<Vec<(End, End)>, M
     Ok(pairs)
 }
 
-/// Returns the element of the first link whose ends are those of an earlier one.
+/// Returns the index, in the text, of the element of the first link whose ends are those of an earlier link.
 pub(crate) fn find_twice(alloc: Global, edges: &[JoinedEdge]) -> Result<Option<usize>, Memory>
     ensures { IfOk result (λ element. element ≡ first_twice edges.now) }
 {
     let pairs = ends_of_all(alloc, edges)?;
     match find_repeat(alloc, pairs.as_slice())? {
-        Some(place) => Ok(element_at(edges, place)),
+        Some(index) => Ok(element_at(edges, index)),
         None => Ok(None),
     }
 }
 
-/// Returns the element of the link at an index.
-fn element_at(edges: &[JoinedEdge], place: usize) -> Option<usize>
-    requires { place < length edges.now }
-    ensures { result ≡ Some (element_at edges.now place) }
+/// Returns the index, in the text, of the element of the link at an index.
+fn element_at(edges: &[JoinedEdge], index: usize) -> Option<usize>
+    requires { index < length edges.now }
+    ensures { result ≡ Some (element_at edges.now index) }
 {
-    Some(edges[place].element())
+    Some(edges[index].element())
 }
 
-/// Whether a guard band is at least as long as each candidate.
+/// Returns whether a guard band is at least as long as each candidate.
 fn reaches_each(candidates: &[u32], guard: u32) -> bool
     ensures { result ≡ reaches_each candidates.now guard }
 {
     candidates.iter().all(|cycle| *cycle <= guard)
 }
 
-/// Whether the link is one of the plan and its guard band is at least as long as each candidate.
+/// Returns whether the link is one of the plan and its guard band is at least as long as each candidate.
 fn has_long_guard(edge: JoinedEdge, candidates: &[u32], guard: u32) -> bool
     ensures { result ≡ has_long_guard candidates.now guard edge }
 {
@@ -61,8 +61,8 @@ fn has_long_guard(edge: JoinedEdge, candidates: &[u32], guard: u32) -> bool
     reaches_each(candidates, edge.times().guard_within(guard))
 }
 
-/// Whether the link is one of the plan, and its greatest delay and how far clocks may differ, together, aren't below
-/// its guard band.
+/// Returns whether the link is one of the plan, and its greatest delay plus how far clocks may differ isn't below its
+/// guard band.
 fn has_long_delay(edge: JoinedEdge, sync: u32, guard: u32) -> bool
     ensures { result ≡ has_long_delay sync guard edge }
 {
@@ -72,7 +72,7 @@ fn has_long_delay(edge: JoinedEdge, sync: u32, guard: u32) -> bool
     edge.times().has_long_delay(sync, guard)
 }
 
-/// Whether the link is one of the plan and the gap after a frame takes longer than its guard band.
+/// Returns whether the link is one of the plan and the gap after a frame takes longer than its guard band.
 fn has_long_gap(edge: JoinedEdge, guard: u32) -> bool
     ensures { result ≡ has_long_gap guard edge }
 {
@@ -82,8 +82,8 @@ fn has_long_gap(edge: JoinedEdge, guard: u32) -> bool
     edge.times().has_long_gap(guard)
 }
 
-/// Whether the link is one of the plan, and clocks may differ by more than a shortest frame and its least delay take
-/// together.
+/// Returns whether the link is one of the plan, and clocks may differ by more than a shortest frame and its least delay
+/// take together.
 fn has_long_sync(edge: JoinedEdge, sync: u32) -> bool
     ensures { result ≡ has_long_sync sync edge }
 {
@@ -93,7 +93,8 @@ fn has_long_sync(edge: JoinedEdge, sync: u32) -> bool
     edge.times().has_long_sync(sync)
 }
 
-/// Returns the element of the first link of the plan whose guard band is at least as long as each candidate.
+/// Returns the index of the element of the first link of the plan whose guard band is at least as long as each
+/// candidate.
 fn find_long_guard(edges: &[JoinedEdge], candidates: &[u32], guard: u32) -> Option<usize>
     ensures { result ≡ first_long_guard candidates.now guard edges.now }
 {
@@ -105,8 +106,8 @@ fn find_long_guard(edges: &[JoinedEdge], candidates: &[u32], guard: u32) -> Opti
     None
 }
 
-/// Returns the element of the first link of the plan whose greatest delay and how far clocks may differ, together,
-/// aren't below its guard band.
+/// Returns the index of the element of the first link of the plan whose greatest delay plus how far clocks may differ
+/// isn't below its guard band.
 fn find_long_delay(edges: &[JoinedEdge], sync: u32, guard: u32) -> Option<usize>
     ensures { result ≡ first_long_delay sync guard edges.now }
 {
@@ -118,7 +119,8 @@ fn find_long_delay(edges: &[JoinedEdge], sync: u32, guard: u32) -> Option<usize>
     None
 }
 
-/// Returns the element of the first link of the plan on which the gap after a frame takes longer than its guard band.
+/// Returns the index of the element of the first link of the plan on which the gap after a frame takes longer than its
+/// guard band.
 fn find_long_gap(edges: &[JoinedEdge], guard: u32) -> Option<usize>
     ensures { result ≡ first_long_gap guard edges.now }
 {
@@ -130,8 +132,8 @@ fn find_long_gap(edges: &[JoinedEdge], guard: u32) -> Option<usize>
     None
 }
 
-/// Returns the element of the first link of the plan on which clocks may differ by more than a shortest frame and its
-/// least delay take together.
+/// Returns the index of the element of the first link of the plan on which clocks may differ by more than a shortest
+/// frame and its least delay take together.
 fn find_long_sync(edges: &[JoinedEdge], sync: u32) -> Option<usize>
     ensures { result ≡ first_long_sync sync edges.now }
 {
@@ -143,7 +145,7 @@ fn find_long_sync(edges: &[JoinedEdge], sync: u32) -> Option<usize>
     None
 }
 
-/// The element of the first link that has frames beside streams and leaves no station.
+/// Returns the index of the element of the first link that has frames of no stream and leaves no station.
 fn find_misplaced(edges: &[JoinedEdge]) -> Option<usize>
     ensures { result ≡ first_misplaced edges.now }
 {
@@ -155,7 +157,7 @@ fn find_misplaced(edges: &[JoinedEdge]) -> Option<usize>
     None
 }
 
-/// How many links are access links.
+/// Returns the number of access links.
 fn access_count(edges: &[JoinedEdge]) -> usize
     ensures { result ≡ length (talkers_of edges.now) }
 {
@@ -168,14 +170,14 @@ fn access_count(edges: &[JoinedEdge]) -> usize
     count
 }
 
-/// How many access links there may be: four for each station that there may be.
+/// Returns the number of access links that there may be: four for each station that there may be.
 fn access_within(limits: Limits) -> usize
     ensures { result ≡ access_within limits }
 {
     4 * limits.stations_within()
 }
 
-/// Returns how many links are links of the plan.
+/// Returns the number of links of the plan.
 pub(crate) fn bridge_edge_count(edges: &[JoinedEdge]) -> usize
     ensures { result ≡ bridge_edge_count edges.now }
 {
@@ -188,14 +190,14 @@ pub(crate) fn bridge_edge_count(edges: &[JoinedEdge]) -> usize
     count
 }
 
-/// Whether the guard band is at least as long as each candidate.
+/// Returns whether the guard band is at least as long as each candidate.
 fn is_guard_too_long(draft: &NetworkDraft) -> bool
     ensures { result ≡ is_guard_too_long draft.now }
 {
     reaches_each(draft.candidates(), draft.guard())
 }
 
-/// Whether there are more bridges, stations, links that begin at a bridge or access links than there may be.
+/// Returns whether there are more bridges, stations, links that begin at a bridge or access links than there may be.
 fn is_too_many(draft: &NetworkDraft, edges: &[JoinedEdge]) -> bool
     ensures { result ≡ is_too_many draft.now edges.now }
 {
@@ -206,8 +208,8 @@ fn is_too_many(draft: &NetworkDraft, edges: &[JoinedEdge]) -> bool
         || access_count(edges) > access_within(limits)
 }
 
-/// Makes the checks of a domain whose links are numbered, except those of its names and ends. Returns the first that
-/// fails.
+/// Makes the checks of a domain whose links are numbered, except those of its names and ends. Returns the first check
+/// that fails.
 pub(crate) fn check(
     alloc: Global,
     draft: &NetworkDraft,

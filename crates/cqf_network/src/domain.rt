@@ -1,6 +1,6 @@
 //! The domain of a network file.
-ghost use Rattle.std.specs.Prelude.{◌≡◌, All, IfOk, IfSome, find, map, nat_lt, option_map};
-ghost use Rattle.cqf_model.specs.Limits.{most_bridges, most_stations};
+ghost use Rattle.std.specs.Prelude.{◌≡◌, ◌≤◌, All, IfOk, IfSome, find, map, nat_lt, option_map};
+ghost use Rattle.cqf_model.specs.Limits.{most_bridges, most_overhead, most_stations};
 ghost use Rattle.cqf_network.specs.Edges.{talkers_of};
 ghost use Rattle.cqf_topology.specs.Fields.{Gives};
 ghost use Rattle.cqf_network.specs.NetworkDomain.{AreCandidates, AreCheckedEdges, HasNumberedNames, HasTalkerLinks, IsOpenCycle, IsReadableNetwork, domain_at, longest_guard, longest_of, open_cycle};
@@ -26,21 +26,22 @@ pub struct TalkerLink {
     pub rate: Rate,
     /// The greatest delay, in nanoseconds.
     pub delay: u32,
-    /// The least delay, at most the greatest.
+    /// The least delay, in nanoseconds, at most the greatest.
     pub least: u32,
-    /// The most octets that a frame has which the station sends beside its streams, 64 to 1,522; `None` where it sends no such frame.
+    /// The greatest size of a frame of no stream that the station sends, 64 to 1,522 octets; `None` if it sends no such frame.
     pub other: Option<u32>,
 }
 
-/// The domain of a network file: its limits, the candidates for its cycle time in the order of preference, its guard
-/// band, how far its clocks may differ, its bridges and stations by name and by number, the plan's directed links by
-/// number, and the talkers' links.
+/// The domain of a network file: its limits; the candidates for its cycle time, in order of preference; its guard band; how far its clocks
+/// may differ; the octets of each frame that gates don't count; its bridges and stations, by name and by number; the plan's directed links,
+/// by number; and the access links.
 #[derive(Debug, Drop)]
 pub struct NetworkDomain {
     limits: Limits,
     candidates: Vec<u32>,
     guard: u32,
     sync: u32,
+    overhead: u32,
     bridges: NameList,
     stations: NameList,
     links: LinkList,
@@ -57,6 +58,7 @@ impl Model for NetworkDomain {
       candidates = d.candidates.items;
       guard = d.guard;
       sync = d.sync;
+      overhead = d.overhead;
       bridges = d.bridges.keys;
       stations = d.stations.keys;
       links = d.links.items;
@@ -68,6 +70,7 @@ impl Model for NetworkDomain {
       candidates = d.candidates.items;
       guard = d.guard;
       sync = d.sync;
+      overhead = d.overhead;
       bridges = d.bridges.keys;
       stations = d.stations.keys;
       links = d.links.items;
@@ -112,7 +115,7 @@ fn links_of(alloc: Global, edges: &[JoinedEdge]) -> Result<Vec<Link>, Memory>
     Ok(links)
 }
 
-/// Returns the talkers' links, if node numbers are in their ranges.
+/// Returns the access links, if node numbers are in their ranges.
 fn talker_links(alloc: Global, edges: &[JoinedEdge]) -> Result<Vec<TalkerLink>, Memory>
     requires { All (EdgeInside most_bridges most_stations) edges.now }
     ensures { IfOk result (λ talkers. talkers.items ≡ map talker_of (talkers_of edges.now)) }
@@ -165,6 +168,7 @@ impl NetworkDomain {
             candidates,
             guard: draft.guard(),
             sync: draft.sync(),
+            overhead: draft.overhead(),
             bridges,
             stations,
             links,
@@ -188,16 +192,18 @@ impl NetworkDomain {
     /// 10,000,000 ns. Unknown keys are ignored.
     ///
     /// # Errors
-    /// The first fault of reading, as of [`read_draft`]. Then, each over the whole text before the next:
+    /// The first fault of reading, as for [`read_draft`], then the first of these checks that fails. Each check is made over the whole text
+    /// before the next:
     /// - `NameTaken`: a name is the same as one before it, bridges before stations;
-    /// - `UnknownName`: `from` names no node; or `to` names no other node, or no bridge if `from` is a station;
-    /// - `LinkTwice`: a link leads as an earlier one does, also in the direction back of a `duplex` one;
-    /// - `GuardTooLong`: the guard band isn't shorter than the greatest candidate; `LinkGuardTooLong`: the own guard band of a link that begins
-    ///   at a bridge isn't;
-    /// - `DelayTooLong`: the greatest delay of a link that begins at a bridge, with how far clocks may be apart, isn't below its guard band;
+    /// - `UnknownName`: `from` names no node; `to` names no other node; or `from` names a station, and `to` no bridge;
+    /// - `LinkTwice`: a link has the same ends as an earlier one; a `duplex` link counts in both directions;
+    /// - `GuardTooLong`: the guard band isn't shorter than the greatest candidate; `LinkGuardTooLong`: a link that begins at a bridge has a
+    ///   guard band that isn't;
+    /// - `DelayTooLong`: the greatest delay of a link that begins at a bridge plus how far clocks may be apart isn't below its guard band;
     /// - `GapTooLong`: the gap after a frame takes longer than the guard band of such a link;
     /// - `TooMany`: there are too many bridges, stations, links that begin at a bridge, or access links;
-    /// - `SyncTooLong`: on a link that begins at a bridge clocks may be further apart than a shortest frame and its least delay take together;
+    /// - `SyncTooLong`: on a link that begins at a bridge, clocks may be further apart than a shortest frame and its least delay take
+    ///   together;
     /// - `NoAccessLink`: a link has `other` and begins at a station in neither direction.
     ///
     /// A link is given by the index of its element in `links`, from 0. `Memory` if an allocation fails.
@@ -215,11 +221,11 @@ impl NetworkDomain {
         NetworkDomain::of_draft(alloc, &draft)
     }
 
-    /// The domain of a text whose cycle time is one number, as every command but `plan` reads it. The domain has this one candidate, and it
-    /// is open.
+    /// Returns the domain of a text whose cycle time is one number, as every command except `plan` reads it. The domain has this one
+    /// candidate, and it is open.
     ///
     /// # Errors
-    /// As of [`NetworkDomain::read`], but that an array at `cycle` is `BadValue`.
+    /// As for [`NetworkDomain::read`], except that an array at `cycle` is `BadValue`.
     pub fn read_one(
         alloc: Global,
         text: &[u8],
@@ -248,6 +254,7 @@ impl NetworkDomain {
             cycle_time,
             self.guard,
             self.sync,
+            self.overhead,
             bridges,
             stations,
             links,
@@ -292,6 +299,14 @@ impl NetworkDomain {
         self.sync
     }
 
+    /// Returns how many octets of each frame gates don't count, at most 22.
+    pub fn overhead(&self) -> u32
+        ensures value { result ≡ self.now.overhead }
+        ensures short { result ≤ most_overhead }
+    {
+        self.overhead
+    }
+
     /// Returns the plan's links, by number.
     pub fn links(&self) -> &[Link]
         ensures { result.now ≡ self.now.links }
@@ -308,14 +323,14 @@ impl NetworkDomain {
         let _ = &self.talkers;
     }
 
-    /// The names of the bridges, by number.
+    /// Returns the names of the bridges, by number.
     pub fn bridges(&self) -> &NameList
         ensures { result.now.keys ≡ self.now.bridges }
     {
         &self.bridges
     }
 
-    /// The names of the stations, by number.
+    /// Returns the names of the stations, by number.
     pub fn stations(&self) -> &NameList
         ensures { result.now.keys ≡ self.now.stations }
     {

@@ -6,7 +6,7 @@ ghost use Rattle.cqf_lists.specs.Results.{and_then};
 ghost use Rattle.cqf_topology.specs.Fields.{Gives, names_at, number_from};
 ghost use Rattle.cqf_topology.specs.DomainText.{if_some};
 ghost use Rattle.cqf_network.specs.Faults.{network_fault};
-ghost use Rattle.cqf_network.specs.NetworkText.{candidates_read, duplex_at, link_read, links_from, links_read, one_from, one_of_text, one_way_read, other_at};
+ghost use Rattle.cqf_network.specs.NetworkText.{candidates_read, duplex_at, link_read, links_from, links_read, one_direction_read, one_from, one_of_text, other_at};
 ghost use Rattle.cqf_network.specs.NetworkText.{draft_from, draft_of_text, network_with_cycles};
 
 use crate::NetworkFault;
@@ -15,7 +15,7 @@ use crate::frames::{LONGEST_FRAME, frame_octets};
 use cqf_model::{LONGEST_CYCLE, Limits};
 use cqf_topology::{
     DomainFault, Key, LinkTimes, TomlFault, are_all_tables, array_at, name_at, names_at, number_at,
-    read_document, sync_at, times_at,
+    overhead_at, read_document, sync_at, times_at,
 };
 use cqf_units::Name;
 use std::alloc::Global;
@@ -24,7 +24,7 @@ use toml::{Table, Value};
 
 /// A link in one direction, by the names of its ends.
 #[derive(Debug, Drop)]
-pub struct OneWay {
+pub struct OneDirection {
     pub from: Name,
     pub to: Name,
     pub times: LinkTimes,
@@ -33,20 +33,22 @@ pub struct OneWay {
 /// A link of a network file, in its written direction; if it is `duplex`, also in the opposite one.
 #[derive(Debug, Drop)]
 pub struct NetworkLink {
-    pub there: OneWay,
+    pub there: OneDirection,
     pub duplex: bool,
-    /// The most octets that a frame has which the station that it leaves, there or back, sends beside its streams; `None` where it sends no
-    /// such frame.
+    /// The greatest size of a frame of no stream, in octets, that is sent by the station that the link leaves, in the written or in the
+    /// opposite direction; `None` if it sends no such frame.
     pub other: Option<u32>,
 }
 
-/// The domain of a network file as its text says it: times in nanoseconds, and links by the names of their ends.
+/// The domain of a network file as its text says it: times in nanoseconds, the octets of a frame that gates don't count, and links by the
+/// names of their ends.
 #[derive(Debug, Drop)]
 pub struct NetworkDraft {
     limits: Limits,
     candidates: Vec<u32>,
     guard: u32,
     sync: u32,
+    overhead: u32,
     bridges: Vec<Name>,
     stations: Vec<Name>,
     links: Vec<NetworkLink>,
@@ -57,7 +59,7 @@ impl Model for NetworkDraft {
 
     ghost Value = { NetworkText };
 
-    ghost view = { λ d. record { limits = d.limits; candidates = d.candidates.items; guard = d.guard; sync = d.sync; bridges = d.bridges.items; stations = d.stations.items; links = d.links.items } };
+    ghost view = { λ d. record { limits = d.limits; candidates = d.candidates.items; guard = d.guard; sync = d.sync; overhead = d.overhead; bridges = d.bridges.items; stations = d.stations.items; links = d.links.items } };
 }
 
 impl NetworkDraft {
@@ -75,30 +77,42 @@ impl NetworkDraft {
         self.candidates.as_slice()
     }
 
+    /// Returns the guard band, in nanoseconds.
     pub fn guard(&self) -> u32
         ensures { result ≡ self.now.guard }
     {
         self.guard
     }
 
+    /// Returns by how much clocks may differ, in nanoseconds.
     pub fn sync(&self) -> u32
         ensures { result ≡ self.now.sync }
     {
         self.sync
     }
 
+    /// Returns how many octets of each frame gates don't count.
+    pub fn overhead(&self) -> u32
+        ensures { result ≡ self.now.overhead }
+    {
+        self.overhead
+    }
+
+    /// Returns the names of the bridges, in order.
     pub fn bridges(&self) -> &[Name]
         ensures { result.now ≡ self.now.bridges }
     {
         self.bridges.as_slice()
     }
 
+    /// Returns the names of the stations, in order.
     pub fn stations(&self) -> &[Name]
         ensures { result.now ≡ self.now.stations }
     {
         self.stations.as_slice()
     }
 
+    /// Returns the links, in order.
     pub fn links(&self) -> &[NetworkLink]
         ensures { result.now ≡ self.now.links }
     {
@@ -119,16 +133,16 @@ const KEYS: [Key; 5] = [
 const LINK_KEYS: [Key; 4] = [Key::From, Key::To, Key::Rate, Key::Delay];
 
 /// Returns the written direction of a link's table.
-fn read_one_way(table: &Table) -> Result<OneWay, TomlFault>
-    ensures { result ≡ one_way_read (table_view table.now) }
+fn read_one_direction(table: &Table) -> Result<OneDirection, TomlFault>
+    ensures { result ≡ one_direction_read (table_view table.now) }
 {
     let from = name_at(table, Key::From)?;
     let to = name_at(table, Key::To)?;
     let times = times_at(table)?;
-    Ok(OneWay { from, to, times })
+    Ok(OneDirection { from, to, times })
 }
 
-/// Whether a value says that a link has both directions.
+/// Returns whether a value says that a link has both directions.
 fn is_duplex(value: &Value) -> Result<bool, NetworkFault>
     ensures { result ≡ ok_or (as_bool (view value.now)) NetworkFault.BadDuplex }
 {
@@ -145,7 +159,7 @@ fn duplex_value(table: &Table) -> Option<&Value>
     table.get("duplex")
 }
 
-/// Whether a link's table says that the link has both directions.
+/// Returns whether a link's table says that the link has both directions.
 fn read_duplex(table: &Table) -> Result<bool, NetworkFault>
     ensures { result ≡ duplex_at (table_view table.now) }
 {
@@ -155,7 +169,7 @@ fn read_duplex(table: &Table) -> Result<bool, NetworkFault>
     }
 }
 
-/// The size of frames beside streams that a value means, in octets.
+/// Returns the greatest size of a frame of no stream that a value means, in octets.
 fn other_octets(value: &Value) -> Result<u32, NetworkFault>
     ensures { result ≡ ok_or (number_from 64 1522 (view value.now)) NetworkFault.BadOther }
 {
@@ -165,14 +179,14 @@ fn other_octets(value: &Value) -> Result<u32, NetworkFault>
     }
 }
 
-/// The value at `other` of a link's table.
+/// Returns the value at `other` of a link's table.
 fn other_value(table: &Table) -> Option<&Value>
     ensures { option_map (λ v. view v.now) result ≡ get_member (codes "other") (table_view table.now) }
 {
     table.get("other")
 }
 
-/// The size of frames beside streams, in octets, where a link's table says it.
+/// Returns the greatest size of a frame of no stream, in octets, if a link's table gives it.
 fn read_other(table: &Table) -> Result<Option<u32>, NetworkFault>
     ensures { result ≡ other_at (table_view table.now) }
 {
@@ -189,7 +203,7 @@ fn read_other(table: &Table) -> Result<Option<u32>, NetworkFault>
 fn read_link(table: &Table) -> Result<NetworkLink, NetworkFault>
     ensures { result ≡ link_read (table_view table.now) }
 {
-    let there = read_one_way(table)?;
+    let there = read_one_direction(table)?;
     let duplex = read_duplex(table)?;
     let other = read_other(table)?;
     Ok(NetworkLink {
@@ -257,7 +271,7 @@ fn read_candidates(
     }
 }
 
-/// A domain's table, with these cycle times in place of its own.
+/// Reads a domain's table, with these cycle times in place of its own.
 fn read_with_cycles(
     alloc: Global,
     table: &Table,
@@ -269,6 +283,7 @@ fn read_with_cycles(
 {
     let guard = number_at(table, Key::Guard, 1, LONGEST_CYCLE)?;
     let sync = sync_at(table)?;
+    let overhead = overhead_at(table)?;
     let bridges = read_bridges(alloc, table)?;
     let stations = names_at(alloc, table, Key::Stations)?;
     let links = read_links(alloc, table)?;
@@ -277,13 +292,14 @@ fn read_with_cycles(
         candidates,
         guard,
         sync,
+        overhead,
         bridges,
         stations,
         links,
     })
 }
 
-/// A domain's table, whose cycle time may be open.
+/// Reads a domain's table, whose cycle time may be open.
 fn read_table(
     alloc: Global,
     table: &Table,
@@ -297,7 +313,7 @@ fn read_table(
     read_with_cycles(alloc, table, limits, candidates)
 }
 
-/// A domain's table, whose cycle time isn't open.
+/// Reads a domain's table, whose cycle time isn't open.
 fn read_one_table(
     alloc: Global,
     table: &Table,
@@ -321,8 +337,9 @@ fn owed_keys(keys: &[Key; 5], given: bool) -> &[Key]
 /// reading it. If candidates for the cycle time are given, the text's `cycle` isn't read. Unknown keys are ignored.
 ///
 /// # Errors
-/// `NotToml`, `Missing` and `BadValue` as of a domain, except that `cycle` may be an array of 1 to 1,000 cycle times. After a link's other
-/// keys `BadDuplex` if `duplex` is no boolean, and `BadOther` if `other` is no integer from 64 to 1,522. `Memory` if an allocation fails.
+/// `NotToml`, `Missing` and `BadValue` as for the text of a plan's domain, except that `cycle` may be an array of 1 to 1,000 cycle times.
+/// After a link's other keys, `BadDuplex` if `duplex` isn't a boolean, and `BadOther` if `other` isn't an integer from 64 to 1,522.
+/// `Memory` if an allocation fails.
 pub fn read_draft(
     alloc: Global,
     text: &[u8],
@@ -337,10 +354,10 @@ pub fn read_draft(
     read_table(alloc, &table, limits, given)
 }
 
-/// Returns what the text of a domain says whose cycle time isn't open: it is one number.
+/// Returns what the text of a domain says if its cycle time isn't open, but one number.
 ///
 /// # Errors
-/// As of [`read_draft`], except that an array at `cycle` is `BadValue`.
+/// As for [`read_draft`], except that an array at `cycle` is `BadValue`.
 pub fn read_one_draft(
     alloc: Global,
     text: &[u8],

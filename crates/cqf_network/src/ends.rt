@@ -4,11 +4,11 @@ ghost use Rattle.cqf_model.specs.Limits.{most_bridges, most_stations};
 ghost use Rattle.cqf_topology.specs.Fields.{Gives};
 ghost use Rattle.cqf_topology.specs.JoinedLink.{node_of};
 ghost use Rattle.cqf_network.specs.NetworkDomain.{EdgeInside, NodeInside, link_of, number_of, talker_of};
-ghost use Rattle.cqf_network.specs.Edges.{back_of, both_ways, edges_of, ends_of, is_misplaced, is_talkers, joined, joined_edge, may_lead, pair_of, without_other};
+ghost use Rattle.cqf_network.specs.Edges.{back_of, both_directions, edges_of, ends_of, is_misplaced, is_talkers, joined, joined_edge, may_lead, pair_of, without_other};
 
 use crate::NetworkFault;
 use crate::domain::TalkerLink;
-use crate::draft::{NetworkLink, OneWay};
+use crate::draft::{NetworkLink, OneDirection};
 use cqf_model::{Link, Node};
 use cqf_topology::{DomainFault, End, LinkTimes, NameList, end_of_name};
 use cqf_units::{Memory, Name};
@@ -36,7 +36,7 @@ impl Model for JoinedEdge {
     ghost inverse = { λ e. record { from = end_of_joined e.from; to = end_of_joined e.to; times = e.times; other = e.other; element = e.element } };
 }
 
-/// Whether a link can lead from one node to another.
+/// Returns whether a link can lead from one node to another.
 fn may_lead(from: End, to: End) -> bool
     ensures { result ≡ may_lead (node_of from) (node_of to) }
 {
@@ -53,32 +53,32 @@ fn join_edge(
     stations: &NameList,
     element: usize,
     other: Option<u32>,
-    way: &OneWay,
+    path: &OneDirection,
 ) -> Result<JoinedEdge, NetworkFault>
-    ensures { result ≡ joined_edge bridges.now.keys stations.now.keys element other way.now }
+    ensures { result ≡ joined_edge bridges.now.keys stations.now.keys element other path.now }
 {
-    let from = match end_of_name(bridges, stations, &way.from) {
+    let from = match end_of_name(bridges, stations, &path.from) {
         Some(from) => from,
-        None => return Err(NetworkFault::Domain(DomainFault::UnknownName(way.from.copied()))),
+        None => return Err(NetworkFault::Domain(DomainFault::UnknownName(path.from.copied()))),
     };
-    let to = match end_of_name(bridges, stations, &way.to) {
+    let to = match end_of_name(bridges, stations, &path.to) {
         Some(to) => to,
-        None => return Err(NetworkFault::Domain(DomainFault::UnknownName(way.to.copied()))),
+        None => return Err(NetworkFault::Domain(DomainFault::UnknownName(path.to.copied()))),
     };
     if !may_lead(from, to) {
-        return Err(NetworkFault::Domain(DomainFault::UnknownName(way.to.copied())));
+        return Err(NetworkFault::Domain(DomainFault::UnknownName(path.to.copied())));
     }
     Ok(JoinedEdge {
         from,
         to,
-        times: way.times,
+        times: path.times,
         other,
         element,
     })
 }
 
 impl JoinedEdge {
-    /// Whether it leaves a station, and so is a talker's link.
+    /// Returns whether it leaves a station, and so is an access link.
     pub(crate) fn is_talkers(self) -> bool
         ensures { result ≡ is_talkers self }
     {
@@ -110,7 +110,7 @@ impl JoinedEdge {
         }
     }
 
-    /// Returns it as a talker's link.
+    /// Returns it as an access link.
     pub(crate) fn talker(self) -> TalkerLink
         requires { EdgeInside most_bridges most_stations self }
         ensures { result ≡ talker_of self }
@@ -132,7 +132,7 @@ impl JoinedEdge {
         self.element
     }
 
-    /// Returns the members of its table other than its ends.
+    /// Returns its rate, its delays and its own guard band.
     pub(crate) fn times(self) -> LinkTimes
         ensures { result ≡ self.times }
     {
@@ -152,7 +152,7 @@ impl JoinedEdge {
         }
     }
 
-    /// The same link without frames beside streams.
+    /// Returns the same link without frames of no stream.
     fn without_other(self) -> JoinedEdge
         ensures { result ≡ without_other self }
     {
@@ -162,7 +162,7 @@ impl JoinedEdge {
         }
     }
 
-    /// Whether it has frames beside streams and leaves no station.
+    /// Returns whether it has frames of no stream and leaves no station.
     pub(crate) fn is_misplaced(self) -> bool
         ensures { result ≡ is_misplaced self }
     {
@@ -192,9 +192,10 @@ fn small_node(end: End) -> Node
     }
 }
 
-/// Adds both directions of a link to those of others. Frames beside streams belong to the one that leaves the station.
+/// Appends both directions of a link to those of others. Frames of no stream belong to the direction that leaves the
+/// station.
 fn add_both(edges: &mut Vec<JoinedEdge>, edge: JoinedEdge) -> Result<(), Memory>
-    ensures { OnOk result (edges.new.items ≡ edges.old.items ++ both_ways edge) }
+    ensures { OnOk result (edges.new.items ≡ edges.old.items ++ both_directions edge) }
 {
     let back = edge.back();
     if back.is_talkers() {

@@ -17,9 +17,10 @@ pub enum NetworkFault {
     Domain(DomainFault),
     /// The value at `duplex` of a link isn't a boolean.
     BadDuplex,
-    /// The value at `other` of a link is no size of a frame.
+    /// The value at `other` of a link isn't an integer from 64 to 1,522.
     BadOther,
-    /// The first link that has `other` and leaves no station, there or back, by its element's place in `links`, from 0.
+    /// The first link that has `other` and leaves no station in any of its directions, by the index of its element in
+    /// `links`, from 0.
     NoAccessLink(usize),
 }
 
@@ -36,7 +37,7 @@ impl fmt::Display for NetworkFault {
     }
 }
 
-/// Makes a fault of reading one of a network file.
+/// Converts a fault of reading into a fault of a network file.
 impl From<TomlFault> for NetworkFault {
     ghost from_gives = { λ early fault. fault ≡ network_fault early };
 
@@ -45,7 +46,7 @@ impl From<TomlFault> for NetworkFault {
     }
 }
 
-/// Makes a fault of a plan's domain one of a network file.
+/// Converts a fault of a plan's domain into a fault of a network file.
 impl From<DomainFault> for NetworkFault {
     ghost use Rattle.cqf_network.specs.declared.faults.NetworkFault.TheVariants as variant;
 
@@ -56,7 +57,7 @@ impl From<DomainFault> for NetworkFault {
     }
 }
 
-/// Makes a failed allocation a fault.
+/// Converts a failed allocation into a fault.
 impl From<Memory> for NetworkFault {
     ghost use Rattle.cqf_topology.specs.declared.faults.DomainFault.TheVariants as domain;
     ghost use Rattle.cqf_network.specs.declared.faults.NetworkFault.TheVariants as variant;
@@ -68,7 +69,7 @@ impl From<Memory> for NetworkFault {
     }
 }
 
-/// Makes a failed allocation for a value a fault.
+/// Converts a failed allocation of a value into a fault.
 impl<T: Drop> From<AllocFailed<T>> for NetworkFault {
     ghost use Rattle.cqf_topology.specs.declared.faults.DomainFault.TheVariants as domain;
     ghost use Rattle.cqf_network.specs.declared.faults.NetworkFault.TheVariants as variant;

@@ -8,10 +8,10 @@ use toml::Value;
 /// The shortest frame, with header, tag and FCS, in octets (IEEE 802.3).
 const SHORTEST_FRAME: u32 = 64;
 
-/// The longest frame, likewise.
+/// The longest frame, with header, tag and FCS, in octets (IEEE 802.3).
 pub(crate) const LONGEST_FRAME: u32 = 1_522;
 
-/// The size of a frame that a value means, an integer from 64 octets to `most`.
+/// Returns the size of a frame that a value means, an integer from 64 to `most` octets, or `None` if it means none.
 pub(crate) fn frame_octets(value: &Value, most: u32) -> Option<u32>
     ensures { result ≡ number_from 64 most (view value.now) }
 {

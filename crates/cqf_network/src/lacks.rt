@@ -10,7 +10,7 @@ use cqf_topology::{Key, StreamsFault, value_at};
 use cqf_traffic::{FlowsFault, first_owed, traffic_of};
 use toml::{Table, Value};
 
-/// Whether a stream's table has a key of traffic.
+/// Returns whether a stream's table has a key of traffic.
 fn has_traffic(table: &Table) -> bool
     ensures { result ≡ has_traffic (table_view table.now) }
 {
@@ -20,7 +20,7 @@ fn has_traffic(table: &Table) -> bool
     }
 }
 
-/// Whether a stream's table gives branches.
+/// Returns whether a stream's table gives branches.
 pub(crate) fn has_path(table: &Table) -> bool
     ensures { result ≡ has_path (table_view table.now) }
 {

@@ -13,7 +13,7 @@ use cqf_units::Name;
 use std::alloc::Global;
 use toml::{Table, Value};
 
-/// A stream with nothing left to plan, as its talker has it: its request, its deadline and its traffic, and where its text says them its
+/// A stream with nothing left to plan, as its talker has it: its request, its deadline and its traffic; and, if its text gives them, its
 /// talker, its listeners, and how many octets its shortest frame has.
 #[derive(Debug, Drop)]
 pub struct NetworkFlow {
@@ -23,7 +23,7 @@ pub struct NetworkFlow {
     pub shortest: Option<u32>,
 }
 
-/// A stream's table.
+/// Reads a stream's table.
 fn read_network_flow(alloc: Global, table: &Table) -> Result<NetworkFlow, FlowsFault>
     ensures { Gives (FlowsFault.Streams StreamsFault.Memory) network_flow_text result (network_flow_from (table_view table.now)) }
 {
@@ -39,7 +39,7 @@ fn read_network_flow(alloc: Global, table: &Table) -> Result<NetworkFlow, FlowsF
     })
 }
 
-/// A stream, as an element of the array of streams.
+/// Reads a stream, as an element of the array of streams.
 fn network_flow_in(alloc: Global, value: &Value) -> Result<NetworkFlow, FlowsFault>
     ensures { Gives (FlowsFault.Streams StreamsFault.Memory) network_flow_text result
         (and_then (ok_or (as_table (view value.now)) (FlowsFault.Streams (StreamsFault.BadValue Key.Streams))) network_flow_from) }
@@ -50,7 +50,7 @@ fn network_flow_in(alloc: Global, value: &Value) -> Result<NetworkFlow, FlowsFau
     }
 }
 
-/// The elements of the array of streams.
+/// Reads the elements of the array of streams.
 fn network_flows_in(alloc: Global, values: &[Value]) -> Result<Vec<NetworkFlow>, FlowsFault>
     ensures { Gives (FlowsFault.Streams StreamsFault.Memory) (λ flows. map network_flow_text flows.items) result
         (network_flows_from (items_view values.now)) }
@@ -63,7 +63,7 @@ fn network_flows_in(alloc: Global, values: &[Value]) -> Result<Vec<NetworkFlow>,
     Ok(flows)
 }
 
-/// The streams of a document.
+/// Reads the streams of a document.
 fn network_flows_of_table(alloc: Global, table: &Table) -> Result<Vec<NetworkFlow>, FlowsFault>
     ensures { Gives (FlowsFault.Streams StreamsFault.Memory) (λ flows. map network_flow_text flows.items) result
         (network_flows_in (table_view table.now)) }
@@ -75,12 +75,12 @@ fn network_flows_of_table(alloc: Global, table: &Table) -> Result<Vec<NetworkFlo
     network_flows_in(alloc, values)
 }
 
-/// The streams of a text with nothing left to plan, in its order, as their talkers have them. The text is that of
-/// [`cqf_traffic::read_flows`], where a table may have `from`, `to` and `least-size` too, which are read in this order after its other keys.
+/// Returns the streams of a text with nothing left to plan, in its order, as their talkers have them. The text is that of
+/// [`cqf_traffic::read_flows`]. A table may also have `from`, `to` and `least-size`, which are read in this order after its other keys.
 ///
 /// # Errors
-/// As of [`cqf_traffic::read_flows`], and of each stream `BadValue` of the first of these keys with another value than it may have
-/// ([`read_network_streams`](crate::read_network_streams)); `Memory` where a growth is refused.
+/// As for [`cqf_traffic::read_flows`], and for each stream `BadValue` with the first of these keys that has a wrong value
+/// ([`read_network_streams`](crate::read_network_streams)). `Memory` if an allocation fails.
 pub fn read_network_flows(alloc: Global, text: &[u8]) -> Result<Vec<NetworkFlow>, FlowsFault>
     ensures { Gives (FlowsFault.Streams StreamsFault.Memory) (λ flows. map network_flow_text flows.items) result (network_flows_of_text text.now) }
 {

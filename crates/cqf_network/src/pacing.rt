@@ -17,7 +17,7 @@ pub enum Pacing {
     InStep,
 }
 
-/// Whether a value says that a talker is in step.
+/// Returns whether a value says that a talker is in step.
 fn is_in_step(value: &Value) -> Result<bool, FlowsFault>
     ensures { result ≡ ok_or (as_bool (view value.now)) FlowsFault.BadInStep }
 {
@@ -34,7 +34,7 @@ fn in_step_value(table: &Table) -> Option<&Value>
     table.get("in-step")
 }
 
-/// Whether the talker of a stream's table is in step.
+/// Returns whether the talker of a stream's table is in step.
 fn read_in_step(table: &Table) -> Result<bool, FlowsFault>
     ensures { result ≡ in_step_at (table_view table.now) }
 {
@@ -44,15 +44,15 @@ fn read_in_step(table: &Table) -> Result<bool, FlowsFault>
     }
 }
 
-/// Whether the pacing of a stream's table is open: its talker is in step, and nothing says of how many cycles it is offered in one.
+/// Returns whether the pacing of a stream's table is open: its talker is in step, and the table has no `every`.
 fn is_open(table: &Table, in_step: bool) -> bool
     ensures { result ≡ is_pacing_open in_step (table_view table.now) }
 {
     in_step && value_at(table, Key::Every).is_none()
 }
 
-/// The pacing of a stream's table with these cycles, whose talker may be in step: then it is open, unless the table says of how many cycles
-/// the stream is offered in one.
+/// Returns the pacing of a stream's table with these cycles. If its talker is in step, the pacing is open, unless the table has `every`. An
+/// open pacing is `BadValue` with `phase` if the table has `phase`.
 fn pacing_by(table: &Table, every: u32, phase: u32, in_step: bool) -> Result<Pacing, FlowsFault>
     ensures { result ≡ pacing_by every phase in_step (table_view table.now) }
 {

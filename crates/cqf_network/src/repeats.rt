@@ -8,7 +8,7 @@ use cqf_units::Memory;
 use indexmap::IndexSet;
 use std::alloc::Global;
 
-/// Whether a pair of ends is held.
+/// Returns whether a pair of ends is held.
 fn holds(held: &IndexSet<(End, End)>, pair: (End, End)) -> bool
     ensures { result ≡ list_any (same_pair (pair_of pair)) (map pair_of held.now.keys) }
 {
@@ -26,13 +26,13 @@ fn hold(held: &mut IndexSet<(End, End)>, pair: (End, End)) -> Result<(), Memory>
 
 /// Returns the index of the first pair that occurred earlier.
 pub(crate) fn find_repeat(alloc: Global, pairs: &[(End, End)]) -> Result<Option<usize>, Memory>
-    ensures first { IfOk result (λ place. place ≡ first_repeat [] (map pair_of pairs.now)) }
-    ensures within { IfOk result (λ place. IfSome place (λ place. place < length pairs.now)) }
+    ensures first { IfOk result (λ index. index ≡ first_repeat [] (map pair_of pairs.now)) }
+    ensures within { IfOk result (λ index. IfSome index (λ index. index < length pairs.now)) }
 {
     let mut held = IndexSet::new(alloc);
-    for (place, pair) in pairs.iter().enumerate() {
+    for (index, pair) in pairs.iter().enumerate() {
         if holds(&held, *pair) {
-            return Ok(Some(place));
+            return Ok(Some(index));
         }
         hold(&mut held, *pair)?;
     }

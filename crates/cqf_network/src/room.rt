@@ -1,7 +1,7 @@
 //! Links, and what a stream to be placed costs on each.
 ghost use Rattle.std.specs.Prelude.{◌≡◌, ◌<◌, length};
 ghost use Rattle.cqf_network.specs.Ends.{open_to};
-ghost use Rattle.cqf_network.specs.Ways.{has_room, led_by};
+ghost use Rattle.cqf_network.specs.Paths.{has_room, led_by};
 
 use cqf_model::{Link, Node};
 
@@ -10,7 +10,7 @@ use cqf_model::{Link, Node};
 #[derive(Clone, Copy)]
 pub struct Room<'a> {
     pub links: &'a [Link],
-    /// By link.
+    /// What each link has left, in octets per cycle, by the link's number.
     pub left: &'a [u32],
     pub cost: u32,
 }
@@ -27,7 +27,7 @@ fn led_from(node: Node, link: &Link) -> Option<Node>
 }
 
 impl<'a> Room<'a> {
-    /// Whether the link with a number has room.
+    /// Returns whether the link with a number has room.
     pub(crate) fn has(self, link: usize) -> bool
         ensures { result ≡ has_room self.entry.left.now self.entry.cost link }
     {

@@ -10,7 +10,7 @@ ghost use Rattle.cqf_network.specs.StreamsText.{octets_from, network_streams_of_
 use crate::lacks::first_lack_of;
 use crate::pacing::{Pacing, read_pacing};
 use crate::talkers::{Talker, read_listeners, read_shortest, read_talker};
-use crate::wanted::{WantedWay, read_branches, way_by};
+use crate::wanted::{WantedPath, path_by, read_branches};
 use cqf_topology::{
     Key, StreamsFault, are_all_tables, array_at, deadline_of, number_at, read_document, text_at,
     value_at,
@@ -27,16 +27,17 @@ pub struct Stream {
     /// The reservation, in octets per cycle, if the text gives it. Otherwise there is traffic.
     pub octets: Option<u32>,
     pub pacing: Pacing,
-    pub way: WantedWay,
-    /// Where the text says it.
+    pub path: WantedPath,
+    /// The stream's talker, if the text gives it.
     pub talker: Option<Talker>,
-    /// Where the text says them: 1 to 64 and all different.
+    /// The stream's listeners, if the text gives them: 1 to 64, all different.
     pub listeners: Option<Vec<Name>>,
-    /// In nanoseconds: from the instant at which a talker's station hands a frame to its access link, or else from its edge bridge.
+    /// The deadline, in nanoseconds: from the instant at which the talker's station hands a frame to its access link, or otherwise from the
+    /// frame's arrival at its edge bridge. `None` if the text gives none.
     pub deadline: Option<u32>,
-    /// What the talker promises there.
+    /// What the talker promises at the same point, the hand-over or the edge bridge.
     pub traffic: Option<Traffic>,
-    /// How many octets its shortest frame has, where the text says it.
+    /// How many octets the stream's shortest frame has, if the text gives it.
     pub shortest: Option<u32>,
 }
 
@@ -73,7 +74,7 @@ fn read_stream(alloc: Global, table: &Table) -> Result<Stream, FlowsFault>
     let paths = read_branches(alloc, table)?;
     let talker = read_talker(table)?;
     let listeners = read_listeners(alloc, table)?;
-    let way = way_by(alloc, paths, &talker, &listeners)?;
+    let path = path_by(alloc, paths, &talker, &listeners)?;
     let deadline = deadline_of(table)?;
     let traffic = read_traffic(table)?;
     let shortest = read_shortest(table, &traffic)?;
@@ -81,7 +82,7 @@ fn read_stream(alloc: Global, table: &Table) -> Result<Stream, FlowsFault>
         name,
         octets,
         pacing,
-        way,
+        path,
         talker,
         listeners,
         deadline,
@@ -126,17 +127,24 @@ fn streams_of_table(alloc: Global, table: &Table) -> Result<Vec<Stream>, FlowsFa
 
 /// Returns the streams of a network file's text, in its order. Unknown keys are ignored.
 ///
-/// `streams` is an array of tables. Of each these keys are read, in this order: `name`, a text; `octets`, an integer from
-/// 0 to 4,294,967,295, required if the stream has no key of traffic; `every` and `phase`, such integers, 1 and 0 if they are missing;
-/// `in-step`, a boolean; `path`, an array of texts, or `paths`, an array of such arrays; `from`, a name, or a station's and a bridge's with
-/// `@` between, and `to`, a name or an array of 1 to 64 names, all different, both required if there are no branches; `deadline`, an integer
-/// from 1 to 4,294,967,295; the keys of traffic ([`cqf_traffic::traffic_of`]); and `least-size`, an integer from 64 to the traffic's `size`,
-/// or to 1,522 without traffic.
+/// `streams` is an array of tables. These keys of each are read, in this order:
+/// - `name`, a text;
+/// - `octets`, an integer from 0 to 4,294,967,295, required if the stream has no key of traffic;
+/// - `every` and `phase`, such integers, 1 and 0 if they are missing;
+/// - `in-step`, a boolean;
+/// - `path`, an array of texts, or `paths`, an array of such arrays;
+/// - `from`, a name, or the names of a station and of a bridge with `@` between them; and `to`, a name, or an array of 1 to 64 names, all
+///   different. Both are required if there are no branches;
+/// - `deadline`, an integer from 1 to 4,294,967,295;
+/// - the keys of traffic ([`cqf_traffic::traffic_of`]);
+/// - `least-size`, an integer from 64 to the traffic's `size`, or to 1,522 without traffic.
 ///
 /// # Errors
-/// `NotToml` where the text isn't TOML; `Missing` of the first key that is owed and absent, stream by stream; `BadValue` of the first
-/// key with another value, stream by stream, and that is `phase` beside an `in-step` that is true and without `every`, and `paths` beside a
-/// good `path`; `Memory` where a growth is refused.
+/// - `NotToml` if the text isn't TOML.
+/// - `Missing` with the first required key that is absent, stream by stream.
+/// - `BadValue` with the first key that has a wrong value, stream by stream. This is `phase` if it is there, `in-step` is true and `every`
+///   is absent. It is `paths` if both it and a good `path` are there.
+/// - `Memory` if an allocation fails.
 pub fn read_network_streams(alloc: Global, text: &[u8]) -> Result<Vec<Stream>, FlowsFault>
     ensures { Gives (FlowsFault.Streams StreamsFault.Memory) (λ streams. map stream_text streams.items) result (network_streams_of_text text.now) }
 {

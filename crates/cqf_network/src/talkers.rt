@@ -16,14 +16,14 @@ use toml::{Table, Value};
 /// What separates the name of a station from that of the bridge at the other end of its access link.
 const AT: u8 = b'@';
 
-/// A stream's talker: a node, and, where the text says it, the bridge at the other end of the access link by which the stream leaves it.
+/// A stream's talker: a node and, if the text gives it, the bridge at the other end of the access link by which the stream leaves it.
 #[derive(Debug, Drop)]
 pub struct Talker {
     pub node: Name,
     pub bridge: Option<Name>,
 }
 
-/// The talker of a text in which the octet at this place divides the names.
+/// Returns the talker of a text in which the octet at this index divides the names.
 fn talker_at_bridge(text: &[u8], at: usize) -> Option<Talker>
     requires { at < length text.now }
     ensures { result ≡ talker_at_bridge at text.now }
@@ -36,19 +36,19 @@ fn talker_at_bridge(text: &[u8], at: usize) -> Option<Talker>
     })
 }
 
-/// The place of the first `@` of a text.
-fn place_of_at(text: &[u8]) -> Option<usize>
-    ensures place { result ≡ position (λ octet. octet == 64) text.now }
+/// Returns the index of the first `@` of a text.
+fn index_of_at(text: &[u8]) -> Option<usize>
+    ensures index { result ≡ position (λ octet. octet == 64) text.now }
     ensures inside { IfSome result (λ at. at < length text.now) }
 {
     text.iter().position(|octet| *octet == AT)
 }
 
-/// The talker that a text means: a node's name, or a station's and a bridge's with `@` between.
+/// Returns the talker that a text means: a node's name, or the names of a station and of a bridge with `@` between them.
 fn talker_of_text(text: &[u8]) -> Option<Talker>
     ensures { result ≡ talker_of_text text.now }
 {
-    match place_of_at(text) {
+    match index_of_at(text) {
         Some(at) => talker_at_bridge(text, at),
         None => {
             let node = Name::new(text)?;
@@ -57,7 +57,7 @@ fn talker_of_text(text: &[u8]) -> Option<Talker>
     }
 }
 
-/// The talker that a value means.
+/// Returns the talker that a value means.
 fn talker_of_value(value: &Value) -> Option<Talker>
     ensures { result ≡ talker_from (view value.now) }
 {
@@ -67,7 +67,7 @@ fn talker_of_value(value: &Value) -> Option<Talker>
     }
 }
 
-/// The talker of a stream's table, where it has one.
+/// Returns the talker of a stream's table, if it has one.
 pub(crate) fn read_talker(table: &Table) -> Result<Option<Talker>, StreamsFault>
     ensures { result ≡ talker_read (table_view table.now) }
 {
@@ -80,7 +80,7 @@ pub(crate) fn read_talker(table: &Table) -> Result<Option<Talker>, StreamsFault>
     }
 }
 
-/// The listeners of a stream's table, 1 to 64 and all different, where it has them.
+/// Returns the listeners of a stream's table, 1 to 64 and all different, if it has them.
 pub(crate) fn read_listeners(
     alloc: Global,
     table: &Table,
@@ -94,14 +94,14 @@ pub(crate) fn read_listeners(
     Ok(Some(names))
 }
 
-/// The value at `least-size` of a stream's table.
+/// Returns the value at `least-size` of a stream's table.
 fn least_size_value(table: &Table) -> Option<&Value>
     ensures { option_map (λ v. view v.now) result ≡ get_member (codes "least-size") (table_view table.now) }
 {
     table.get("least-size")
 }
 
-/// How long the shortest frame of a stream of this traffic is, in octets, where its table says it.
+/// Returns how many octets the shortest frame of a stream with this traffic has, if the stream's table gives it.
 pub(crate) fn read_shortest(
     table: &Table,
     traffic: &Option<Traffic>,

@@ -5,7 +5,7 @@ ghost use Rattle.cqf_model.specs.Domain.{is_text};
 ghost use Rattle.toml.specs.View.{table_view};
 ghost use Rattle.cqf_topology.specs.Fields.{Gives, value_at};
 ghost use Rattle.cqf_topology.specs.DomainText.{first_taken, is_among};
-ghost use Rattle.cqf_network.specs.StreamsText.{between_ends, branches_if, if_listeners, listeners_read, wanted_text, way_by};
+ghost use Rattle.cqf_network.specs.StreamsText.{between_ends, branches_if, if_listeners, listeners_read, path_by, wanted_text};
 
 use crate::lacks::has_path;
 use crate::talkers::Talker;
@@ -19,33 +19,33 @@ pub const MOST_LISTENERS: usize = 64;
 
 /// The path that a stream is to take.
 #[derive(Debug, Drop)]
-pub enum WantedWay {
+pub enum WantedPath {
     /// Along these branches, each the names of its bridges, in order, followed by that of the listener's station.
     Along(Vec<Vec<String>>),
     /// From a talker's station or an edge bridge to these listeners: 1 to 64, all different.
     Between(Name, Vec<Name>),
 }
 
-/// Whether two names are the same.
+/// Returns whether two names are the same.
 fn is_same(name: &Name, other: &Name) -> bool
     ensures { result ≡ is_text other.now name.now }
 {
     name.as_str() == other.as_str()
 }
 
-/// Whether a name is in a list.
+/// Returns whether a name is in a list.
 fn is_among(name: &Name, names: &[Name]) -> bool
     ensures { result ≡ is_among name.now names.now }
 {
     names.iter().any(|other| is_same(name, other))
 }
 
-/// Whether no name occurs twice.
+/// Returns whether no name occurs twice.
 fn are_different(names: &[Name]) -> bool
     ensures { result ≡ is_none (first_taken [] names.now) }
 {
-    for place in 0..names.len() {
-        if is_among(&names[place], &names[..place]) {
+    for index in 0..names.len() {
+        if is_among(&names[index], &names[..index]) {
             return false;
         }
     }
@@ -74,7 +74,7 @@ fn one_listener(alloc: Global, name: Name) -> Result<Vec<Name>, StreamsFault>
     Ok(names)
 }
 
-/// Whether a stream's table has an array at the listeners' key.
+/// Returns whether a stream's table has an array at the listeners' key.
 fn has_array(table: &Table) -> bool
     ensures { result ≡ is_some (option_and_then as_array (value_at Key.To (table_view table.now))) }
 {
@@ -84,7 +84,7 @@ fn has_array(table: &Table) -> bool
     }
 }
 
-/// The listeners of a stream's table that has their key.
+/// Returns the listeners of a stream's table that has their key.
 pub(crate) fn listeners_at(alloc: Global, table: &Table) -> Result<Vec<Name>, StreamsFault>
     requires { is_some (value_at Key.To (table_view table.now)) ≡ true }
     ensures { Gives StreamsFault.Memory (λ names. Some names.items) result (listeners_read (table_view table.now)) }
@@ -95,7 +95,7 @@ pub(crate) fn listeners_at(alloc: Global, table: &Table) -> Result<Vec<Name>, St
     one_listener(alloc, name_at(table, Key::To)?)
 }
 
-/// The branches of a stream's table, where it has them.
+/// Returns the branches of a stream's table, if it has them.
 pub(crate) fn read_branches(
     alloc: Global,
     table: &Table,
@@ -110,7 +110,7 @@ pub(crate) fn read_branches(
     Ok(Some(paths))
 }
 
-/// A copy of names.
+/// Returns a copy of names.
 fn copied_names(alloc: Global, names: &[Name]) -> Result<Vec<Name>, StreamsFault>
     ensures { Gives StreamsFault.Memory (λ copies. copies.items) result (Ok names.now) }
 {
@@ -121,12 +121,12 @@ fn copied_names(alloc: Global, names: &[Name]) -> Result<Vec<Name>, StreamsFault
     Ok(copies)
 }
 
-/// The way between a stream's talker and its listeners.
-fn way_between(
+/// Returns the path between a stream's talker and its listeners, as the ends that its text gives.
+fn path_between(
     alloc: Global,
     talker: &Option<Talker>,
     listeners: &Option<Vec<Name>>,
-) -> Result<WantedWay, StreamsFault>
+) -> Result<WantedPath, StreamsFault>
     ensures { Gives StreamsFault.Memory wanted_text result (between_ends talker.now (option_map (λ names. names.items) listeners.now)) }
 {
     let Some(talker) = talker else {
@@ -136,21 +136,21 @@ fn way_between(
         return Err(StreamsFault::BadValue(Key::To));
     };
     let to = copied_names(alloc, names.as_slice())?;
-    Ok(WantedWay::Between(talker.node.copied(), to))
+    Ok(WantedPath::Between(talker.node.copied(), to))
 }
 
-/// The way of a stream: along the branches that are given, or else between its talker and its listeners.
-pub(crate) fn way_by(
+/// Returns the path of a stream: along the branches that are given, or otherwise between its talker and its listeners.
+pub(crate) fn path_by(
     alloc: Global,
     paths: Option<Vec<Vec<String>>>,
     talker: &Option<Talker>,
     listeners: &Option<Vec<Name>>,
-) -> Result<WantedWay, StreamsFault>
+) -> Result<WantedPath, StreamsFault>
     ensures { Gives StreamsFault.Memory wanted_text result
-        (way_by (option_map (λ paths. map (λ path. map string_bytes path.items) paths.items) paths) talker.now (option_map (λ names. names.items) listeners.now)) }
+        (path_by (option_map (λ paths. map (λ path. map string_bytes path.items) paths.items) paths) talker.now (option_map (λ names. names.items) listeners.now)) }
 {
     match paths {
-        Some(paths) => Ok(WantedWay::Along(paths)),
-        None => way_between(alloc, talker, listeners),
+        Some(paths) => Ok(WantedPath::Along(paths)),
+        None => path_between(alloc, talker, listeners),
     }
 }

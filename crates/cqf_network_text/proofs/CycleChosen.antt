@@ -12,7 +12,7 @@ use Rattle.cqf_topology.specs.declared.faults.DomainFault.TheVariants as domain
 use Rattle.cqf_topology.specs.declared.toml_faults.TomlFault.TheVariants.{BadValue}
 use Rattle.cqf_topology.specs.Fields.{first_absent, first_absent_within, first_missing, key_text, lacks, names_at, names_from, number_from, read_at, value_at}
 use Rattle.cqf_topology.specs.Fields.{whole_document}
-use Rattle.cqf_topology.specs.DomainText.{domain_keys, first_taken, if_so, if_some, link_keys, sync_from}
+use Rattle.cqf_topology.specs.DomainText.{domain_keys, first_taken, if_so, if_some, link_keys, overhead_from, sync_from}
 use Rattle.cqf_topology.specs.LinkTimes.{guard_within}
 use Rattle.cqf_topology.proofs.Refusals.{and_then-Ok, refuse-Ok}
 use Rattle.cqf_network.specs.declared.draft.NetworkLink.{NetworkLink}
@@ -42,6 +42,7 @@ text_with cycle text = record {
   candidates = cycle ∷ [];
   guard = text.guard;
   sync = text.sync;
+  overhead = text.overhead;
   bridges = text.bridges;
   stations = text.stations;
   links = text.links;
@@ -130,36 +131,62 @@ module _ (text : NetworkText) (cycle : ℕ) where
 -- ---- its reading
 
 -- what is read with some candidates is read with any
-other_cycle : (limits : Limits) (guard sync : Result ℕ NetworkFault) (bridges stations : Result (List (List ℕ)) NetworkFault)
+other_cycle : (limits : Limits) (guard sync overhead : Result ℕ NetworkFault) (bridges stations : Result (List (List ℕ)) NetworkFault)
     (links : Result (List NetworkLink) NetworkFault) (candidates : List ℕ) (cycle : ℕ) (text : NetworkText) →
-    and_then guard (λ guard. and_then sync (λ sync. and_then bridges (λ bridges. and_then stations (λ stations. and_then links (λ links.
-    Ok (record { limits = limits; candidates = candidates; guard = guard; sync = sync; bridges = bridges; stations = stations; links = links })))))) ≡ Ok text →
-    and_then guard (λ guard. and_then sync (λ sync. and_then bridges (λ bridges. and_then stations (λ stations. and_then links (λ links.
-    Ok (record { limits = limits; candidates = cycle ∷ []; guard = guard; sync = sync; bridges = bridges; stations = stations; links = links }))))))
-    ≡ Ok (text_with cycle text)
-other_cycle limits (Ok guard) (Ok sync) (Ok bridges) (Ok stations) (Ok links) candidates cycle text h =
-    let read : NetworkText =
-    record { limits = limits; candidates = candidates; guard = guard; sync = sync; bridges = bridges; stations = stations; links = links } in
+    and_then guard (λ guard. and_then sync (λ sync. and_then overhead (λ overhead. and_then bridges (λ bridges. and_then stations (λ stations.
+    and_then links (λ links. Ok (record {
+      limits = limits;
+      candidates = candidates;
+      guard = guard;
+      sync = sync;
+      overhead = overhead;
+      bridges = bridges;
+      stations = stations;
+      links = links;
+    }))))))) ≡ Ok text →
+    and_then guard (λ guard. and_then sync (λ sync. and_then overhead (λ overhead. and_then bridges (λ bridges. and_then stations (λ stations.
+    and_then links (λ links. Ok (record {
+      limits = limits;
+      candidates = cycle ∷ [];
+      guard = guard;
+      sync = sync;
+      overhead = overhead;
+      bridges = bridges;
+      stations = stations;
+      links = links;
+    }))))))) ≡ Ok (text_with cycle text)
+other_cycle limits (Ok guard) (Ok sync) (Ok overhead) (Ok bridges) (Ok stations) (Ok links) candidates cycle text h =
+    let read : NetworkText = record {
+      limits = limits;
+      candidates = candidates;
+      guard = guard;
+      sync = sync;
+      overhead = overhead;
+      bridges = bridges;
+      stations = stations;
+      links = links;
+    } in
     let is : read ≡ text = cc in
     ap (λ t. Ok (text_with cycle t)) is
-other_cycle limits (Err e) sync bridges stations links candidates cycle text h = absurd cc
-other_cycle limits (Ok guard) (Err e) bridges stations links candidates cycle text h = absurd cc
-other_cycle limits (Ok guard) (Ok sync) (Err e) stations links candidates cycle text h = absurd cc
-other_cycle limits (Ok guard) (Ok sync) (Ok bridges) (Err e) links candidates cycle text h = absurd cc
-other_cycle limits (Ok guard) (Ok sync) (Ok bridges) (Ok stations) (Err e) candidates cycle text h = absurd cc
+other_cycle limits (Err e) sync overhead bridges stations links candidates cycle text h = absurd cc
+other_cycle limits (Ok guard) (Err e) overhead bridges stations links candidates cycle text h = absurd cc
+other_cycle limits (Ok guard) (Ok sync) (Err e) bridges stations links candidates cycle text h = absurd cc
+other_cycle limits (Ok guard) (Ok sync) (Ok overhead) (Err e) stations links candidates cycle text h = absurd cc
+other_cycle limits (Ok guard) (Ok sync) (Ok overhead) (Ok bridges) (Err e) links candidates cycle text h = absurd cc
+other_cycle limits (Ok guard) (Ok sync) (Ok overhead) (Ok bridges) (Ok stations) (Err e) candidates cycle text h = absurd cc
 
 -- the keys after the cycle time
-abbrev keys_behind : List Key
-keys_behind = key.Guard ∷ key.Bridges ∷ key.Stations ∷ key.Links ∷ []
+abbrev keys_after : List Key
+keys_after = key.Guard ∷ key.Bridges ∷ key.Stations ∷ key.Links ∷ []
 
 -- none of them is absent where none of those that are owed is
-behind_none : (given : Option (List ℕ)) (table : Members) → first_absent (network_keys given) table ≡ None → first_absent keys_behind table ≡ None
-behind_none None table h = by (lacks key.Cycle table) h
+after_none : (given : Option (List ℕ)) (table : Members) → first_absent (network_keys given) table ≡ None → first_absent keys_after table ≡ None
+after_none None table h = by (lacks key.Cycle table) h
   where
-    by : (b : Bool) → cond b (Some key.Cycle) (first_absent keys_behind table) ≡ None → first_absent keys_behind table ≡ None
+    by : (b : Bool) → cond b (Some key.Cycle) (first_absent keys_after table) ≡ None → first_absent keys_after table ≡ None
     by true h = absurd cc
     by false h = h
-behind_none (Some given) table h = h
+after_none (Some given) table h = h
 
 module _ (limits : Limits) (cycle : ℕ) (filled : List FilledStream) (members streams : Members) where
   -- the table with the cycle time, and with the streams
@@ -185,6 +212,11 @@ module _ (limits : Limits) (cycle : ℕ) (filled : List FilledStream) (members s
       put_apart (key_text key.Sync) (key_text key.Streams) all_streams with_time refl
       ∙ put_apart (key_text key.Sync) (key_text key.Cycle) (integer (pos cycle)) members refl
 
+  overhead_at : value_at key.GateOverhead all ≡ value_at key.GateOverhead members
+  overhead_at =
+      put_apart (key_text key.GateOverhead) (key_text key.Streams) all_streams with_time refl
+      ∙ put_apart (key_text key.GateOverhead) (key_text key.Cycle) (integer (pos cycle)) members refl
+
   bridges_at : value_at key.Bridges all ≡ value_at key.Bridges members
   bridges_at =
       put_apart (key_text key.Bridges) (key_text key.Streams) all_streams with_time refl
@@ -201,8 +233,8 @@ module _ (limits : Limits) (cycle : ℕ) (filled : List FilledStream) (members s
       ∙ put_apart (key_text key.Links) (key_text key.Cycle) (integer (pos cycle)) members refl
 
   -- nothing is missing
-  behind_same : first_absent keys_behind all ≡ first_absent keys_behind members
-  behind_same =
+  after_same : first_absent keys_after all ≡ first_absent keys_after members
+  after_same =
       (λ i. cond (is_none (guard_at i) && true) (Some key.Guard) (
       cond (is_none (bridges_at i) && true) (Some key.Bridges) (
       cond (is_none (stations_at i) && true) (Some key.Stations) (
@@ -213,10 +245,10 @@ module _ (limits : Limits) (cycle : ℕ) (filled : List FilledStream) (members s
   lacks_nothing given h =
       let (own, within) = or_None (first_absent (network_keys given) members)
       (option_and_then (first_absent_within link_keys) (option_and_then as_array (value_at key.Links members))) h in
-      let behind : first_absent keys_behind all ≡ None = behind_same ∙ behind_none given members own in
+      let following : first_absent keys_after all ≡ None = after_same ∙ after_none given members own in
       let inside : option_and_then (first_absent_within link_keys) (option_and_then as_array (value_at key.Links all)) ≡ None =
       ap (λ o. option_and_then (first_absent_within link_keys) (option_and_then as_array o)) links_at ∙ within in
-      (λ i. option_or (cond (is_none (cycle_at i) && true) (Some key.Cycle) (behind i)) (inside i))
+      (λ i. option_or (cond (is_none (cycle_at i) && true) (Some key.Cycle) (following i)) (inside i))
 
   -- what is read but for the cycle time is the same
   rest_same : (candidates : List ℕ) → network_with_cycles limits all candidates ≡ network_with_cycles limits members candidates
@@ -224,6 +256,8 @@ module _ (limits : Limits) (cycle : ℕ) (filled : List FilledStream) (members s
       let guard_is = read_same key.Guard (number_from 1 10000000) all members guard_at in
       let sync_is : sync_from all ≡ sync_from members =
       ap (λ r. and_then r (λ sync. Ok (unwrap_or sync 0))) (number_if_same key.Sync 0 10000000 all members sync_at) in
+      let overhead_is : overhead_from all ≡ overhead_from members =
+      ap (λ r. and_then r (λ overhead. Ok (unwrap_or overhead 0))) (number_if_same key.GateOverhead 0 22 all members overhead_at) in
       let bridges_are : names_at key.Bridges all ≡ names_at key.Bridges members =
       ap (λ r. and_then r (names_from key.Bridges)) (read_same key.Bridges as_array all members bridges_at) in
       let stations_are : names_at key.Stations all ≡ names_at key.Stations members =
@@ -232,11 +266,21 @@ module _ (limits : Limits) (cycle : ℕ) (filled : List FilledStream) (members s
       ap (λ r. and_then (or_network r) links_of_array) (read_same key.Links as_array all members links_at) in
       (λ i. and_then (or_network (guard_is i)) (λ (guard : ℕ).
       and_then (or_network (sync_is i)) (λ (sync : ℕ).
+      and_then (or_network (overhead_is i)) (λ (overhead : ℕ).
       and_then (or_network (and_then (bridges_are i) (if_some key.Bridges))) (λ (bridges : List (List ℕ)).
       and_then (or_network (stations_are i)) (λ (stations : List (List ℕ)).
       and_then (links_are i) (λ (links : List NetworkLink).
-      let text : NetworkText = record { limits = limits; candidates = candidates; guard = guard; sync = sync; bridges = bridges; stations = stations; links = links } in
-      Ok text))))))
+      let text : NetworkText = record {
+        limits = limits;
+        candidates = candidates;
+        guard = guard;
+        sync = sync;
+        overhead = overhead;
+        bridges = bridges;
+        stations = stations;
+        links = links;
+      } in
+      Ok text)))))))
 
   -- so it is what was read, with the cycle time
   chosen_read : (given : Option (List ℕ)) (text : NetworkText) → draft_from limits given members ≡ Ok text →
@@ -244,7 +288,7 @@ module _ (limits : Limits) (cycle : ℕ) (filled : List FilledStream) (members s
   chosen_read given text h =
       let (candidates, _, read) = and_then-Ok (or_network (candidates_read given members)) (network_with_cycles limits members) text h in
       rest_same (cycle ∷ [])
-      ∙ other_cycle limits (or_network (read_at key.Guard (number_from 1 10000000) members)) (or_network (sync_from members))
+      ∙ other_cycle limits (or_network (read_at key.Guard (number_from 1 10000000) members)) (or_network (sync_from members)) (or_network (overhead_from members))
       (or_network (and_then (names_at key.Bridges members) (if_some key.Bridges))) (or_network (names_at key.Stations members)) (links_read members)
       candidates cycle text read
 

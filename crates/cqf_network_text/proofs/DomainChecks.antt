@@ -20,30 +20,31 @@ use Rattle.cqf_topology.specs.DomainText.{DomainText, IsDomain, NoLinkTwice, apa
 use Rattle.cqf_topology.specs.DomainText.{first_long_guard, first_long_sync}
 use Rattle.cqf_topology.specs.LinkTimes.{has_long_delay, has_long_gap, has_long_guard, has_long_sync, times_of}
 use Rattle.cqf_model.specs.Limits.{bridges_within, links_within, stations_within}
-use Rattle.cqf_topology.specs.DomainText.{is_too_many, joined, joined_link, place_of, with_links, with_these}
+use Rattle.cqf_topology.specs.DomainText.{index_of, is_too_many, joined, joined_link, with_links, with_these}
 use Rattle.cqf_topology.specs.FirstFaults.{HasTwin, IsFirstTwin}
-use Rattle.cqf_topology.proofs.Told.{twice-told}
+use Rattle.cqf_topology.proofs.Written.{twice-reported}
 use Rattle.cqf_topology.specs.NodeNames.{name_of_node}
-use Rattle.cqf_network_text.proofs.NamesApart.{AreApart, apart_across, behind_apart, front_apart, no_place, none_taken, place_is}
+use Rattle.cqf_network_text.proofs.NamesApart.{AreApart, after_apart, apart_across, front_apart, index_is, no_index, none_taken}
 
 -- a domain's text with given links, each by the names of its ends
-abbrev pub told_links : Domain → List Link → DomainText
-told_links d links = record {
+abbrev pub written_links : Domain → List Link → DomainText
+written_links d links = record {
   limits = d.limits;
   cycle_time = d.cycle_time;
   guard = d.guard;
   sync = d.sync;
+  overhead = d.overhead;
   bridges = d.bridges;
   stations = d.stations;
   links = map (λ link. record { from = name_of_node d (Bridge link.from); to = name_of_node d link.to; times = times_of link }) links;
 }
 
-abbrev pub told_domain : Domain → DomainText
-told_domain d = told_links d d.links
+abbrev pub written_domain : Domain → DomainText
+written_domain d = written_links d d.links
 
 -- if no link occurs twice, none is reported as occurring twice
 none_twice : (links : List Link) → NoLinkTwice links → first_twice [] links ≡ None
-none_twice links once = by (first_twice [] links) (twice-told links)
+none_twice links once = by (first_twice [] links) (twice-reported links)
   where
     -- a link that is reported would have a twin
     by : (o : Option ℕ) → MatchOption o ((number : ℕ) → ¬ HasTwin links number) (λ number. IsFirstTwin links number) → o ≡ None
@@ -85,15 +86,15 @@ module _ (d : Domain) (good : IsDomain d) where
   bridges_apart = front_apart d.bridges d.stations good.distinct
 
   stations_apart : AreApart d.stations
-  stations_apart = behind_apart d.bridges d.stations good.distinct
+  stations_apart = after_apart d.bridges d.stations good.distinct
 
   -- a node is found by its name
-  node_is : (node : Node) → IsNode d node → node_or (place_of (name_of_node d node) d.bridges) (place_of (name_of_node d node) d.stations) ≡ Some node
-  node_is (Bridge b) inside = ap (λ o. node_or o (place_of (name_of_node d (Bridge b)) d.stations)) (place_is d.bridges bridges_apart b inside)
+  node_is : (node : Node) → IsNode d node → node_or (index_of (name_of_node d node) d.bridges) (index_of (name_of_node d node) d.stations) ≡ Some node
+  node_is (Bridge b) inside = ap (λ o. node_or o (index_of (name_of_node d (Bridge b)) d.stations)) (index_is d.bridges bridges_apart b inside)
   node_is (Station s) inside =
-      let no_bridge : place_of (name_of_node d (Station s)) d.bridges ≡ None =
-      no_place (name_of_node d (Station s)) d.bridges (λ i there. apart_across d.bridges d.stations good.distinct i s there inside) in
-      (λ i. node_or (no_bridge i) (place_is d.stations stations_apart s inside i))
+      let no_bridge : index_of (name_of_node d (Station s)) d.bridges ≡ None =
+      no_index (name_of_node d (Station s)) d.bridges (λ i there. apart_across d.bridges d.stations good.distinct i s there inside) in
+      (λ i. node_or (no_bridge i) (index_is d.stations stations_apart s inside i))
 
   -- a node that isn't a bridge is distinguished from it
   is_other : (node : Node) (b : ℕ) → node ≢ Bridge b → same_node node (Bridge b) ≡ false
@@ -106,19 +107,19 @@ module _ (d : Domain) (good : IsDomain d) where
   link_is : (link : Link) → IsAcceptedLink d link →
       joined_link d.bridges d.stations (record { from = name_of_node d (Bridge link.from); to = name_of_node d link.to; times = times_of link }) ≡ Ok link
   link_is link accepted =
-      let from_is = place_is d.bridges bridges_apart link.from accepted.from_bridge in
+      let from_is = index_is d.bridges bridges_apart link.from accepted.from_bridge in
       let to_is = node_is link.to accepted.to_node in
-      let tell : ℕ → Node → Result Link DomainFault =
+      let write : ℕ → Node → Result Link DomainFault =
       λ from to. apart (name_of_node d link.to)
       (record { from = name_of_node d (Bridge link.from); to = name_of_node d link.to; times = times_of link }) from to in
       let unknown_from : DomainFault = fault.UnknownName (name_of_node d (Bridge link.from)) in
       let unknown_to : DomainFault = fault.UnknownName (name_of_node d link.to) in
-      (λ i. and_then (ok_or (from_is i) unknown_from) (λ from. and_then (ok_or (to_is i) unknown_to) (λ to. tell from to)))
+      (λ i. and_then (ok_or (from_is i) unknown_from) (λ from. and_then (ok_or (to_is i) unknown_to) (λ to. write from to)))
       ∙ rw (is_other link.to link.from accepted.not_to_itself) refl
 
   -- and so is each link of a list
   links_are : (links : List Link) → ((k : ℕ) (link : Link) → slice_get links k ≡ Some link → IsAcceptedLink d link)
-      → joined d.bridges d.stations (told_links d links).links ≡ Ok links
+      → joined d.bridges d.stations (written_links d links).links ≡ Ok links
   links_are [] accepted = refl
   links_are (link ∷ links) accepted =
       let rest = links_are links (λ k other at. accepted (suc k) other at) in
@@ -157,7 +158,7 @@ module _ (d : Domain) (good : IsDomain d) where
       (λ i. one i || two i || three i)
 
   -- the links pass
-  links_pass : with_links (told_domain d) d.links ≡ Ok d
+  links_pass : with_links (written_domain d) d.links ≡ Ok d
   links_pass =
       (λ i. refuse (none_twice d.links good.no_link_twice i) fault.LinkTwice (
       refuse (if_so (guard_is_short i)) (λ _. fault.GuardTooLong) (
@@ -166,11 +167,11 @@ module _ (d : Domain) (good : IsDomain d) where
       refuse (short_gaps i) fault.GapTooLong (
       refuse (if_so (are_few i)) (λ _. fault.TooMany) (
       refuse (short_syncs i) fault.SyncTooLong (
-      Ok (with_these (told_domain d) d.links)))))))))
+      Ok (with_these (written_domain d) d.links)))))))))
 
   -- the domain that its table is read as is the domain
-  pub domain_passes : checked (told_domain d) ≡ Ok d
+  pub domain_passes : checked (written_domain d) ≡ Ok d
   domain_passes =
       (λ i. refuse (none_taken (d.bridges ++ d.stations) good.distinct i) fault.NameTaken (
-      and_then (links_are d.links good.accepted.links_good i) (with_links (told_domain d))))
+      and_then (links_are d.links good.accepted.links_good i) (with_links (written_domain d))))
       ∙ links_pass

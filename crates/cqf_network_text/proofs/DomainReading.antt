@@ -4,7 +4,7 @@ use Rattle.std.proofs.Common.{length, map, slice_get, nat_le, ok_or, option_map,
 use Rattle.std.specs.Option.{option_and_then, option_or}
 use Rattle.std.proofs.lemmas.Bool.{and_from}
 use Rattle.std.proofs.lemmas.Bool.Decides.{nat_tests}
-use Rattle.toml.specs.Data.{Data, Members, array, integer, no_members, string, table}
+use Rattle.toml.specs.Data.{Data, Members, array, as_array, integer, no_members, string, table}
 use Rattle.toml.specs.View.{items_of}
 use Rattle.cqf_units.specs.Name.{is_name}
 use Rattle.cqf_units.specs.declared.timing.Rate.{Rate as LinkRate}
@@ -17,14 +17,15 @@ use Rattle.cqf_lists.specs.Results.{and_then}
 use Rattle.cqf_topology.specs.declared.keys.Key.{Key}
 use Rattle.cqf_topology.specs.declared.keys.Key.TheVariants as key
 use Rattle.cqf_topology.specs.declared.toml_faults.TomlFault.TheVariants.{BadValue}
-use Rattle.cqf_topology.specs.Fields.{and_first, are_tables, first_absent, first_absent_within, first_missing, name_from, names_from}
+use Rattle.cqf_topology.specs.Fields.{and_first, are_tables, first_absent, first_absent_within, first_missing, name_from, names_at, names_from}
 use Rattle.cqf_topology.specs.Fields.{number_from, number_if, number_if_by, read_at, tables_from, tables_of_key, value_at}
 use Rattle.cqf_topology.specs.LinkTimes.{delays_from, rate_from, times_of, times_read}
 use Rattle.cqf_topology.specs.declared.times.LinkTimes.{LinkTimes}
-use Rattle.cqf_topology.specs.DomainText.{DomainText, IsDomain, domain_from, domain_keys, if_some, link_keys, link_read, sync_from}
-use Rattle.cqf_network_text.specs.DomainMembers.{delays_data, domain_members, link_members, megabits_of, members_of_link, some_then, sync_told}
+use Rattle.cqf_topology.specs.DomainText.{DomainText, IsDomain, domain_from, domain_keys, if_some, link_keys, link_read, overhead_from, sync_from}
+use Rattle.cqf_network_text.specs.DomainMembers.{delays_data, domain_members, link_members, links_data, megabits_of, members_counting, members_of_link}
+use Rattle.cqf_network_text.specs.DomainMembers.{overhead_written, some_then, sync_written, texts_data}
 use Rattle.cqf_topology.specs.NodeNames.{name_of_node}
-use Rattle.cqf_network_text.proofs.DomainChecks.{told_domain, told_links}
+use Rattle.cqf_network_text.proofs.DomainChecks.{written_domain, written_links}
 use Rattle.cqf_network_text.proofs.StreamValues.{number_data}
 
 -- a number within its range
@@ -48,9 +49,9 @@ number_if_reads at least most members (Some n) is good =
     ap (λ o. number_if_by o at least most members) is ∙ ap (λ r. and_then r (λ number. Ok (Some number))) read
 
 -- a number that is written only if it differs from a default is read as that default if it isn't written
-pub told_or : (same : Bool) (n default : ℕ) → (same ≡ true → n ≡ default) → unwrap_or (cond same None (Some n)) default ≡ n
-told_or true n default is = sym (is refl)
-told_or false n default is = refl
+pub written_or : (same : Bool) (n default : ℕ) → (same ≡ true → n ≡ default) → unwrap_or (cond same None (Some n)) default ≡ n
+written_or true n default is = sym (is refl)
+written_or false n default is = refl
 
 -- a name, and several names
 pub name_reads : (name : List ℕ) → IsTrue (is_name name) → name_from (string name) ≡ Some name
@@ -115,9 +116,43 @@ own_at from to delays rate None = refl
 own_at from to delays rate (Some n) = refl
 
 -- and the value at the end of a domain's table
-sync_at : (told : Option ℕ) → value_at key.Sync (some_then key.Sync told no_members) ≡ option_map number_data told
+sync_at : (reported : Option ℕ) → value_at key.Sync (some_then key.Sync reported no_members) ≡ option_map number_data reported
 sync_at None = refl
 sync_at (Some n) = refl
+
+-- the end of a domain's table has no value at `gate-overhead`
+none_after : (reported : Option ℕ) → value_at key.GateOverhead (some_then key.Sync reported no_members) ≡ None
+none_after None = refl
+none_after (Some n) = refl
+
+-- the values of a domain's table at `gate-overhead` and at the keys after it
+module _ (d : Domain) (streams : Data) where
+  overhead_there : (reported : Option ℕ) → value_at key.GateOverhead (members_counting reported d streams) ≡ option_map number_data reported
+  overhead_there None = none_after (sync_written d.sync)
+  overhead_there (Some n) = refl
+
+  guard_there : (reported : Option ℕ) → value_at key.Guard (members_counting reported d streams) ≡ Some (number_data d.guard)
+  guard_there None = refl
+  guard_there (Some n) = refl
+
+  links_there : (reported : Option ℕ) → value_at key.Links (members_counting reported d streams) ≡ Some (links_data d)
+  links_there None = refl
+  links_there (Some n) = refl
+
+  stations_there : (reported : Option ℕ) → value_at key.Stations (members_counting reported d streams) ≡ Some (texts_data d.stations)
+  stations_there None = refl
+  stations_there (Some n) = refl
+
+  sync_there : (reported : Option ℕ) → value_at key.Sync (members_counting reported d streams) ≡ option_map number_data (sync_written d.sync)
+  sync_there None = sync_at (sync_written d.sync)
+  sync_there (Some n) = sync_at (sync_written d.sync)
+
+  streams_by : (reported : Option ℕ) → value_at key.Streams (members_counting reported d streams) ≡ Some streams
+  streams_by None = refl
+  streams_by (Some n) = refl
+
+  pub streams_at : value_at key.Streams (domain_members d streams) ≡ Some streams
+  streams_at = streams_by (overhead_written d.overhead)
 
 -- the links' tables are tables, and lack no key
 link_lacks_nothing : (from to : List ℕ) (delays : Data) (rate : ℕ) (guard : Option ℕ) →
@@ -139,7 +174,11 @@ links_lack_nothing d (link ∷ links) =
 
 -- a domain's document lacks no key
 pub domain_lacks_nothing : (d : Domain) (streams : Data) → first_missing domain_keys key.Links link_keys (domain_members d streams) ≡ None
-domain_lacks_nothing d streams = links_lack_nothing d d.links
+domain_lacks_nothing d streams = by (overhead_written d.overhead)
+  where
+    by : (reported : Option ℕ) → first_missing domain_keys key.Links link_keys (members_counting reported d streams) ≡ None
+    by None = links_lack_nothing d d.links
+    by (Some n) = links_lack_nothing d d.links
 
 module _ (d : Domain) (good : IsDomain d) where
   -- a node's name has the form of a name
@@ -186,46 +225,75 @@ module _ (d : Domain) (good : IsDomain d) where
 
   -- and each of a list of links
   links_read : (links : List Link) → ((k : ℕ) (link : Link) → slice_get links k ≡ Some link → IsAcceptedLink d link)
-      → tables_from key.Links link_read (items_of (map (λ link. table (link_members d link)) links)) ≡ Ok ((told_links d links).links)
+      → tables_from key.Links link_read (items_of (map (λ link. table (link_members d link)) links)) ≡ Ok ((written_links d links).links)
   links_read [] accepted = refl
   links_read (link ∷ links) accepted =
       let rest = links_read links (λ k other at. accepted (suc k) other at) in
       (λ i. and_first (link_reads link (accepted 0 link refl) i) (rest i))
 
-  links_all_read : (streams : Data) → tables_of_key key.Links link_read (domain_members d streams) ≡ Ok ((told_links d d.links).links)
+  links_all_read : (streams : Data) → tables_of_key key.Links link_read (domain_members d streams) ≡ Ok ((written_links d d.links).links)
   links_all_read streams =
-      ap (λ b. cond b (tables_from key.Links link_read (items_of (map (λ link. table (link_members d link)) d.links))) (Err (BadValue key.Links)))
+      ap (λ o. and_then (ok_or (option_and_then as_array o) (BadValue key.Links)) (λ items.
+      cond (are_tables items) (tables_from key.Links link_read items) (Err (BadValue key.Links)))) (links_there d streams (overhead_written d.overhead))
+      ∙ ap (λ b. cond b (tables_from key.Links link_read (items_of (map (λ link. table (link_members d link)) d.links))) (Err (BadValue key.Links)))
       (links_are_tables d d.links)
       ∙ links_read d.links good.accepted.links_good
+
+  -- a number that is written only if it isn't 0 is in its range if it is written
+  written_few : (same : Bool) (n most : ℕ) → n ≤ most → IfSome (cond same None (Some n)) (λ n. (0 ≤ n) × (n ≤ most))
+  written_few true n most few = tt
+  written_few false n most few = let both : (0 ≤ n) × (n ≤ most) = (omega arith, few) in both
 
   -- how far clocks may differ
   sync_reads : (streams : Data) → sync_from (domain_members d streams) ≡ Ok d.sync
   sync_reads streams =
       let none : (d.sync == 0) ≡ true → d.sync ≡ 0 = λ is. eqb-true d.sync 0 is in
       ap (λ r. and_then r (λ sync. Ok (unwrap_or sync 0)))
-      (number_if_reads key.Sync 0 10000000 (domain_members d streams) (sync_told d.sync) (sync_at (sync_told d.sync))
-      (told_few (d.sync == 0) d.sync good.sync_most))
-      ∙ ap Ok (told_or (d.sync == 0) d.sync 0 none)
-    where
-      told_few : (same : Bool) (n : ℕ) → n ≤ 10000000 → IfSome (cond same None (Some n)) (λ n. (0 ≤ n) × (n ≤ 10000000))
-      told_few true n few = tt
-      told_few false n few = let both : (0 ≤ n) × (n ≤ 10000000) = (omega arith, few) in both
+      (number_if_reads key.Sync 0 10000000 (domain_members d streams) (sync_written d.sync) (sync_there d streams (overhead_written d.overhead))
+      (written_few (d.sync == 0) d.sync 10000000 good.sync_most))
+      ∙ ap Ok (written_or (d.sync == 0) d.sync 0 none)
+
+  -- how many octets gates don't count
+  overhead_reads : (streams : Data) → overhead_from (domain_members d streams) ≡ Ok d.overhead
+  overhead_reads streams =
+      let none : (d.overhead == 0) ≡ true → d.overhead ≡ 0 = λ is. eqb-true d.overhead 0 is in
+      ap (λ r. and_then r (λ overhead. Ok (unwrap_or overhead 0)))
+      (number_if_reads key.GateOverhead 0 22 (domain_members d streams) (overhead_written d.overhead) (overhead_there d streams (overhead_written d.overhead))
+      (written_few (d.overhead == 0) d.overhead 22 good.accepted.overhead_short))
+      ∙ ap Ok (written_or (d.overhead == 0) d.overhead 0 none)
 
   -- what is read in a domain's table
-  pub domain_reads : (streams : Data) → domain_from d.limits (domain_members d streams) ≡ Ok (told_domain d)
+  pub domain_reads : (streams : Data) → domain_from d.limits (domain_members d streams) ≡ Ok (written_domain d)
   domain_reads streams =
       let cycle_is = number_reads 10000 10000000 d.cycle_time good.accepted.cycle_least good.accepted.cycle_most in
       let guard_is = number_reads 1 10000000 d.guard good.accepted.guard_some (omega (arith, good.accepted.guard_short, good.accepted.cycle_most)) in
+      let guard_read : read_at key.Guard (number_from 1 10000000) (domain_members d streams) ≡ Ok d.guard =
+      ap (λ o. ok_or (option_and_then (number_from 1 10000000) o) (BadValue key.Guard)) (guard_there d streams (overhead_written d.overhead))
+      ∙ ap (λ o. ok_or o (BadValue key.Guard)) guard_is in
       let sync_is = sync_reads streams in
+      let overhead_is = overhead_reads streams in
       let bridges_are : and_then (names_from key.Bridges (items_of (map string d.bridges))) (if_some key.Bridges) ≡ Ok d.bridges =
       ap (λ r. and_then r (if_some key.Bridges)) (names_read key.Bridges d.bridges good.bridges_named)
       ∙ some_reads key.Bridges d.bridges good.accepted.some_bridge in
-      let stations_are = names_read key.Stations d.stations good.stations_named in
+      let stations_are : names_at key.Stations (domain_members d streams) ≡ Ok d.stations =
+      ap (λ o. and_then (ok_or (option_and_then as_array o) (BadValue key.Stations)) (names_from key.Stations)) (stations_there d streams (overhead_written d.overhead))
+      ∙ names_read key.Stations d.stations good.stations_named in
       let links_are = links_all_read streams in
       (λ i. and_then (ok_or (cycle_is i) (BadValue key.Cycle)) (λ (cycle_time : ℕ).
-      and_then (ok_or (guard_is i) (BadValue key.Guard)) (λ (guard : ℕ).
+      and_then (guard_read i) (λ (guard : ℕ).
       and_then (sync_is i) (λ (sync : ℕ).
+      and_then (overhead_is i) (λ (overhead : ℕ).
       and_then (bridges_are i) (λ (bridges : List (List ℕ)).
       and_then (stations_are i) (λ (stations : List (List ℕ)).
       and_then (links_are i) (λ links.
-      let text : DomainText = record { limits = d.limits; cycle_time = cycle_time; guard = guard; sync = sync; bridges = bridges; stations = stations; links = links } in Ok text)))))))
+      let text : DomainText = record {
+        limits = d.limits;
+        cycle_time = cycle_time;
+        guard = guard;
+        sync = sync;
+        overhead = overhead;
+        bridges = bridges;
+        stations = stations;
+        links = links;
+      } in
+      Ok text))))))))

@@ -8,10 +8,10 @@ use Rattle.std.proofs.lemmas.Option.{get_or_from_slice_get, slice_get-get_or, sl
 use Rattle.std.proofs.Common.{length-append}
 use Rattle.cqf_model.proofs.Texts.{is_text_itself, is_text_same}
 use Rattle.cqf_model.specs.Domain.{is_text}
-use Rattle.cqf_topology.specs.DomainText.{first_taken, place_of}
+use Rattle.cqf_topology.specs.DomainText.{first_taken, index_of}
 use Rattle.cqf_topology.specs.FirstFaults.{IsFirstRepeated, StoodEarlier}
 use Rattle.cqf_topology.proofs.Accepted.{position-None}
-use Rattle.cqf_topology.proofs.Told.{taken-told}
+use Rattle.cqf_topology.proofs.Written.{taken-reported}
 
 -- each two of the names differ
 abbrev pub AreApart : List (List ℕ) → Type 0
@@ -19,19 +19,19 @@ AreApart names = AllPairs (λ a b. a ≢ b) names
 
 -- if the names differ, none is taken
 pub none_taken : (names : List (List ℕ)) → AreApart names → first_taken [] names ≡ None
-none_taken names apart = by (first_taken [] names) (taken-told names)
+none_taken names apart = by (first_taken [] names) (taken-reported names)
   where
     -- a name that is reported as taken would occur twice
-    by : (o : Option (List ℕ)) → MatchOption o ((place : ℕ) → ¬ StoodEarlier names place) (λ name. IsFirstRepeated names name) → o ≡ None
+    by : (o : Option (List ℕ)) → MatchOption o ((index : ℕ) → ¬ StoodEarlier names index) (λ name. IsFirstRepeated names name) → o ≡ None
     by None none = refl
     by (Some name) first =
         let again = first.repeats in
-        absurd (apart again.before first.place [] again.earlier (slice_get_within names first.place again.name again.stands)
-        (get_or_from_slice_get names again.before again.name [] again.stood ∙ sym (get_or_from_slice_get names first.place again.name [] again.stands)))
+        absurd (apart again.before first.index [] again.earlier (slice_get_within names first.index again.name again.stands)
+        (get_or_from_slice_get names again.before again.name [] again.stood ∙ sym (get_or_from_slice_get names first.index again.name [] again.stands)))
 
 -- each name is found at its index
-pub place_is : (names : List (List ℕ)) → AreApart names → (k : ℕ) → k < length names → place_of (get_or names k []) names ≡ Some k
-place_is names apart k inside = by (position same names) refl
+pub index_is : (names : List (List ℕ)) → AreApart names → (k : ℕ) → k < length names → index_of (get_or names k []) names ≡ Some k
+index_is names apart k inside = by (position same names) refl
   where
     -- whether a name equals this one
     same : List ℕ → Bool
@@ -49,13 +49,13 @@ place_is names apart k inside = by (position same names) refl
           | inl here ↦ ap Some here
           | inr other ↦ elim other [
             | inl before ↦ absurd (apart i k [] before inside alike)
-            | inr behind ↦ absurd (apart k i [] behind within (sym alike))
+            | inr following ↦ absurd (apart k i [] following within (sym alike))
           ]
         ]
 
 -- a name that occurs nowhere in the list isn't found
-pub no_place : (name : List ℕ) (names : List (List ℕ)) → ((i : ℕ) → i < length names → get_or names i [] ≢ name) → place_of name names ≡ None
-no_place name names nowhere = by (position (λ other. is_text other name) names) refl
+pub no_index : (name : List ℕ) (names : List (List ℕ)) → ((i : ℕ) → i < length names → get_or names i [] ≢ name) → index_of name names ≡ None
+no_index name names nowhere = by (position (λ other. is_text other name) names) refl
   where
     -- an index that is found would have that name
     by : (o : Option ℕ) → position (λ other. is_text other name) names ≡ o → o ≡ None
@@ -71,13 +71,13 @@ module _ (xs ys : List (List ℕ)) (apart : AreApart (xs ++ ys)) where
       apart i j d before (omega (arith, length-append xs ys))
       (get_or_append_left xs ys d i (omega arith) ∙ same ∙ sym (get_or_append_left xs ys d j inside))
 
-  pub behind_apart : AreApart ys
-  behind_apart i j d before inside same =
+  pub after_apart : AreApart ys
+  after_apart i j d before inside same =
       apart (length xs + i) (length xs + j) d (omega arith) (omega (arith, length-append xs ys))
       (get_or-append-add xs ys i d ∙ same ∙ sym (get_or-append-add xs ys j d))
 
   -- and no name of the first list occurs in the second
   pub apart_across : (i j : ℕ) → i < length xs → j < length ys → get_or xs i [] ≢ get_or ys j []
-  apart_across i j in_front behind same =
+  apart_across i j in_front following same =
       apart i (length xs + j) [] (omega arith) (omega (arith, length-append xs ys))
       (get_or_append_left xs ys [] i in_front ∙ same ∙ sym (get_or-append-add xs ys j []))

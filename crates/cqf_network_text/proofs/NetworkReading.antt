@@ -51,9 +51,9 @@ none_asked (item d ds) = by (as_table d) (none_asked ds)
     by (Some found) rest = rest
 
 -- the choices for the streams after the first
-choices_behind : (one : FilledStream) (filled : List FilledStream) (s : StreamText) (streams : List StreamText) → AreChoices (one ∷ filled) (s ∷ streams) →
+choices_after : (one : FilledStream) (filled : List FilledStream) (s : StreamText) (streams : List StreamText) → AreChoices (one ∷ filled) (s ∷ streams) →
     AreChoices filled streams
-choices_behind one filled s streams are = record { one_each = omega (arith, are.one_each); each = λ place. are.each (suc place) }
+choices_after one filled s streams are = record { one_each = omega (arith, are.one_each); each = λ index. are.each (suc index) }
 
 -- what was read of the first element and of the others
 module _ {A : Type 0} where
@@ -134,9 +134,9 @@ module _ {A E L : Type 0} (fault : E) (reader : Members → Result A E) (chosen 
   all_read (one ∷ filled) (item d ds) [] are read none = absurd (omega (arith, are.one_each))
   all_read (one ∷ filled) (item d ds) (s ∷ streams) are read none =
       let (here, rest) = first_read (by_table no_table stream_from d) (each_from (by_table no_table stream_from) ds) s streams read in
-      let (none_here, none_behind) = or_None (option_and_then first_lack (as_table d)) (first_lack_within ds) none in
+      let (none_here, none_after) = or_None (option_and_then first_lack (as_table d)) (first_lack_within ds) none in
       one_more one filled d ds s streams (are.each 0 one s refl refl) here none_here
-      (all_read filled ds streams (choices_behind one filled s streams are) rest none_behind)
+      (all_read filled ds streams (choices_after one filled s streams are) rest none_after)
 
 -- each reader
 by_plan : AreChosen stream_from chosen_stream first_lack
@@ -310,20 +310,20 @@ module _ (cycle : ℕ) (filled : List FilledStream) (domain streams : List ℕ) 
 
 -- what was chosen is what is read
 pub filled_reads_back : FilledNetworksReadBack
-filled_reads_back limits given domain streams text cycle filled network wanted read open_to streams_read are told shallow =
-    let is : table_of text ≡ Some (filled_network cycle filled told.domain_members told.streams_members) = told.written shallow in
+filled_reads_back limits given domain streams text cycle filled network wanted read open_to streams_read are reported shallow =
+    let is : table_of text ≡ Some (filled_network cycle filled reported.domain_members reported.streams_members) = reported.written shallow in
     record {
       network_is =
-          network_reads_back limits cycle filled told.domain_members told.streams_members given domain text network read open_to told.domain_read is;
-      open_network_is = open_network_reads_back limits cycle filled told.domain_members told.streams_members given domain text network read open_to told.domain_read is;
-      streams_are = streams_read_back cycle filled domain streams text told.domain_members told.streams_members wanted streams_read are told.streams_read is;
-      flows_are = flows_read_back cycle filled domain streams text told.domain_members told.streams_members wanted streams_read are told.streams_read is;
+          network_reads_back limits cycle filled reported.domain_members reported.streams_members given domain text network read open_to reported.domain_read is;
+      open_network_is = open_network_reads_back limits cycle filled reported.domain_members reported.streams_members given domain text network read open_to reported.domain_read is;
+      streams_are = streams_read_back cycle filled domain streams text reported.domain_members reported.streams_members wanted streams_read are reported.streams_read is;
+      flows_are = flows_read_back cycle filled domain streams text reported.domain_members reported.streams_members wanted streams_read are reported.streams_read is;
       network_flows_are =
-          network_flows_read_back cycle filled domain streams text told.domain_members told.streams_members wanted streams_read are told.streams_read is;
-      paced_flows_are = paced_flows_read_back cycle filled domain streams text told.domain_members told.streams_members wanted streams_read are told.streams_read is;
-      planned_are = requests_read_back cycle filled domain streams text told.domain_members told.streams_members wanted streams_read are told.streams_read is planned_from chosen_planned by_planned;
-      paced_are = requests_read_back cycle filled domain streams text told.domain_members told.streams_members wanted streams_read are told.streams_read is paced_from chosen_paced by_paced;
-      requests_are = requests_read_back cycle filled domain streams text told.domain_members told.streams_members wanted streams_read are told.streams_read is request_from chosen_request by_requests;
+          network_flows_read_back cycle filled domain streams text reported.domain_members reported.streams_members wanted streams_read are reported.streams_read is;
+      paced_flows_are = paced_flows_read_back cycle filled domain streams text reported.domain_members reported.streams_members wanted streams_read are reported.streams_read is;
+      planned_are = requests_read_back cycle filled domain streams text reported.domain_members reported.streams_members wanted streams_read are reported.streams_read is planned_from chosen_planned by_planned;
+      paced_are = requests_read_back cycle filled domain streams text reported.domain_members reported.streams_members wanted streams_read are reported.streams_read is paced_from chosen_paced by_paced;
+      requests_are = requests_read_back cycle filled domain streams text reported.domain_members reported.streams_members wanted streams_read are reported.streams_read is request_from chosen_request by_requests;
     }
 
 -- a text whose streams were read has a table

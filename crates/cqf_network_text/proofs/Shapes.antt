@@ -12,8 +12,8 @@ use Rattle.cqf_topology.specs.PacedText.{PacedText}
 use Rattle.cqf_traffic.specs.declared.keys.TrafficKey.TheVariants.{Size}
 use Rattle.cqf_traffic.specs.TrafficText.{TrafficText}
 use Rattle.cqf_traffic.specs.FlowsText.{FlowText}
-use Rattle.cqf_network_text.specs.DomainMembers.{delays_data, link_members, links_data, megabits_of, members_of_link, some_then, sync_told, texts_data}
-use Rattle.cqf_network_text.specs.StreamMembers.{branches_then, every_told, members_by, phase_told, stream_members, streams_data, traffic_then}
+use Rattle.cqf_network_text.specs.DomainMembers.{delays_data, link_members, links_data, megabits_of, members_counting, members_of_link, overhead_written, some_then, sync_written, texts_data}
+use Rattle.cqf_network_text.specs.StreamMembers.{branches_then, every_written, members_by, phase_written, stream_members, streams_data, traffic_then}
 use Rattle.cqf_network_text.specs.Plans.{plan_members}
 
 -- if no item nests deeper than n, nor do the items together
@@ -40,18 +40,18 @@ some_shallow key (Some n) more shallow = omega arith
 
 -- the end of a stream's table: its branches, and what follows them
 end_shallow : (request : PacedText) (more : Members) → members_depth more ≤ 2 →
-    members_depth (branches_then request.paths (some_then Phase (phase_told request) more)) ≤ 2
-end_shallow request more shallow = branches_shallow request.paths _ (some_shallow Phase (phase_told request) more shallow)
+    members_depth (branches_then request.paths (some_then Phase (phase_written request) more)) ≤ 2
+end_shallow request more shallow = branches_shallow request.paths _ (some_shallow Phase (phase_written request) more shallow)
 
 stream_shallow : (request : PacedText) (deadline : Option ℕ) (traffic : Option TrafficText) → members_depth (members_by request deadline traffic) ≤ 2
 stream_shallow request deadline None =
-    let inside : members_depth (branches_then request.paths (some_then Phase (phase_told request) no_members)) ≤ 2 =
+    let inside : members_depth (branches_then request.paths (some_then Phase (phase_written request) no_members)) ≤ 2 =
     end_shallow request no_members (omega arith) in
-    some_shallow Deadline deadline _ (some_shallow Every (every_told request) _ (omega arith))
+    some_shallow Deadline deadline _ (some_shallow Every (every_written request) _ (omega arith))
 stream_shallow request deadline (Some t) =
-    let inside : members_depth (branches_then request.paths (some_then Phase (phase_told request) (traffic_then Size t no_members))) ≤ 2 =
+    let inside : members_depth (branches_then request.paths (some_then Phase (phase_written request) (traffic_then Size t no_members))) ≤ 2 =
     end_shallow request (traffic_then Size t no_members) (omega arith) in
-    some_shallow Deadline deadline _ (some_shallow Every (every_told request) _ (omega arith))
+    some_shallow Deadline deadline _ (some_shallow Every (every_written request) _ (omega arith))
 
 -- a link's delays, and its table
 delays_shallow : (same : Bool) (least most : ℕ) →
@@ -79,8 +79,16 @@ plan_shallow d flows =
     (λ flow.
     let inside : members_depth (stream_members flow) ≤ 2 =
     stream_shallow flow.0.0 flow.0.1 flow.1 in omega arith) flows in
-    let sync : members_depth (some_then Sync (sync_told d.sync) no_members) ≤ 2 = some_shallow Sync (sync_told d.sync) no_members (omega arith) in
-    omega arith
+    let sync : members_depth (some_then Sync (sync_written d.sync) no_members) ≤ 2 = some_shallow Sync (sync_written d.sync) no_members (omega arith) in
+    by bridges stations links streams sync (overhead_written d.overhead)
+  where
+    by : depth (texts_data d.bridges) ≤ 1 → depth (texts_data d.stations) ≤ 1 →
+        items_depth (items_of (map (λ link. table (link_members d link)) d.links)) ≤ 2 →
+        items_depth (items_of (map (λ flow. table (stream_members flow)) flows)) ≤ 3 →
+        members_depth (some_then Sync (sync_written d.sync) no_members) ≤ 2 →
+        (reported : Option ℕ) → members_depth (members_counting reported d (streams_data flows)) ≤ 80
+    by bridges stations links streams sync None = omega arith
+    by bridges stations links streams sync (Some n) = omega arith
 
 -- items without dates
 each_dateless : {X : Type 0} (f : X → Data) → ((x : X) → has_valid_dates (f x) ≡ true) → (xs : List X) → items_have_valid_dates (items_of (map f xs)) ≡ true
@@ -104,11 +112,11 @@ some_dateless key (Some n) more none = none
 stream_dateless : (request : PacedText) (deadline : Option ℕ) (traffic : Option TrafficText) →
     members_have_valid_dates (members_by request deadline traffic) ≡ true
 stream_dateless request deadline None =
-    some_dateless Deadline deadline _ (some_dateless Every (every_told request) _ (
-    branches_dateless request.paths _ (some_dateless Phase (phase_told request) no_members refl)))
+    some_dateless Deadline deadline _ (some_dateless Every (every_written request) _ (
+    branches_dateless request.paths _ (some_dateless Phase (phase_written request) no_members refl)))
 stream_dateless request deadline (Some t) =
-    some_dateless Deadline deadline _ (some_dateless Every (every_told request) _ (
-    branches_dateless request.paths _ (some_dateless Phase (phase_told request) (traffic_then Size t no_members) refl)))
+    some_dateless Deadline deadline _ (some_dateless Every (every_written request) _ (
+    branches_dateless request.paths _ (some_dateless Phase (phase_written request) (traffic_then Size t no_members) refl)))
 
 -- a link's delays, and its table
 delays_dateless : (same : Bool) (least most : ℕ) →
@@ -129,5 +137,10 @@ plan_dateless d flows =
     (delays_dateless (link.least == link.delay) link.least link.delay)) d.links in
     let streams : has_valid_dates (streams_data flows) ≡ true =
     each_dateless (λ flow. table (stream_members flow)) (λ flow. stream_dateless flow.0.0 flow.0.1 flow.1) flows in
-    let sync = some_dateless Sync (sync_told d.sync) no_members refl in
-    (λ i. texts_dateless d.bridges i && (links i && (texts_dateless d.stations i && (streams i && sync i))))
+    let sync = some_dateless Sync (sync_written d.sync) no_members refl in
+    by (λ i. texts_dateless d.bridges i && (links i && (texts_dateless d.stations i && (streams i && sync i)))) (overhead_written d.overhead)
+  where
+    by : members_have_valid_dates (members_counting None d (streams_data flows)) ≡ true → (reported : Option ℕ) →
+        members_have_valid_dates (members_counting reported d (streams_data flows)) ≡ true
+    by without None = without
+    by without (Some n) = without

@@ -31,13 +31,13 @@ use Rattle.cqf_network.specs.declared.talkers.Talker.{Talker}
 use Rattle.cqf_network.specs.NetworkFlows.{NetworkFlowText, network_flow_from}
 use Rattle.cqf_network.specs.StreamsText.{StreamText, WantedText, Along, Between, branches_if, first_lack, has_path, in_step_at, in_step_by, listeners_if}
 use Rattle.cqf_network.specs.StreamsText.{listeners_read, octets_by, octets_from, owed_keys, pacing_from, shortest_by, shortest_read, stream_from}
-use Rattle.cqf_network.specs.StreamsText.{talker_from, talker_if, talker_read, way_by}
+use Rattle.cqf_network.specs.StreamsText.{path_by, talker_from, talker_if, talker_read}
 use Rattle.cqf_network.proofs.StreamParts.{HasRead, has_read, map_None, map_both-Ok, or_None}
 use Rattle.cqf_network_text.specs.declared.filling.FilledStream.{FilledStream}
 use Rattle.cqf_network_text.specs.DomainMembers.{put, texts_data}
 use Rattle.cqf_network_text.specs.StreamMembers.{branches_data, put_branches}
-use Rattle.cqf_network_text.specs.Networks.{filled_stream, has_branches, put_turns, turns_by}
-use Rattle.cqf_network_text.specs.NetworkLaws.{IsChoice, beginning_at, chosen_flow, chosen_network_flow, chosen_pacing, chosen_stream, chosen_traffic, chosen_way}
+use Rattle.cqf_network_text.specs.Networks.{active_cycles_by, filled_stream, has_branches, put_active_cycles}
+use Rattle.cqf_network_text.specs.NetworkLaws.{IsChoice, beginning_at, chosen_flow, chosen_network_flow, chosen_pacing, chosen_path, chosen_stream, chosen_traffic}
 use Rattle.cqf_network_text.specs.NetworkLaws.{chosen_paced, chosen_paced_flow, chosen_planned, chosen_request, every_of, paths_of, phase_of}
 use Rattle.cqf_network_text.proofs.DomainReading.{number_reads}
 use Rattle.cqf_network_text.proofs.Puts.{put_apart, put_here}
@@ -48,7 +48,7 @@ use Rattle.cqf_network_text.proofs.TablesRead.{number_if_same, number_or_same, r
 -- ---- the values at its keys
 
 -- a key is another than those of the cycles in which a stream is offered, and than those of its way
-record IsNoTurn (at : List ℕ) : Type 0 where
+record IsNoActiveCycle (at : List ℕ) : Type 0 where
   every : is_eq (slice_cmp nat_cmp at (key_text key.Every)) ≡ false
   phase : is_eq (slice_cmp nat_cmp at (key_text key.Phase)) ≡ false
   offset : is_eq (slice_cmp nat_cmp at (traffic_key_text Offset)) ≡ false
@@ -58,25 +58,25 @@ record IsNoWay (at : List ℕ) : Type 0 where
   paths : is_eq (slice_cmp nat_cmp at (key_text key.Paths)) ≡ false
 
 -- its value is unchanged
-turns_apart : (request : PacedRequest) (offset : Option ℕ) (at : List ℕ) (table : Members) → IsNoTurn at →
-    get_member at (turns_by request offset table) ≡ get_member at table
-turns_apart request None at table no_turn = refl
-turns_apart request (Some offset) at table no_turn =
+active_cycles_apart : (request : PacedRequest) (offset : Option ℕ) (at : List ℕ) (table : Members) → IsNoActiveCycle at →
+    get_member at (active_cycles_by request offset table) ≡ get_member at table
+active_cycles_apart request None at table no_active_cycle = refl
+active_cycles_apart request (Some offset) at table no_active_cycle =
     let with_every : Members = put (key_text key.Every) (integer (pos request.every)) table in
     let with_phase : Members = put (key_text key.Phase) (integer (pos request.phase)) with_every in
-    put_apart at (traffic_key_text Offset) (integer (pos offset)) with_phase no_turn.offset
-    ∙ put_apart at (key_text key.Phase) (integer (pos request.phase)) with_every no_turn.phase
-    ∙ put_apart at (key_text key.Every) (integer (pos request.every)) table no_turn.every
+    put_apart at (traffic_key_text Offset) (integer (pos offset)) with_phase no_active_cycle.offset
+    ∙ put_apart at (key_text key.Phase) (integer (pos request.phase)) with_every no_active_cycle.phase
+    ∙ put_apart at (key_text key.Every) (integer (pos request.every)) table no_active_cycle.every
 
 branches_apart : (paths : List (List (List ℕ))) (at : List ℕ) (table : Members) → IsNoWay at → get_member at (put_branches paths table) ≡ get_member at table
 branches_apart [] at table no_way = put_apart at (key_text key.Paths) (branches_data []) table no_way.paths
 branches_apart (path ∷ []) at table no_way = put_apart at (key_text key.Path) (texts_data path) table no_way.path
 branches_apart (path ∷ other ∷ paths) at table no_way = put_apart at (key_text key.Paths) (branches_data (path ∷ other ∷ paths)) table no_way.paths
 
-way_apart : (b : Bool) (paths : List (List (List ℕ))) (at : List ℕ) (table : Members) → IsNoWay at →
+path_apart : (b : Bool) (paths : List (List (List ℕ))) (at : List ℕ) (table : Members) → IsNoWay at →
     get_member at (cond b table (put_branches paths table)) ≡ get_member at table
-way_apart true paths at table no_way = refl
-way_apart false paths at table no_way = branches_apart paths at table no_way
+path_apart true paths at table no_way = refl
+path_apart false paths at table no_way = branches_apart paths at table no_way
 
 -- branches that are put into a table
 put_path_at : (paths : List (List (List ℕ))) (table : Members) → value_at key.Path table ≡ None → value_at key.Path (put_branches paths table) ≡ path_data paths
@@ -241,12 +241,12 @@ closed false = refl
 
 -- ---- its way
 
-way_is : (given : Option (List (List (List ℕ)))) (paths : List (List (List ℕ))) (talker : Option Talker) (listeners : Option (List (List ℕ))) (way : WantedText) →
-    way_by given talker listeners ≡ Ok way → Along (unwrap_or given paths) ≡ chosen_way paths way
-way_is (Some found) paths talker listeners way h = let is : Along found ≡ way = cc in ap (chosen_way paths) is
-way_is None paths (Some talker) (Some listeners) way h = let is : Between talker.node listeners ≡ way = cc in ap (chosen_way paths) is
-way_is None paths (Some talker) None way h = absurd cc
-way_is None paths None listeners way h = absurd cc
+path_is : (given : Option (List (List (List ℕ)))) (paths : List (List (List ℕ))) (talker : Option Talker) (listeners : Option (List (List ℕ))) (path : WantedText) →
+    path_by given talker listeners ≡ Ok path → Along (unwrap_or given paths) ≡ chosen_path paths path
+path_is (Some found) paths talker listeners path h = let is : Along found ≡ path = cc in ap (chosen_path paths) is
+path_is None paths (Some talker) (Some listeners) path h = let is : Between talker.node listeners ≡ path = cc in ap (chosen_path paths) is
+path_is None paths (Some talker) None path h = absurd cc
+path_is None paths None listeners path h = absurd cc
 
 -- ---- what is put in of its cycles
 
@@ -258,7 +258,7 @@ record IsBase (before base : Members) : Type 0 where
   traffic : (at : TrafficKey) → traffic_at at base ≡ traffic_at at before
 
 -- what is read of the cycles, with what was chosen
-record HasTurns (request : PacedRequest) (offset : Option ℕ) (before table : Members) : Type 0 where
+record HasActiveCycles (request : PacedRequest) (offset : Option ℕ) (before table : Members) : Type 0 where
   pacing : (pacing : Pacing) → pacing_from before ≡ Ok pacing → pacing_from table ≡ Ok (chosen_pacing request offset pacing)
   every : (pacing : Pacing) → pacing_from before ≡ Ok pacing → number_or key.Every 1 table ≡ Ok (every_of (chosen_pacing request offset pacing))
   phase : (pacing : Pacing) → pacing_from before ≡ Ok pacing → number_or key.Phase 0 table ≡ Ok (phase_of (chosen_pacing request offset pacing))
@@ -309,7 +309,7 @@ owed_there false o is none = absurd (false≢true is)
 
 module _ (request : PacedRequest) (few_every : request.every ≤ 4294967295) (few_phase : request.phase ≤ 4294967295) (before base : Members) (kept : IsBase before base) where
   -- none were chosen
-  none_chosen : HasTurns request None before base
+  none_chosen : HasActiveCycles request None before base
   none_chosen =
       let every_same = number_or_same key.Every 1 base before kept.every in
       let phase_same = number_or_same key.Phase 0 base before kept.phase in
@@ -332,7 +332,7 @@ module _ (request : PacedRequest) (few_every : request.every ≤ 4294967295) (fe
   -- some were chosen
   module _ (offset : ℕ) (few : offset ≤ 1000000000) where
     abbrev turned : Members
-    turned = put_turns request offset base
+    turned = put_active_cycles request offset base
 
     abbrev with_every : Members
     with_every = put (key_text key.Every) (integer (pos request.every)) base
@@ -354,8 +354,8 @@ module _ (request : PacedRequest) (few_every : request.every ≤ 4294967295) (fe
     offset_there : traffic_at Offset turned ≡ Some (integer (pos offset))
     offset_there = put_here (traffic_key_text Offset) (integer (pos offset)) with_phase
 
-    other_there : (at : List ℕ) → IsNoTurn at → get_member at turned ≡ get_member at base
-    other_there at no_turn = turns_apart request (Some offset) at base no_turn
+    other_there : (at : List ℕ) → IsNoActiveCycle at → get_member at turned ≡ get_member at base
+    other_there at no_active_cycle = active_cycles_apart request (Some offset) at base no_active_cycle
 
     interval_there : traffic_at Interval turned ≡ traffic_at Interval before
     interval_there = other_there (traffic_key_text Interval) (record { every = refl; phase = refl; offset = refl }) ∙ kept.traffic Interval
@@ -404,7 +404,7 @@ module _ (request : PacedRequest) (few_every : request.every ≤ 4294967295) (fe
         let there : find (is_lacked before) traffic_keys ≡ None = owed_there (has_traffic before) (find (is_lacked before) traffic_keys) any none in
         none_owed (has_traffic turned) (find (is_lacked turned) traffic_keys) (owed_same turned before interval_there size_there ∙ there)
 
-    some_chosen : HasTurns request (Some offset) before turned
+    some_chosen : HasActiveCycles request (Some offset) before turned
     some_chosen = record {
       pacing = pacing_read;
       every = λ pacing h. every_read;
@@ -414,9 +414,9 @@ module _ (request : PacedRequest) (few_every : request.every ≤ 4294967295) (fe
     }
 
   -- so it is in either case
-  has_turns : (offset : Option ℕ) → IfSome offset (λ begins. begins ≤ 1000000000) → HasTurns request offset before (turns_by request offset base)
-  has_turns None few = none_chosen
-  has_turns (Some offset) few = some_chosen offset few
+  has_active_cycles : (offset : Option ℕ) → IfSome offset (λ begins. begins ≤ 1000000000) → HasActiveCycles request offset before (active_cycles_by request offset base)
+  has_active_cycles None few = none_chosen
+  has_active_cycles (Some offset) few = some_chosen offset few
 
 -- ---- its table
 
@@ -433,29 +433,29 @@ module _ (one : FilledStream) (before : Members) where
 
   -- a key that nothing was chosen for
   record IsOther (at : List ℕ) : Type 0 where
-    turn : IsNoTurn at
-    way : IsNoWay at
+    active_cycle : IsNoActiveCycle at
+    no_way : IsNoWay at
     octets : is_eq (slice_cmp nat_cmp at (key_text key.Octets)) ≡ false
 
   reserved_apart : (at : List ℕ) → is_eq (slice_cmp nat_cmp at (key_text key.Octets)) ≡ false → get_member at with_reserved ≡ get_member at before
   reserved_apart at apart = put_apart at (key_text key.Octets) (integer (pos one.request.octets)) before apart
 
   branches_kept : (at : List ℕ) → IsNoWay at → get_member at with_branches ≡ get_member at with_reserved
-  branches_kept at no_way = way_apart (has_branches with_reserved) (paced_text one.request).paths at with_reserved no_way
+  branches_kept at no_way = path_apart (has_branches with_reserved) (paced_text one.request).paths at with_reserved no_way
 
-  turns_kept : (at : List ℕ) → IsNoTurn at → get_member at after ≡ get_member at with_branches
-  turns_kept at no_turn = turns_apart one.request one.offset at with_branches no_turn
+  active_cycles_kept : (at : List ℕ) → IsNoActiveCycle at → get_member at after ≡ get_member at with_branches
+  active_cycles_kept at no_active_cycle = active_cycles_apart one.request one.offset at with_branches no_active_cycle
 
   kept : (at : List ℕ) → IsOther at → get_member at after ≡ get_member at before
-  kept at other = turns_kept at other.turn ∙ branches_kept at other.way ∙ reserved_apart at other.octets
+  kept at other = active_cycles_kept at other.active_cycle ∙ branches_kept at other.no_way ∙ reserved_apart at other.octets
 
   apart : (at : List ℕ) → is_eq (slice_cmp nat_cmp at (key_text key.Every)) ≡ false → is_eq (slice_cmp nat_cmp at (key_text key.Phase)) ≡ false →
       is_eq (slice_cmp nat_cmp at (traffic_key_text Offset)) ≡ false → is_eq (slice_cmp nat_cmp at (key_text key.Path)) ≡ false →
       is_eq (slice_cmp nat_cmp at (key_text key.Paths)) ≡ false → is_eq (slice_cmp nat_cmp at (key_text key.Octets)) ≡ false →
       get_member at after ≡ get_member at before
   apart at every phase offset path paths octets = kept at (record {
-    turn = record { every = every; phase = phase; offset = offset };
-    way = record { path = path; paths = paths };
+    active_cycle = record { every = every; phase = phase; offset = offset };
+    no_way = record { path = path; paths = paths };
     octets = octets;
   })
 
@@ -492,7 +492,7 @@ module _ (one : FilledStream) (before : Members) where
   -- what was chosen
   octets_at : value_at key.Octets after ≡ Some (integer (pos one.request.octets))
   octets_at =
-      turns_kept (key_text key.Octets) (record { every = refl; phase = refl; offset = refl })
+      active_cycles_kept (key_text key.Octets) (record { every = refl; phase = refl; offset = refl })
       ∙ branches_kept (key_text key.Octets) (record { path = refl; paths = refl })
       ∙ put_here (key_text key.Octets) (integer (pos one.request.octets)) before
 
@@ -507,20 +507,20 @@ module _ (one : FilledStream) (before : Members) where
   any_kept = (λ i. is_some (path_kept i) || is_some (paths_kept i))
 
   path_after : value_at key.Path after ≡ value_at key.Path with_branches
-  path_after = turns_kept (key_text key.Path) (record { every = refl; phase = refl; offset = refl })
+  path_after = active_cycles_kept (key_text key.Path) (record { every = refl; phase = refl; offset = refl })
 
   paths_after : value_at key.Paths after ≡ value_at key.Paths with_branches
-  paths_after = turns_kept (key_text key.Paths) (record { every = refl; phase = refl; offset = refl })
+  paths_after = active_cycles_kept (key_text key.Paths) (record { every = refl; phase = refl; offset = refl })
 
   -- the branches of the table
-  record HasWay (given : Option (List (List (List ℕ)))) : Type 0 where
+  record HasRoute (given : Option (List (List (List ℕ)))) : Type 0 where
     some : has_path after ≡ true
     read : branches_from after ≡ Ok (unwrap_or given (paced_text one.request).paths)
 
-  has_way : (given : Option (List (List (List ℕ)))) → branches_if before ≡ Ok given → HasWay given
-  has_way given h = by (has_path before) refl h
+  has_route : (given : Option (List (List (List ℕ)))) → branches_if before ≡ Ok given → HasRoute given
+  has_route given h = by (has_path before) refl h
     where
-      by : (b : Bool) → has_path before ≡ b → cond b (and_then (branches_from before) (λ paths. Ok (Some paths))) (Ok None) ≡ Ok given → HasWay given
+      by : (b : Bool) → has_path before ≡ b → cond b (and_then (branches_from before) (λ paths. Ok (Some paths))) (Ok None) ≡ Ok given → HasRoute given
       by true is h =
           let (found, read, same) = and_then-Ok (branches_from before) (λ paths. Ok (Some paths)) given h in
           let stays : with_branches ≡ with_reserved =
@@ -591,11 +591,11 @@ module _ (one : FilledStream) (before : Members) (s : StreamText) (choice : IsCh
   was : HasRead before s
   was = has_read before s read
 
-  ways : HasWay one before (has_read before s read).given
-  ways = has_way one before (has_read before s read).given (has_read before s read).branches
+  routes : HasRoute one before (has_read before s read).given
+  routes = has_route one before (has_read before s read).given (has_read before s read).branches
 
-  turns : HasTurns one.request one.offset before filled
-  turns = has_turns one.request choice.every choice.phase before (with_branches one before) (base_is one before) one.offset choice.offset
+  active_cycles : HasActiveCycles one.request one.offset before filled
+  active_cycles = has_active_cycles one.request choice.every choice.phase before (with_branches one before) (base_is one before) one.offset choice.offset
 
   -- its parts
   name_is : read_at key.Name as_str filled ≡ Ok s.name
@@ -610,14 +610,14 @@ module _ (one : FilledStream) (before : Members) (s : StreamText) (choice : IsCh
   octets_are = ap (λ o. octets_by o filled) (octets_at one before) ∙ ap (λ r. and_then r (λ octets. Ok (Some octets))) number_is
 
   pacing_is : pacing_from filled ≡ Ok (chosen_pacing one.request one.offset s.pacing)
-  pacing_is = turns.pacing s.pacing was.pacing
+  pacing_is = active_cycles.pacing s.pacing was.pacing
 
   branches_are : branches_from filled ≡ Ok (unwrap_or (has_read before s read).given (paced_text one.request).paths)
-  branches_are = ways.read
+  branches_are = routes.read
 
   branches_if_are : branches_if filled ≡ Ok (Some (unwrap_or (has_read before s read).given (paced_text one.request).paths))
   branches_if_are =
-      ap (λ b. cond b (and_then (branches_from filled) (λ paths. Ok (Some paths))) (Ok None)) ways.some
+      ap (λ b. cond b (and_then (branches_from filled) (λ paths. Ok (Some paths))) (Ok None)) routes.some
       ∙ ap (λ r. and_then r (λ paths. Ok (Some paths))) branches_are
 
   talker_is : talker_read filled ≡ Ok s.talker
@@ -626,14 +626,14 @@ module _ (one : FilledStream) (before : Members) (s : StreamText) (choice : IsCh
   listeners_are : listeners_read filled ≡ Ok s.listeners
   listeners_are = ap listeners_if (to_at one before) ∙ was.listeners
 
-  along_is : Along (unwrap_or (has_read before s read).given (paced_text one.request).paths) ≡ chosen_way (paced_text one.request).paths s.way
-  along_is = way_is (has_read before s read).given (paced_text one.request).paths s.talker s.listeners s.way (has_read before s read).way
+  along_is : Along (unwrap_or (has_read before s read).given (paced_text one.request).paths) ≡ chosen_path (paced_text one.request).paths s.path
+  along_is = path_is (has_read before s read).given (paced_text one.request).paths s.talker s.listeners s.path (has_read before s read).path
 
   deadline_is : deadline_from filled ≡ Ok s.deadline
   deadline_is = number_if_same key.Deadline 1 4294967295 filled before (deadline_at one before) ∙ was.deadline
 
   traffic_is : traffic_or filled ≡ Ok (chosen_traffic one.offset s.traffic)
-  traffic_is = ap (result_map_both (λ t. t) flows_fault.BadValue) (turns.traffic s.traffic was.traffic choice.has_traffic)
+  traffic_is = ap (result_map_both (λ t. t) flows_fault.BadValue) (active_cycles.traffic s.traffic was.traffic choice.has_traffic)
 
   shortest_is : shortest_read (chosen_traffic one.offset s.traffic) filled ≡ Ok s.shortest
   shortest_is =
@@ -653,14 +653,14 @@ module _ (one : FilledStream) (before : Members) (s : StreamText) (choice : IsCh
       let deadline_read = deadline_is in
       let traffic_found = traffic_is in
       let shortest_found = shortest_is in
-      let way_found = along_is in
+      let path_found = along_is in
       (λ i. and_then (or_streams (names i)) (λ (name : List ℕ).
       and_then (or_streams (octets_read i)) (λ (octets : Option ℕ).
       and_then (pacing_read i) (λ (pacing : Pacing).
       and_then (or_streams (branches_read i)) (λ (paths : Option (List (List (List ℕ)))).
       and_then (or_streams (talker_found i)) (λ (talker : Option Talker).
       and_then (or_streams (listeners_found i)) (λ (listeners : Option (List (List ℕ))).
-      and_then (or_streams (way_by paths talker listeners)) (λ (way : WantedText).
+      and_then (or_streams (path_by paths talker listeners)) (λ (path : WantedText).
       and_then (or_streams (deadline_read i)) (λ (deadline : Option ℕ).
       and_then (traffic_found i) (λ (traffic : Option TrafficText).
       and_then (shortest_read traffic filled) (λ (shortest : Option ℕ).
@@ -668,7 +668,7 @@ module _ (one : FilledStream) (before : Members) (s : StreamText) (choice : IsCh
         name = name;
         octets = octets;
         pacing = pacing;
-        way = way;
+        path = path;
         talker = talker;
         listeners = listeners;
         deadline = deadline;
@@ -680,7 +680,7 @@ module _ (one : FilledStream) (before : Members) (s : StreamText) (choice : IsCh
         name = s.name;
         octets = Some one.request.octets;
         pacing = chosen_pacing one.request one.offset s.pacing;
-        way = way_found i;
+        path = path_found i;
         talker = s.talker;
         listeners = s.listeners;
         deadline = s.deadline;
@@ -693,10 +693,10 @@ module _ (one : FilledStream) (before : Members) (s : StreamText) (choice : IsCh
   paced_is_chosen =
       let names = name_is in
       let octets_read = number_is in
-      let every_read = turns.every s.pacing was.pacing in
-      let phase_read = turns.phase s.pacing was.pacing in
-      let branches_read : branches_from filled ≡ Ok (paths_of (chosen_way (paced_text one.request).paths s.way)) =
-      branches_are ∙ ap (λ way. Ok (paths_of way)) along_is in
+      let every_read = active_cycles.every s.pacing was.pacing in
+      let phase_read = active_cycles.phase s.pacing was.pacing in
+      let branches_read : branches_from filled ≡ Ok (paths_of (chosen_path (paced_text one.request).paths s.path)) =
+      branches_are ∙ ap (λ path. Ok (paths_of path)) along_is in
       (λ i. and_then (names i) (λ (name : List ℕ).
       and_then (octets_read i) (λ (octets : ℕ).
       and_then (every_read i) (λ (every : ℕ).
@@ -708,8 +708,8 @@ module _ (one : FilledStream) (before : Members) (s : StreamText) (choice : IsCh
   request_is_chosen =
       let names = name_is in
       let octets_read = number_is in
-      let branches_read : branches_from filled ≡ Ok (paths_of (chosen_way (paced_text one.request).paths s.way)) =
-      branches_are ∙ ap (λ way. Ok (paths_of way)) along_is in
+      let branches_read : branches_from filled ≡ Ok (paths_of (chosen_path (paced_text one.request).paths s.path)) =
+      branches_are ∙ ap (λ path. Ok (paths_of path)) along_is in
       (λ i. and_then (names i) (λ (name : List ℕ).
       and_then (octets_read i) (λ (octets : ℕ).
       and_then (branches_read i) (λ (paths : List (List (List ℕ))).
@@ -766,14 +766,14 @@ module _ (one : FilledStream) (before : Members) (s : StreamText) (choice : IsCh
   octets_there = ap (λ o. is_none o && true) (octets_at one before)
 
   path_there : lacks key.Path filled ≡ false
-  path_there = either (value_at key.Path filled) (value_at key.Paths filled) ways.some
+  path_there = either (value_at key.Path filled) (value_at key.Paths filled) routes.some
 
   owed_none : first_owed filled ≡ None
-  owed_none = turns.owed s.traffic was.traffic choice.has_traffic lacked.1
+  owed_none = active_cycles.owed s.traffic was.traffic choice.has_traffic lacked.1
 
   pub stream_lacks_none : first_lack filled ≡ None
   stream_lacks_none =
-      let some = ways.some in
+      let some = routes.some in
       let named = name_there in
       let sized = octets_there in
       let owed = owed_none in

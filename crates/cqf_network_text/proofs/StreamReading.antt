@@ -24,9 +24,9 @@ use Rattle.cqf_traffic.specs.TrafficText.{TrafficText, first_owed, has_traffic, 
 use Rattle.cqf_traffic.specs.TrafficText.{traffic_from, value_at as traffic_at}
 use Rattle.cqf_traffic.specs.FlowsText.{FlowText, first_lack, flow_from, or_streams}
 use Rattle.cqf_network_text.specs.DomainMembers.{texts_data}
-use Rattle.cqf_network_text.specs.StreamMembers.{branches_data, every_told, is_each_cycle, number_of_traffic, phase_told, stream_members}
-use Rattle.cqf_network_text.specs.Plans.{IsTellable, IsTellableNumber, IsTellableTraffic, unpaced}
-use Rattle.cqf_network_text.proofs.DomainReading.{number_if_reads, number_reads, told_or}
+use Rattle.cqf_network_text.specs.StreamMembers.{branches_data, every_written, is_each_cycle, number_of_traffic, phase_written, stream_members}
+use Rattle.cqf_network_text.specs.Plans.{IsExpressible, IsExpressibleNumber, IsExpressibleTraffic, unpaced}
+use Rattle.cqf_network_text.proofs.DomainReading.{number_if_reads, number_reads, written_or}
 use Rattle.cqf_network_text.proofs.StreamValues.{HasStream, has_stream, number_data, path_data, paths_data}
 
 -- texts, and branches
@@ -86,21 +86,21 @@ module _ (table : Members) (request : PacedText) (deadline : Option ℕ) (traffi
       ∙ ap (λ o. ok_or o (BadValue at)) (number_reads 0 4294967295 n (omega arith) few)
 
   -- the cycles in which it is offered
-  told_few : (same : Bool) (n : ℕ) → n ≤ 4294967295 → IfSome (cond same None (Some n)) (λ n. n ≤ 4294967295)
-  told_few true n few = tt
-  told_few false n few = few
+  written_few : (same : Bool) (n : ℕ) → n ≤ 4294967295 → IfSome (cond same None (Some n)) (λ n. n ≤ 4294967295)
+  written_few true n few = tt
+  written_few false n few = few
 
   every_read : request.every ≤ 4294967295 → number_or key.Every 1 table ≡ Ok request.every
   every_read few =
       let same : Bool = is_each_cycle request.every request.phase in
-      number_or_reads key.Every 1 (every_told request) has.every_at (told_few same request.every few)
-      ∙ ap Ok (told_or same request.every 1 (λ is. each_every request.every request.phase is))
+      number_or_reads key.Every 1 (every_written request) has.every_at (written_few same request.every few)
+      ∙ ap Ok (written_or same request.every 1 (λ is. each_every request.every request.phase is))
 
   phase_read : request.phase ≤ 4294967295 → number_or key.Phase 0 table ≡ Ok request.phase
   phase_read few =
       let same : Bool = is_each_cycle request.every request.phase in
-      number_or_reads key.Phase 0 (phase_told request) has.phase_at (told_few same request.phase few)
-      ∙ ap Ok (told_or same request.phase 0 (λ is. each_phase request.every request.phase is))
+      number_or_reads key.Phase 0 (phase_written request) has.phase_at (written_few same request.phase few)
+      ∙ ap Ok (written_or same request.phase 0 (λ is. each_phase request.every request.phase is))
 
   -- the request, with its cycles and without
   request_reads : request.octets ≤ 4294967295 → request_from table ≡ Ok (unpaced request)
@@ -115,12 +115,12 @@ module _ (table : Members) (request : PacedText) (deadline : Option ℕ) (traffi
       Ok (record { name = name; octets = octets; every = every; phase = phase; paths = paths })))))))
 
   -- a number of traffic
-  number_is_read : (at : TrafficKey) (n : ℕ) → traffic_at at table ≡ Some (number_data n) → IsTellableNumber at n → number_at at table ≡ Ok n
+  number_is_read : (at : TrafficKey) (n : ℕ) → traffic_at at table ≡ Some (number_data n) → IsExpressibleNumber at n → number_at at table ≡ Ok n
   number_is_read at n is good =
       ap (λ o. number_by o at) is ∙ ap (λ o. ok_or o at) (number_reads (least_of at) (most_of at) n good.least good.most)
 
   -- all of them
-  numbers_read : (t : TrafficText) → IsTellableTraffic t → ((at : TrafficKey) → traffic_at at table ≡ Some (number_data (number_of_traffic at t)))
+  numbers_read : (t : TrafficText) → IsExpressibleTraffic t → ((at : TrafficKey) → traffic_at at table ≡ Some (number_data (number_of_traffic at t)))
       → numbers_from table ≡ Ok t
   numbers_read t good at =
       let interval_is = number_is_read Interval t.interval (at Interval) good.interval in
@@ -143,7 +143,7 @@ module _ (table : Members) (request : PacedText) (deadline : Option ℕ) (traffi
       || (is_some (traffic_at Jitter table) || (is_some (traffic_at Offset table) || false)))))
 
   -- the traffic
-  traffic_by_reads : (some : Option TrafficText) → IfSome some IsTellableTraffic
+  traffic_by_reads : (some : Option TrafficText) → IfSome some IsExpressibleTraffic
       → ((at : TrafficKey) → traffic_at at table ≡ option_map (λ t. number_data (number_of_traffic at t)) some) → traffic_from table ≡ Ok some
   traffic_by_reads None good at = ap (λ b. cond b (and_then (numbers_from table) (λ t. Ok (Some t))) (Ok None)) (no_traffic at)
   traffic_by_reads (Some t) good at =
@@ -176,19 +176,19 @@ has_values : (flow : FlowText) → HasStream (stream_members flow) flow.0.0 flow
 has_values flow = has_stream flow.0.0 flow.0.1 flow.1
 
 -- it is read as the stream's request, with its cycles, with its deadline, and with its traffic
-pub request_is_read : (flow : FlowText) → IsTellable flow → request_from (stream_members flow) ≡ Ok (unpaced flow.0.0)
+pub request_is_read : (flow : FlowText) → IsExpressible flow → request_from (stream_members flow) ≡ Ok (unpaced flow.0.0)
 request_is_read flow good = request_reads (stream_members flow) _ _ _ (has_values flow) good.octets
 
-pub paced_is_read : (flow : FlowText) → IsTellable flow → paced_from (stream_members flow) ≡ Ok flow.0.0
+pub paced_is_read : (flow : FlowText) → IsExpressible flow → paced_from (stream_members flow) ≡ Ok flow.0.0
 paced_is_read flow good = paced_reads (stream_members flow) _ _ _ (has_values flow) good.octets good.every good.phase
 
-pub planned_is_read : (flow : FlowText) → IsTellable flow → planned_from (stream_members flow) ≡ Ok flow.0
+pub planned_is_read : (flow : FlowText) → IsExpressible flow → planned_from (stream_members flow) ≡ Ok flow.0
 planned_is_read flow good =
     let deadline_is : deadline_from (stream_members flow) ≡ Ok flow.0.1 =
     number_if_reads key.Deadline 1 4294967295 (stream_members flow) flow.0.1 (has_values flow).deadline_at good.deadline in
     (λ i. and_then (paced_is_read flow good i) (λ request. and_then (deadline_is i) (λ deadline. Ok (request, deadline))))
 
-pub flow_is_read : (flow : FlowText) → IsTellable flow → flow_from (stream_members flow) ≡ Ok flow
+pub flow_is_read : (flow : FlowText) → IsExpressible flow → flow_from (stream_members flow) ≡ Ok flow
 flow_is_read flow good =
     let traffic_is : traffic_from (stream_members flow) ≡ Ok flow.1 =
     traffic_by_reads (stream_members flow) _ _ _ (has_values flow) flow.1 good.traffic (has_values flow).traffic_is in

@@ -13,7 +13,7 @@ use Rattle.cqf_traffic.specs.declared.keys.TrafficKey.TheVariants.{Interval, Fra
 use Rattle.cqf_traffic.specs.Keys.{key_text as traffic_key_text}
 use Rattle.cqf_traffic.specs.TrafficText.{TrafficText, value_at as traffic_at}
 use Rattle.cqf_network_text.specs.DomainMembers.{some_then, texts_data}
-use Rattle.cqf_network_text.specs.StreamMembers.{branches_data, branches_then, every_told, members_by, number_of_traffic, phase_told, traffic_then}
+use Rattle.cqf_network_text.specs.StreamMembers.{branches_data, branches_then, every_written, members_by, number_of_traffic, phase_written, traffic_then}
 
 -- the value at `path`, and at `paths`
 abbrev pub path_data : List (List (List ℕ)) → Option Data
@@ -33,8 +33,8 @@ number_data n = integer (pos n)
 pub record HasStream (table : Members) (request : PacedText) (deadline : Option ℕ) (traffic : Option TrafficText) : Type 0 where
   pub name_at : value_at Name table ≡ Some (string request.name)
   pub octets_at : value_at Octets table ≡ Some (number_data request.octets)
-  pub every_at : value_at Every table ≡ option_map number_data (every_told request)
-  pub phase_at : value_at Phase table ≡ option_map number_data (phase_told request)
+  pub every_at : value_at Every table ≡ option_map number_data (every_written request)
+  pub phase_at : value_at Phase table ≡ option_map number_data (phase_written request)
   pub path_at : value_at Path table ≡ path_data request.paths
   pub paths_at : value_at Paths table ≡ paths_data request.paths
   pub deadline_at : value_at Deadline table ≡ option_map number_data deadline
@@ -96,37 +96,37 @@ some_found at (Some n) more same none = here (slice_cmp nat_cmp (key_text at) (k
 -- the numbers of traffic: none without traffic, each with traffic
 none_there : (request : PacedText) (deadline : Option ℕ) (key : TrafficKey) → traffic_at key (members_by request deadline None) ≡ None
 none_there request deadline Interval =
-    past_front (traffic_key_text Interval) deadline (every_told request) _ refl refl
-    ∙ past_end (traffic_key_text Interval) request.paths (phase_told request) no_members refl refl refl
+    past_front (traffic_key_text Interval) deadline (every_written request) _ refl refl
+    ∙ past_end (traffic_key_text Interval) request.paths (phase_written request) no_members refl refl refl
 none_there request deadline Frames =
-    past_front (traffic_key_text Frames) deadline (every_told request) _ refl refl
-    ∙ past_end (traffic_key_text Frames) request.paths (phase_told request) no_members refl refl refl
+    past_front (traffic_key_text Frames) deadline (every_written request) _ refl refl
+    ∙ past_end (traffic_key_text Frames) request.paths (phase_written request) no_members refl refl refl
 none_there request deadline Size =
-    past_front (traffic_key_text Size) deadline (every_told request) _ refl refl
-    ∙ past_end (traffic_key_text Size) request.paths (phase_told request) no_members refl refl refl
+    past_front (traffic_key_text Size) deadline (every_written request) _ refl refl
+    ∙ past_end (traffic_key_text Size) request.paths (phase_written request) no_members refl refl refl
 none_there request deadline Jitter =
-    past_front (traffic_key_text Jitter) deadline (every_told request) _ refl refl
-    ∙ past_end (traffic_key_text Jitter) request.paths (phase_told request) no_members refl refl refl
+    past_front (traffic_key_text Jitter) deadline (every_written request) _ refl refl
+    ∙ past_end (traffic_key_text Jitter) request.paths (phase_written request) no_members refl refl refl
 none_there request deadline Offset =
-    past_front (traffic_key_text Offset) deadline (every_told request) _ refl refl
-    ∙ past_end (traffic_key_text Offset) request.paths (phase_told request) no_members refl refl refl
+    past_front (traffic_key_text Offset) deadline (every_written request) _ refl refl
+    ∙ past_end (traffic_key_text Offset) request.paths (phase_written request) no_members refl refl refl
 
 all_there : (request : PacedText) (deadline : Option ℕ) (t : TrafficText) (key : TrafficKey) →
     traffic_at key (members_by request deadline (Some t)) ≡ Some (number_data (number_of_traffic key t))
-all_there request deadline t Interval = past_front (traffic_key_text Interval) deadline (every_told request) _ refl refl
-all_there request deadline t Frames = past_front (traffic_key_text Frames) deadline (every_told request) _ refl refl
+all_there request deadline t Interval = past_front (traffic_key_text Interval) deadline (every_written request) _ refl refl
+all_there request deadline t Frames = past_front (traffic_key_text Frames) deadline (every_written request) _ refl refl
 all_there request deadline t Size =
-    past_front (traffic_key_text Size) deadline (every_told request) _ refl refl
-    ∙ past_end (traffic_key_text Size) request.paths (phase_told request) (traffic_then Size t no_members) refl refl refl
-all_there request deadline t Jitter = past_front (traffic_key_text Jitter) deadline (every_told request) _ refl refl
-all_there request deadline t Offset = past_front (traffic_key_text Offset) deadline (every_told request) _ refl refl
+    past_front (traffic_key_text Size) deadline (every_written request) _ refl refl
+    ∙ past_end (traffic_key_text Size) request.paths (phase_written request) (traffic_then Size t no_members) refl refl refl
+all_there request deadline t Jitter = past_front (traffic_key_text Jitter) deadline (every_written request) _ refl refl
+all_there request deadline t Offset = past_front (traffic_key_text Offset) deadline (every_written request) _ refl refl
 
 -- a stream's table has its values
 pub has_stream : (request : PacedText) (deadline : Option ℕ) (traffic : Option TrafficText) →
     HasStream (members_by request deadline traffic) request deadline traffic
 has_stream request deadline None =
-    let every = every_told request in
-    let phase = phase_told request in
+    let every = every_written request in
+    let phase = phase_written request in
     let last : Members = no_members in
     record {
       name_at = past_front (key_text Name) deadline every _ refl refl;
@@ -147,8 +147,8 @@ has_stream request deadline None =
       traffic_is = none_there request deadline;
     }
 has_stream request deadline (Some t) =
-    let every = every_told request in
-    let phase = phase_told request in
+    let every = every_written request in
+    let phase = phase_written request in
     let last : Members = traffic_then Size t no_members in
     record {
       name_at = past_front (key_text Name) deadline every _ refl refl;

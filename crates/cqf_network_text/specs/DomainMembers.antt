@@ -10,7 +10,7 @@ use Rattle.cqf_model.specs.declared.topology.Link.{Link}
 use Rattle.cqf_model.specs.declared.topology.Node.TheVariants.{Bridge}
 use Rattle.cqf_model.specs.Domain.{Domain}
 use Rattle.cqf_topology.specs.declared.keys.Key.{Key}
-use Rattle.cqf_topology.specs.declared.keys.Key.TheVariants.{Bridges, Cycle, Delay, From, Guard, Links, Rate, Stations, Streams, Sync, To}
+use Rattle.cqf_topology.specs.declared.keys.Key.TheVariants.{Bridges, Cycle, Delay, From, GateOverhead, Guard, Links, Rate, Stations, Streams, Sync, To}
 use Rattle.cqf_topology.specs.Fields.{key_text}
 use Rattle.cqf_topology.specs.NodeNames.{name_of_node}
 
@@ -73,16 +73,25 @@ abbrev pub links_data : Domain → Data
 links_data d = array (items_of (map (λ link. table (link_members d link)) d.links))
 
 -- how far clocks may differ; none if they may not
-abbrev pub sync_told : ℕ → Option ℕ
-sync_told sync = if sync == 0 then None else Some sync
+abbrev pub sync_written : ℕ → Option ℕ
+sync_written sync = if sync == 0 then None else Some sync
 
--- a domain's table; the value at `streams` is given
-abbrev pub domain_members : Domain → Data → Members
-domain_members d streams =
+-- the octets of a frame that gates don't count; none if they count all
+abbrev pub overhead_written : ℕ → Option ℕ
+overhead_written overhead = if overhead == 0 then None else Some overhead
+
+-- a domain's table, given the value at `gate-overhead`, if any, and the value at `streams`
+abbrev pub members_counting : Option ℕ → Domain → Data → Members
+members_counting overhead d streams =
     member (key_text Bridges) (texts_data d.bridges) (
     member (key_text Cycle) (integer (pos d.cycle_time)) (
+    some_then GateOverhead overhead (
     member (key_text Guard) (integer (pos d.guard)) (
     member (key_text Links) (links_data d) (
     member (key_text Stations) (texts_data d.stations) (
     member (key_text Streams) streams (
-    some_then Sync (sync_told d.sync) no_members))))))
+    some_then Sync (sync_written d.sync) no_members)))))))
+
+-- a domain's table with its own value at `gate-overhead`; the value at `streams` is given
+abbrev pub domain_members : Domain → Data → Members
+domain_members d streams = members_counting (overhead_written d.overhead) d streams

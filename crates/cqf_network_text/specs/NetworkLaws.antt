@@ -25,6 +25,7 @@ with_cycle cycle_time network = record {
   candidates = cycle_time ∷ [];
   guard = network.guard;
   sync = network.sync;
+  overhead = network.overhead;
   bridges = network.bridges;
   stations = network.stations;
   links = network.links;
@@ -36,12 +37,12 @@ abbrev pub chosen_pacing : PacedRequest → Option ℕ → Pacing → Pacing
 chosen_pacing request None pacing = pacing
 chosen_pacing request (Some offset) pacing = Given request.every request.phase
 
--- its paths: those of its text, or the chosen ones if its text has none
-abbrev pub chosen_way : List (List (List ℕ)) → WantedText → WantedText
-chosen_way paths (Along given) = Along given
-chosen_way paths (Between from to) = Along paths
+-- a stream's paths: those of its text, or the chosen ones if its text has none
+abbrev pub chosen_path : List (List (List ℕ)) → WantedText → WantedText
+chosen_path paths (Along given) = Along given
+chosen_path paths (Between from to) = Along paths
 
--- its traffic: if its cycles were chosen, its talker's offers begin at the chosen instant
+-- a stream's traffic: if its cycles were chosen, its talker's offers begin at the chosen instant
 abbrev pub beginning_at : ℕ → TrafficText → TrafficText
 beginning_at offset t = record { interval = t.interval; frames = t.frames; size = t.size; jitter = t.jitter; offset = offset }
 
@@ -55,7 +56,7 @@ chosen_stream one s = record {
   name = s.name;
   octets = Some one.request.octets;
   pacing = chosen_pacing one.request one.offset s.pacing;
-  way = chosen_way (paced_text one.request).paths s.way;
+  path = chosen_path (paced_text one.request).paths s.path;
   talker = s.talker;
   listeners = s.listeners;
   deadline = s.deadline;
@@ -78,7 +79,7 @@ paths_of (Between from to) = []
 
 abbrev pub flow_by : ℕ → StreamText → FlowText
 flow_by octets s =
-    ((record { name = s.name; octets = octets; every = every_of s.pacing; phase = phase_of s.pacing; paths = paths_of s.way }, s.deadline), s.traffic)
+    ((record { name = s.name; octets = octets; every = every_of s.pacing; phase = phase_of s.pacing; paths = paths_of s.path }, s.deadline), s.traffic)
 
 -- a stream with what was chosen for it, as the other commands read it: with its deadline and traffic; and with its talker and listeners too
 abbrev pub chosen_flow : FilledStream → StreamText → FlowText
@@ -117,7 +118,7 @@ pub record IsChoice (one : FilledStream) (s : StreamText) : Type 0 where
 -- one choice for each of some streams, in order
 pub record AreChoices (filled : List FilledStream) (streams : List StreamText) : Type 0 where
   pub one_each : length filled ≡ length streams
-  pub each : (place : ℕ) (one : FilledStream) (s : StreamText) → slice_get filled place ≡ Some one → slice_get streams place ≡ Some s → IsChoice one s
+  pub each : (index : ℕ) (one : FilledStream) (s : StreamText) → slice_get filled index ≡ Some one → slice_get streams index ≡ Some s → IsChoice one s
 
 -- every reader finds in a text the network with this cycle time, and its streams with what was chosen for them: `plan`, and the commands that
 -- read streams with deadlines and traffic, with talkers and listeners too, with traffic alone, with deadlines alone, with neither, and without
@@ -140,6 +141,6 @@ abbrev pub FilledNetworksReadBack : Type 0
 FilledNetworksReadBack =
     (limits : Limits) (given : Option (List ℕ)) (domain streams text : List ℕ) (cycle_time : ℕ) (filled : List FilledStream) (network : NetworkDomain)
     (wanted : List StreamText) → open_network_of_text limits given domain ≡ Ok network → IsOpenCycle network cycle_time →
-    network_streams_of_text streams ≡ Ok wanted → AreChoices filled wanted → (told : IsFilledText domain streams cycle_time filled text) →
-    members_depth (filled_network cycle_time filled told.domain_members told.streams_members) ≤ 80 →
+    network_streams_of_text streams ≡ Ok wanted → AreChoices filled wanted → (reported : IsFilledText domain streams cycle_time filled text) →
+    members_depth (filled_network cycle_time filled reported.domain_members reported.streams_members) ≤ 80 →
     IsReadAsChosen limits network wanted cycle_time filled text

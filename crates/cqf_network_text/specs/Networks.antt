@@ -27,22 +27,22 @@ abbrev pub has_branches : Members → Bool
 has_branches members = is_some (value_at Path members) || is_some (value_at Paths members)
 
 -- a stream's table with its paths, if it had none
-abbrev pub with_way : FilledStream → Members → Members
-with_way filled members = if has_branches members then members else put_branches (paced_text filled.request).paths members
+abbrev pub with_path : FilledStream → Members → Members
+with_path filled members = if has_branches members then members else put_branches (paced_text filled.request).paths members
 
 -- a stream's table with the cycles in which it is offered and the instant at which its talker's offers begin, if they were chosen
-abbrev pub put_turns : PacedRequest → ℕ → Members → Members
-put_turns request offset members =
+abbrev pub put_active_cycles : PacedRequest → ℕ → Members → Members
+put_active_cycles request offset members =
     put (traffic_key_text Offset) (integer (pos offset))
     (put (key_text Phase) (integer (pos request.phase))
     (put (key_text Every) (integer (pos request.every)) members))
 
-abbrev pub turns_by : PacedRequest → Option ℕ → Members → Members
-turns_by request None members = members
-turns_by request (Some offset) members = put_turns request offset members
+abbrev pub active_cycles_by : PacedRequest → Option ℕ → Members → Members
+active_cycles_by request None members = members
+active_cycles_by request (Some offset) members = put_active_cycles request offset members
 
-abbrev pub with_turns : FilledStream → Members → Members
-with_turns filled members = turns_by filled.request filled.offset members
+abbrev pub with_active_cycles : FilledStream → Members → Members
+with_active_cycles filled members = active_cycles_by filled.request filled.offset members
 
 -- a stream's table with the octets that it reserves
 abbrev pub with_octets : FilledStream → Members → Members
@@ -50,7 +50,7 @@ with_octets filled members = put (key_text Octets) (integer (pos filled.request.
 
 -- a stream's table with everything that was chosen for it
 abbrev pub filled_stream : FilledStream → Members → Members
-filled_stream filled members = with_turns filled (with_way filled (with_octets filled members))
+filled_stream filled members = with_active_cycles filled (with_path filled (with_octets filled members))
 
 -- the streams of an array, each a table, with what was chosen for them in their order; a stream without a choice is unchanged
 abbrev pub filled_item : FilledStream → Data → Data

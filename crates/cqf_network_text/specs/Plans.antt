@@ -27,25 +27,25 @@ pub record IsWrittenPlan (d : Domain) (flows : List FlowText) (text : List ℕ) 
   pub written : IsDocumentText false (plan_members d flows) text
   pub document : parse_document text ≡ Some (plan_members d flows)
 
--- a number may stand in a text at a key of traffic, and so may each of some traffic
-pub record IsTellableNumber (key : TrafficKey) (n : ℕ) : Type 0 where
+-- a number that a text may have at a key of traffic, and traffic in which each number is one
+pub record IsExpressibleNumber (key : TrafficKey) (n : ℕ) : Type 0 where
   pub least : least_of key ≤ n
   pub most : n ≤ most_of key
 
-pub record IsTellableTraffic (t : TrafficText) : Type 0 where
-  pub interval : IsTellableNumber Interval t.interval
-  pub frames : IsTellableNumber Frames t.frames
-  pub size : IsTellableNumber Size t.size
-  pub jitter : IsTellableNumber Jitter t.jitter
-  pub offset : IsTellableNumber Offset t.offset
+pub record IsExpressibleTraffic (t : TrafficText) : Type 0 where
+  pub interval : IsExpressibleNumber Interval t.interval
+  pub frames : IsExpressibleNumber Frames t.frames
+  pub size : IsExpressibleNumber Size t.size
+  pub jitter : IsExpressibleNumber Jitter t.jitter
+  pub offset : IsExpressibleNumber Offset t.offset
 
 -- a stream's numbers fit in a text: each is at most 2^32 - 1, a deadline is at least 1, and traffic is in its ranges
-pub record IsTellable (flow : FlowText) : Type 0 where
+pub record IsExpressible (flow : FlowText) : Type 0 where
   pub octets : flow.0.0.octets ≤ 4294967295
   pub every : flow.0.0.every ≤ 4294967295
   pub phase : flow.0.0.phase ≤ 4294967295
   pub deadline : IfSome flow.0.1 (λ deadline. (1 ≤ deadline) × (deadline ≤ 4294967295))
-  pub traffic : IfSome flow.1 IsTellableTraffic
+  pub traffic : IfSome flow.1 IsExpressibleTraffic
 
 -- a request without its cycles: its name, octets and branches
 abbrev pub unpaced : PacedText → RequestText
@@ -62,9 +62,9 @@ pub record ReadsAsPlan (d : Domain) (flows : List FlowText) (text : List ℕ) : 
 
 -- the text of an accepted domain and of streams whose numbers fit reads as exactly that domain and these streams
 abbrev pub WrittenPlansReadBack : Type 0
-WrittenPlansReadBack = (d : Domain) (flows : List FlowText) (text : List ℕ) → IsDomain d → All IsTellable flows → IsWrittenPlan d flows text →
+WrittenPlansReadBack = (d : Domain) (flows : List FlowText) (text : List ℕ) → IsDomain d → All IsExpressible flows → IsWrittenPlan d flows text →
     ReadsAsPlan d flows text
 
 -- the numbers of streams that are read from any text fit in a text
-abbrev pub ReadStreamsAreTellable : Type 0
-ReadStreamsAreTellable = (text : List ℕ) (flows : List FlowText) → flows_of_text text ≡ Ok flows → All IsTellable flows
+abbrev pub ReadStreamsAreExpressible : Type 0
+ReadStreamsAreExpressible = (text : List ℕ) (flows : List FlowText) → flows_of_text text ≡ Ok flows → All IsExpressible flows

@@ -20,11 +20,11 @@ branches_data paths = array (items_of (map texts_data paths))
 abbrev pub is_each_cycle : ℕ → ℕ → Bool
 is_each_cycle every phase = (every == 1) && (phase == 0)
 
-abbrev pub every_told : PacedText → Option ℕ
-every_told request = if is_each_cycle request.every request.phase then None else Some request.every
+abbrev pub every_written : PacedText → Option ℕ
+every_written request = if is_each_cycle request.every request.phase then None else Some request.every
 
-abbrev pub phase_told : PacedText → Option ℕ
-phase_told request = if is_each_cycle request.every request.phase then None else Some request.phase
+abbrev pub phase_written : PacedText → Option ℕ
+phase_written request = if is_each_cycle request.every request.phase then None else Some request.phase
 
 -- the branches of a stream: a single branch is its `path`; none or several are its `paths`
 abbrev pub branches_then : List (List (List ℕ)) → Members → Members
@@ -47,14 +47,14 @@ traffic_then key t more = number_then (traffic_key_text key) (number_of_traffic 
 abbrev pub members_by : PacedText → Option ℕ → Option TrafficText → Members
 members_by request deadline None =
     some_then Deadline deadline (
-    some_then Every (every_told request) (
+    some_then Every (every_written request) (
     member (key_text Name) (string request.name) (
     number_then (key_text Octets) request.octets (
     branches_then request.paths (
-    some_then Phase (phase_told request) no_members)))))
+    some_then Phase (phase_written request) no_members)))))
 members_by request deadline (Some t) =
     some_then Deadline deadline (
-    some_then Every (every_told request) (
+    some_then Every (every_written request) (
     traffic_then Frames t (
     traffic_then Interval t (
     traffic_then Jitter t (
@@ -62,7 +62,7 @@ members_by request deadline (Some t) =
     number_then (key_text Octets) request.octets (
     traffic_then Offset t (
     branches_then request.paths (
-    some_then Phase (phase_told request) (
+    some_then Phase (phase_written request) (
     traffic_then Size t no_members))))))))))
 
 abbrev pub stream_members : FlowText → Members
@@ -79,7 +79,7 @@ put_branches (path ∷ []) members = put (key_text Path) (texts_data path) membe
 put_branches (path ∷ other ∷ paths) members = put (key_text Paths) (branches_data (path ∷ other ∷ paths)) members
 
 abbrev pub put_pace : PacedText → Members → Members
-put_pace request members = put_some Phase (phase_told request) (put_some Every (every_told request) members)
+put_pace request members = put_some Phase (phase_written request) (put_some Every (every_written request) members)
 
 abbrev pub put_request : PacedText → Members → Members
 put_request request members =

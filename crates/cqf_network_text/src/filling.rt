@@ -3,7 +3,7 @@ ghost use Rattle.std.specs.Prelude.{◌≡◌, IfOk, IsSome, OnOk, Some, is_some
 ghost use Rattle.toml.specs.View.{items_view, table_view, view};
 ghost use Rattle.toml.specs.Data.{array, get_member};
 ghost use Rattle.cqf_topology.specs.Fields.{value_at};
-ghost use Rattle.cqf_network_text.specs.Networks.{IsFilledText, array_at, filled_item, filled_stream, filled_streams, has_branches, item_by, put_turns, table_of, with_way};
+ghost use Rattle.cqf_network_text.specs.Networks.{IsFilledText, array_at, filled_item, filled_stream, filled_streams, has_branches, item_by, put_active_cycles, table_of, with_path};
 
 use crate::ordered::text_of_network;
 use crate::streams::put_branches;
@@ -22,28 +22,29 @@ pub struct FilledStream {
     pub offset: Option<u32>,
 }
 
-/// Whether a table has a key.
+/// Returns whether a table has a key.
 fn has_key(table: &Table, key: Key) -> bool
     ensures { result ≡ is_some (value_at key (table_view table.now)) }
 {
     table.get(key.as_str()).is_some()
 }
 
-/// Whether a stream's table has its paths.
+/// Returns whether a stream's table has its paths.
 fn has_branches(table: &Table) -> bool
     ensures { result ≡ has_branches (table_view table.now) }
 {
     has_key(table, Key::Path) || has_key(table, Key::Paths)
 }
 
-/// Puts the cycles in which a stream is offered, and the instant at which its offers begin, into its table. Fails only if memory is refused.
-fn put_turns(
+/// Puts the cycles in which a stream is offered, and the instant at which its offers begin, into its table. Returns `Memory` only if an
+/// allocation fails.
+fn put_active_cycles(
     alloc: Global,
     table: &mut Table,
     request: &PacedRequest,
     offset: u32,
 ) -> Result<(), Memory>
-    ensures { OnOk result (table_view table.new ≡ put_turns request.now offset (table_view table.old)) }
+    ensures { OnOk result (table_view table.new ≡ put_active_cycles request.now offset (table_view table.old)) }
 {
     put_number(alloc, table, Key::Every.as_str(), request.every)?;
     put_number(alloc, table, Key::Phase.as_str(), request.phase)?;
@@ -51,9 +52,9 @@ fn put_turns(
     Ok(())
 }
 
-/// Puts a stream's paths into its table, if it has none. Fails only if memory is refused.
-fn put_way(alloc: Global, table: &mut Table, filled: &FilledStream) -> Result<(), Memory>
-    ensures { OnOk result (table_view table.new ≡ with_way filled.now (table_view table.old)) }
+/// Puts a stream's paths into its table, if it has none. Returns `Memory` only if an allocation fails.
+fn put_path(alloc: Global, table: &mut Table, filled: &FilledStream) -> Result<(), Memory>
+    ensures { OnOk result (table_view table.new ≡ with_path filled.now (table_view table.old)) }
 {
     if !has_branches(table) {
         put_branches(alloc, table, filled.request.paths.as_slice())?;
@@ -61,19 +62,19 @@ fn put_way(alloc: Global, table: &mut Table, filled: &FilledStream) -> Result<()
     Ok(())
 }
 
-/// Puts what was chosen for a stream into its table. Fails only if memory is refused.
+/// Puts what was chosen for a stream into its table. Returns `Memory` only if an allocation fails.
 fn fill_stream(alloc: Global, table: &mut Table, filled: &FilledStream) -> Result<(), Memory>
     ensures { OnOk result (table_view table.new ≡ filled_stream filled.now (table_view table.old)) }
 {
     put_number(alloc, table, Key::Octets.as_str(), filled.request.octets)?;
-    put_way(alloc, table, filled)?;
+    put_path(alloc, table, filled)?;
     if let Some(offset) = filled.offset {
-        put_turns(alloc, table, &filled.request, offset)?;
+        put_active_cycles(alloc, table, &filled.request, offset)?;
     }
     Ok(())
 }
 
-/// A stream's value with what was chosen for it. Fails only if memory is refused.
+/// Returns a stream's value with what was chosen for it. Returns `Memory` only if an allocation fails.
 fn filled_value(alloc: Global, value: &Value, filled: &FilledStream) -> Result<Value, Memory>
     ensures { IfOk result (λ found. view found ≡ filled_item filled.now (view value.now)) }
 {
@@ -86,16 +87,16 @@ fn filled_value(alloc: Global, value: &Value, filled: &FilledStream) -> Result<V
     }
 }
 
-/// The value of the stream at an index, with what was chosen for it, if anything was. Fails only if memory is refused.
+/// Returns the value of the stream at an index, with what was chosen for it, if anything was. Returns `Memory` only if an allocation fails.
 fn value_filled(
     alloc: Global,
     value: &Value,
     filled: &[FilledStream],
-    place: usize,
+    index: usize,
 ) -> Result<Value, Memory>
-    ensures { IfOk result (λ found. view found ≡ item_by (slice_get filled.now place) (view value.now)) }
+    ensures { IfOk result (λ found. view found ≡ item_by (slice_get filled.now index) (view value.now)) }
 {
-    match filled.get(place) {
+    match filled.get(index) {
         Some(one) => filled_value(alloc, value, one),
         None => {
             let copy = value.clone()?;
@@ -104,26 +105,26 @@ fn value_filled(
     }
 }
 
-/// The values of streams with what was chosen for each, in order. Fails only if memory is refused.
+/// Returns the values of streams with what was chosen for each, in order. Returns `Memory` only if an allocation fails.
 fn filled_values(alloc: Global, values: &[Value], filled: &[FilledStream]) -> Result<Value, Memory>
     ensures { IfOk result (λ all. view all ≡ array (filled_streams filled.now (items_view values.now))) }
 {
     let mut all = Vec::new(alloc);
-    for place in 0..values.len() {
-        let one = value_filled(alloc, &values[place], filled, place)?;
+    for index in 0..values.len() {
+        let one = value_filled(alloc, &values[index], filled, index)?;
         all.push(one)?;
     }
     Ok(Value::Array(all))
 }
 
-/// The value at a key of a table.
+/// Returns the value at a key of a table.
 fn value_at<'t>(table: &'t Table, key: &str) -> Option<&'t Value>
     ensures { option_map (λ x. view x.now) result ≡ get_member key.now (table_view table.now) }
 {
     table.get(key)
 }
 
-/// The elements of the array at a key of a table; none if there is no array.
+/// Returns the elements of the array at a key of a table, or none if there is no array.
 pub fn elements_at<'t>(table: &'t Table, key: &str) -> &'t [Value]
     ensures { items_view result.now ≡ array_at key.now (table_view table.now) }
 {
@@ -136,7 +137,7 @@ pub fn elements_at<'t>(table: &'t Table, key: &str) -> &'t [Value]
     }
 }
 
-/// The table of a text that is TOML. Fails only if memory is refused.
+/// Returns the table of a text that is TOML. Returns `Memory` only if an allocation fails.
 fn table_of(alloc: Global, text: &[u8]) -> Result<Table, Memory>
     requires { IsSome (table_of text.now) }
     ensures { IfOk result (λ table. table_of text.now ≡ Some (table_view table)) }
@@ -148,11 +149,11 @@ fn table_of(alloc: Global, text: &[u8]) -> Result<Table, Memory>
 }
 
 /// Returns the text of a planned network: the top and the links of one text, and the streams of another, with the cycle time in nanoseconds
-/// and with what was chosen for each stream, in order. All other keys are unchanged. Every reader finds what was chosen in the text
-/// ([`crate::filled_networks_read_back`]).
+/// and with what was chosen for each stream, in order. Both texts are TOML. All other keys are unchanged. Every reader finds what was
+/// chosen in the text ([`crate::filled_networks_read_back`]).
 ///
 /// # Errors
-/// If memory is refused.
+/// `Memory` if an allocation fails.
 pub fn write_network(
     alloc: Global,
     domain: &[u8],

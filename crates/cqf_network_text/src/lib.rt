@@ -45,7 +45,7 @@ mod streams;
 mod tables;
 
 pub use filling::{FilledStream, elements_at, write_network};
-pub use laws::{filled_networks_read_back, read_streams_are_tellable, written_plans_read_back};
+pub use laws::{filled_networks_read_back, read_streams_are_expressible, written_plans_read_back};
 pub use ordered::text_of_network;
 pub use plan::write_plan;
 pub use tables::{put_text, put_value};

@@ -12,7 +12,14 @@ use std::alloc::{AllocError, Global};
 use toml::{Table, Value};
 
 /// The keys at the top of a network file, in the order of the manual. The arrays of tables follow them.
-const TOP: [&str; 5] = ["cycle", "guard", "sync", "bridges", "stations"];
+const TOP: [&str; 6] = [
+    "cycle",
+    "guard",
+    "sync",
+    "gate-overhead",
+    "bridges",
+    "stations",
+];
 
 /// The keys of a link.
 const LINK: [&str; 9] = [
@@ -52,7 +59,7 @@ const STREAM: [&str; 18] = [
 /// The keys of the arrays of tables, in their order.
 const ARRAYS: [&str; 2] = ["links", "streams"];
 
-/// Whether a key is among some.
+/// Returns whether a key is among some keys.
 fn is_among(keys: &[&str], key: &str) -> bool {
     for it in keys {
         if key == *it {
@@ -62,7 +69,8 @@ fn is_among(keys: &[&str], key: &str) -> bool {
     false
 }
 
-/// The text of a table, with its keys in the order of their bytes. Fails only if memory is refused, or for a date that no text can have.
+/// Returns the text of a table, with its keys in the order of their bytes. Returns `Memory` if an allocation fails, or if the table has a
+/// date that no text can have.
 fn text_of(alloc: Global, table: &Table) -> Result<String, Memory>
     ensures { IfOk result (λ text. IsReadAs (table_view table.now) (string_bytes text)) }
 {
@@ -72,7 +80,7 @@ fn text_of(alloc: Global, table: &Table) -> Result<String, Memory>
     }
 }
 
-/// Appends a key and its value to a text. Fails as [`text_of`].
+/// Appends a key and its value to a text. Fails as [`text_of`] does.
 fn put_entry(alloc: Global, text: &mut String, key: &str, value: &Value) -> Result<(), Memory> {
     let mut table = Table::new(alloc);
     let copy = value.clone()?;
@@ -82,7 +90,7 @@ fn put_entry(alloc: Global, text: &mut String, key: &str, value: &Value) -> Resu
     Ok(())
 }
 
-/// Appends those of some keys that a table has to a text, in the order of the keys. Fails as [`text_of`].
+/// Appends to a text the entries that a table has at some keys, in the order of these keys. Fails as [`text_of`] does.
 fn put_known(alloc: Global, text: &mut String, keys: &[&str], table: &Table) -> Result<(), Memory> {
     for key in keys {
         if let Some(value) = table.get(*key) {
@@ -92,7 +100,7 @@ fn put_known(alloc: Global, text: &mut String, keys: &[&str], table: &Table) -> 
     Ok(())
 }
 
-/// Appends a table's other keys to a text, in the order of their bytes. Fails as [`text_of`].
+/// Appends a table's other keys to a text, in the order of their bytes. Fails as [`text_of`] does.
 fn put_others(
     alloc: Global,
     text: &mut String,
@@ -107,7 +115,7 @@ fn put_others(
     Ok(())
 }
 
-/// Appends an element of an array of tables to a text. Fails as [`text_of`].
+/// Appends an element of an array of tables to a text. Fails as [`text_of`] does.
 fn put_element(
     alloc: Global,
     text: &mut String,
@@ -122,7 +130,7 @@ fn put_element(
     put_others(alloc, text, keys, table)
 }
 
-/// Appends an array of tables to a text. Fails as [`text_of`].
+/// Appends an array of tables to a text. Fails as [`text_of`] does.
 fn put_array(
     alloc: Global,
     text: &mut String,
@@ -138,7 +146,7 @@ fn put_array(
     Ok(())
 }
 
-/// Appends an empty array to a text, as one of the keys at its top. Fails as [`text_of`].
+/// Appends an empty array to a text, as one of the keys at its top. Fails as [`text_of`] does.
 fn put_if_empty(alloc: Global, text: &mut String, name: &str, table: &Table) -> Result<(), Memory> {
     if let Some(value) = table.get(name) {
         if elements_at(table, name).is_empty() {
@@ -148,7 +156,8 @@ fn put_if_empty(alloc: Global, text: &mut String, name: &str, table: &Table) -> 
     Ok(())
 }
 
-/// The text of a network file's table: its keys in the order of the manual, then other keys in the order of their bytes. Fails as [`text_of`].
+/// Returns the text of a network file's table: its keys in the order of the manual, then other keys in the order of their bytes. Fails as
+/// [`text_of`] does.
 fn in_order(alloc: Global, table: &Table) -> Result<String, Memory> {
     let mut text = String::new(alloc);
     put_known(alloc, &mut text, &TOP, table)?;
@@ -161,7 +170,7 @@ fn in_order(alloc: Global, table: &Table) -> Result<String, Memory> {
     Ok(text)
 }
 
-/// Whether a text is read as exactly this table. Fails only if memory is refused.
+/// Returns whether a text is read as exactly this table. Returns `Memory` only if an allocation fails.
 fn is_read_as(alloc: Global, text: &str, table: &Table) -> Result<bool, Memory>
     ensures { IfOk result (λ is. is ≡ true → parse_document text.now ≡ Some (table_view table.now)) }
 {
@@ -181,7 +190,7 @@ fn is_read_as(alloc: Global, text: &str, table: &Table) -> Result<bool, Memory>
 /// (a key that no command knows has a table as its value), all keys are in the order of their bytes. Either text is read as the table.
 ///
 /// # Errors
-/// If memory is refused, or for a date that no text can have.
+/// `Memory` if an allocation fails, or if the table has a date that no text can have.
 pub fn text_of_network(alloc: Global, table: &Table) -> Result<String, Memory>
     ensures { IfOk result (λ text. IsReadAs (table_view table.now) (string_bytes text)) }
 {

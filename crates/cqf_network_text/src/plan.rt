@@ -2,7 +2,7 @@
 ghost use Rattle.std.specs.Prelude.{◌≡◌, IfOk, map, string_bytes};
 ghost use Rattle.toml.specs.View.{table_view};
 ghost use Rattle.cqf_traffic.specs.FlowsText.{flow_text};
-ghost use Rattle.cqf_network_text.specs.DomainMembers.{sync_told};
+ghost use Rattle.cqf_network_text.specs.DomainMembers.{overhead_written, sync_written};
 ghost use Rattle.cqf_network_text.specs.Plans.{IsWrittenPlan, plan_members};
 
 use crate::domain::{bridges_value, links_value, stations_value};
@@ -14,14 +14,24 @@ use cqf_units::Memory;
 use std::alloc::{AllocError, Global};
 use toml::Table;
 
-/// Returns how far clocks of a domain may differ; `None` if they may not.
-fn told_sync(domain: &Domain) -> Option<u32>
-    ensures { result ≡ sync_told domain.now.sync }
+/// Returns how far clocks of a domain may differ, in nanoseconds, or `None` if they may not differ.
+fn written_sync(domain: &Domain) -> Option<u32>
+    ensures { result ≡ sync_written domain.now.sync }
 {
     domain.know();
     match domain.sync().0 as u32 {
         0 => None,
         sync => Some(sync),
+    }
+}
+
+/// Returns how many octets of each frame the gates of a domain don't count, or `None` if they count all.
+fn written_overhead(domain: &Domain) -> Option<u32>
+    ensures { result ≡ overhead_written domain.now.overhead }
+{
+    match domain.overhead() {
+        0 => None,
+        overhead => Some(overhead),
     }
 }
 
@@ -39,6 +49,12 @@ fn network_table(alloc: Global, domain: &Domain, flows: &[Flow]) -> Result<Table
         bridges_value(alloc, domain)?,
     )?;
     put_number(alloc, &mut table, Key::Cycle.as_str(), cycle_time)?;
+    put_some(
+        alloc,
+        &mut table,
+        Key::GateOverhead,
+        written_overhead(domain),
+    )?;
     put_number(alloc, &mut table, Key::Guard.as_str(), guard)?;
     put_value(
         alloc,
@@ -58,7 +74,7 @@ fn network_table(alloc: Global, domain: &Domain, flows: &[Flow]) -> Result<Table
         Key::Streams.as_str(),
         streams_value(alloc, flows)?,
     )?;
-    put_some(alloc, &mut table, Key::Sync, told_sync(domain))?;
+    put_some(alloc, &mut table, Key::Sync, written_sync(domain))?;
     Ok(table)
 }
 
@@ -69,7 +85,7 @@ fn network_table(alloc: Global, domain: &Domain, flows: &[Flow]) -> Result<Table
 /// * A stream's single branch is its `path`; none or several are its `paths`.
 /// * `every` and `phase` are both written if they aren't 1 and 0, that is if the stream isn't offered in each cycle;
 ///   otherwise neither is.
-/// * `sync` is written if it isn't 0.
+/// * `sync` and `gate-overhead` are written if they aren't 0.
 /// * A link's least delay is written if it isn't the greatest, and its `guard` if it has its own.
 ///
 /// If the domain is accepted and the streams' numbers fit in a text, the text reads back as this domain and these

@@ -1,11 +1,11 @@
-//! Compares TOML values. Unlike `==`, it tells 0.0 from -0.0, and a NaN equals a NaN.
+//! Compares TOML values. Unlike `==`, it distinguishes 0.0 from -0.0, and a NaN equals a NaN.
 ghost use Rattle.std.specs.Prelude.{◌≡◌, true};
 ghost use Rattle.toml.specs.View.{array_view, table_view, view};
 
 use toml::value::{Date, Datetime, Offset, Time};
 use toml::{Table, Value};
 
-/// Whether two floats are the same value, with the same sign of a zero.
+/// Returns whether two floats are the same value, with the same sign of a zero.
 fn is_same_float(number: f64, other: f64) -> bool
     ensures { result ≡ true → number ≡ other }
 {
@@ -18,14 +18,14 @@ fn is_same_float(number: f64, other: f64) -> bool
     number.to_bits() == other.to_bits()
 }
 
-/// Whether two dates are the same.
+/// Returns whether two dates are the same.
 fn is_same_date(date: Date, other: Date) -> bool
     ensures { result ≡ true → date ≡ other }
 {
     date.year == other.year && date.month == other.month && date.day == other.day
 }
 
-/// Whether two numbers are the same, or both are absent.
+/// Returns whether two numbers are the same, or both are absent.
 fn is_same_number(number: Option<u32>, other: Option<u32>) -> bool
     ensures { result ≡ true → number ≡ other }
 {
@@ -38,7 +38,7 @@ fn is_same_number(number: Option<u32>, other: Option<u32>) -> bool
     }
 }
 
-/// The same for bytes.
+/// Returns whether two bytes are the same, or both are absent.
 fn is_same_byte(number: Option<u8>, other: Option<u8>) -> bool
     ensures { result ≡ true → number ≡ other }
 {
@@ -51,7 +51,7 @@ fn is_same_byte(number: Option<u8>, other: Option<u8>) -> bool
     }
 }
 
-/// Whether two times are the same.
+/// Returns whether two times are the same.
 fn is_same_time(time: Time, other: Time) -> bool
     ensures { result ≡ true → time ≡ other }
 {
@@ -60,7 +60,7 @@ fn is_same_time(time: Time, other: Time) -> bool
     time.hour == other.hour && time.minute == other.minute && same_second && same_part
 }
 
-/// Whether two offsets are the same.
+/// Returns whether two offsets are the same.
 fn is_same_offset(offset: Offset, other: Offset) -> bool
     ensures { result ≡ true → offset ≡ other }
 {
@@ -76,7 +76,7 @@ fn is_same_offset(offset: Offset, other: Offset) -> bool
     }
 }
 
-/// Whether two dates are the same, or both are absent.
+/// Returns whether two dates are the same, or both are absent.
 fn are_same_dates(date: Option<Date>, other: Option<Date>) -> bool
     ensures { result ≡ true → date ≡ other }
 {
@@ -89,7 +89,7 @@ fn are_same_dates(date: Option<Date>, other: Option<Date>) -> bool
     }
 }
 
-/// The same for times.
+/// Returns whether two times are the same, or both are absent.
 fn are_same_times(time: Option<Time>, other: Option<Time>) -> bool
     ensures { result ≡ true → time ≡ other }
 {
@@ -102,7 +102,7 @@ fn are_same_times(time: Option<Time>, other: Option<Time>) -> bool
     }
 }
 
-/// The same for offsets.
+/// Returns whether two offsets are the same, or both are absent.
 fn are_same_offsets(offset: Option<Offset>, other: Option<Offset>) -> bool
     ensures { result ≡ true → offset ≡ other }
 {
@@ -115,7 +115,7 @@ fn are_same_offsets(offset: Option<Offset>, other: Option<Offset>) -> bool
     }
 }
 
-/// Whether two dates and times are the same.
+/// Returns whether two dates and times are the same.
 fn is_same_instant(instant: Datetime, other: Datetime) -> bool
     ensures { result ≡ true → instant ≡ other }
 {
@@ -125,7 +125,7 @@ fn is_same_instant(instant: Datetime, other: Datetime) -> bool
     same_date && same_time && same_offset
 }
 
-/// Whether two values are the same.
+/// Returns whether two values are the same.
 #[cycle(same)]
 fn is_same(value: &Value, other: &Value) -> bool
     ensures { result ≡ true → view value.now ≡ view other.now }
@@ -162,7 +162,7 @@ fn is_same(value: &Value, other: &Value) -> bool
     }
 }
 
-/// Whether two arrays have the same elements.
+/// Returns whether two arrays have the same elements.
 #[cycle(same)]
 fn are_same(items: &Vec<Value>, others: &Vec<Value>) -> bool
     ensures { result ≡ true → array_view items.now ≡ array_view others.now }
@@ -171,15 +171,15 @@ fn are_same(items: &Vec<Value>, others: &Vec<Value>) -> bool
         return false;
     }
     let rest = others.as_slice();
-    for place in 0..items.len() {
-        if !is_same(&items[place], &rest[place]) {
+    for index in 0..items.len() {
+        if !is_same(&items[index], &rest[index]) {
             return false;
         }
     }
     true
 }
 
-/// Whether two tables have the same keys, with the same values.
+/// Returns whether two tables have the same keys, with the same values.
 #[cycle(same)]
 pub(crate) fn is_same_table(table: &Table, other: &Table) -> bool
     ensures { result ≡ true → table_view table.now ≡ table_view other.now }

@@ -5,7 +5,7 @@ use Rattle.std.specs.Io.KnownBytes.{Appends, Keeps}
 use Rattle.std.proofs.KnownBytes.{Appends-kept, Appends-nil, Appends-trans}
 use Rattle.std.proofs.lemmas.Grind.{common_steps}
 use Rattle.std.proofs.lemmas.List.{append-nil}
-use Rattle.cqf_output.specs.Edge.{HasTold, Writing}
+use Rattle.cqf_output.specs.Edge.{IsWritten, Writing}
 
 -- the part of the text before the rest was written
 pub record WrittenSoFar (before now : Option (List ℕ)) (text rest : List ℕ) : Type 0 where
@@ -34,18 +34,18 @@ WrittenSoFar-range before now after text rest count w more =
     subst (λ (x : List ℕ). WrittenSoFar before after text x) (sym all) (WrittenSoFar-more before now after text rest count w more)
 
 -- the writing ends with this result
-pub HasTold-ended : (before now after : Option (List ℕ)) (refused : Bool) (text rest : List ℕ) → WrittenSoFar before now text rest → Keeps now after
-    → (refused ≡ false → rest ≡ []) → HasTold (record { before = before; after = after; refused = refused }) text
-HasTold-ended before now after refused text rest w kept all = record {
+pub IsWritten-ended : (before now after : Option (List ℕ)) (refused : Bool) (text rest : List ℕ) → WrittenSoFar before now text rest → Keeps now after
+    → (refused ≡ false → rest ≡ []) → IsWritten (record { before = before; after = after; refused = refused }) text
+IsWritten-ended before now after refused text rest w kept all = record {
   front = w.front;
-  behind = rest;
+  following = rest;
   cut = w.cut;
   written = Appends-kept before now after w.front w.written kept;
   all = all;
 }
 
 -- if nothing was refused, the text is what was written
-pub Appends-whole : (output : Writing) (text : List ℕ) → HasTold output text → output.refused ≡ false → Appends output.before output.after text
-Appends-whole output text told accepted =
-    let same : told.front ≡ text = sym (told.cut ∙ ap (λ x. told.front ++ x) (told.all accepted) ∙ append-nil told.front) in
-    subst (λ (x : List ℕ). Appends output.before output.after x) same told.written
+pub Appends-whole : (output : Writing) (text : List ℕ) → IsWritten output text → output.refused ≡ false → Appends output.before output.after text
+Appends-whole output text checked accepted =
+    let same : checked.front ≡ text = sym (checked.cut ∙ ap (λ x. checked.front ++ x) (checked.all accepted) ∙ append-nil checked.front) in
+    subst (λ (x : List ℕ). Appends output.before output.after x) same checked.written

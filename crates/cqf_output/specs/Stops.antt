@@ -2,7 +2,7 @@
 use Rattle.std.specs.Prelude.{ℕ, ◌≡◌, ◌⊎◌, ◌++◌, List, [], ◌∷◌, Result, Ok, Err, codes}
 use Rattle.cqf_output.specs.declared.stops.Stop.{Stop}
 
--- an end with this status and this line, or with status 3 (want of memory) and no text
+-- an end with this status and this line, or with status 3 (a failed allocation) and no text
 pub record EndsWith (status : ℕ) (line : List ℕ) (stop : Stop) : Type 0 where
   pub statuses : (stop.status ≡ status) ⊎ (stop.status ≡ 3)
   pub line_is : stop.status ≡ status → stop.text.items ≡ line
@@ -26,7 +26,7 @@ abbrev pub or_line : {A E : Type 0} → (E → List ℕ) → Result A E → Resu
 or_line line (Ok value) = Ok value
 or_line line (Err fault) = Err (line fault)
 
--- the end has status 1, and then its text is the line that `found` is refused with; or it has status 3 (want of memory) and no text
+-- the end has status 1, and then its text is the line that `found` is refused with; or it has status 3 (a failed allocation) and no text
 pub record IsRefused {A : Type 0} (found : Result A (List ℕ)) (stop : Stop) : Type 0 where
   pub statuses : (stop.status ≡ 1) ⊎ (stop.status ≡ 3)
   pub line : stop.status ≡ 1 → found ≡ Err stop.text.items

@@ -4,7 +4,7 @@ ghost use Rattle.std.specs.Prelude.{ℕ, ◌≡◌, ◌≤◌, ◌++◌, ◌∷�
 use std::alloc::{AllocError, Global};
 use std::marker::Model;
 
-/// The size of a buffer, in bytes. If there are more bytes on it, they are written out before anything is put.
+/// The size of a full buffer, in bytes. A buffer with more bytes is written out before more text is put on it.
 pub(crate) const BUFFER_SIZE: usize = 65_536;
 
 /// The largest number of bytes that are put at once.
@@ -25,7 +25,7 @@ impl Model for Buffer {
 }
 
 impl Buffer {
-    /// Returns an empty buffer. Only this asks for memory.
+    /// Returns an empty buffer. Only this allocates memory.
     pub fn new(alloc: Global) -> Result<Buffer, AllocError>
         ensures { IfOk result (λ buffer. buffer ≡ []) }
     {
@@ -54,7 +54,7 @@ impl Buffer {
         self.bytes.clear();
     }
 
-    /// Appends bytes to the text. There is room for them.
+    /// Appends at most 512 bytes to the text, which has at most 65,536.
     pub(crate) fn put(&mut self, bytes: &[u8])
         requires room { length self.old ≤ 65536 }
         requires few { length bytes.now ≤ 512 }
@@ -63,7 +63,7 @@ impl Buffer {
         let _within = self.bytes.extend_from_slice(bytes);
     }
 
-    /// Appends a byte to the text. There is room for it.
+    /// Appends a byte to the text, which has at most 65,536.
     pub(crate) fn put_byte(&mut self, byte: u8)
         requires { length self.old ≤ 65536 }
         ensures { self.new ≡ self.old ++ byte ∷ [] }

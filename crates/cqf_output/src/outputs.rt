@@ -1,13 +1,13 @@
 //! The bytes that the program writes.
-ghost use Rattle.cqf_output.specs.Edge.{HasTold, KeepsTold, TellsOn, writing};
+ghost use Rattle.cqf_output.specs.Edge.{IsWritten, KeepsWritten, WritesOn, writing};
 
+use crate::checked::CheckedSink;
 use crate::sinks::Sink;
-use crate::told::Told;
 use std::io::Write;
 
-/// Writes the text without a flush. All of it is written unless the writer refuses a part; then a front of it is.
-fn write_part<W: Sink>(output: &mut Told<W>, text: &[u8])
-    ensures { HasTold (writing W.contents output.old output.new) text.now }
+/// Writes the text without a flush. If the writer refuses a part, only a beginning of the text is written.
+fn write_part<W: Sink>(output: &mut CheckedSink<W>, text: &[u8])
+    ensures { IsWritten (writing W.contents output.old output.new) text.now }
 {
     let mut rest = text;
     while !rest.is_empty() {
@@ -19,18 +19,18 @@ fn write_part<W: Sink>(output: &mut Told<W>, text: &[u8])
     }
 }
 
-/// Writes the text and flushes the writer. All of the text is written unless the writer refuses something; then a front
-/// of it is.
-pub fn write_out<W: Sink>(output: &mut Told<W>, text: &[u8])
-    ensures { HasTold (writing W.contents output.old output.new) text.now }
+/// Writes the text and flushes the writer. If the writer refuses a write or the flush, a beginning of the text is
+/// written, which may be all of it.
+pub fn write_out<W: Sink>(output: &mut CheckedSink<W>, text: &[u8])
+    ensures { IsWritten (writing W.contents output.old output.new) text.now }
 {
     write_part(output, text);
     let _flushed = output.flush();
 }
 
-/// Writes the text after everything written before. Writes nothing if the writer has refused something.
-pub fn tell_on<W: Sink>(output: &mut Told<W>, text: &[u8])
-    ensures { TellsOn W.contents output.old output.new text.now }
+/// Writes the text after everything written before. If the writer has already refused something, nothing is written.
+pub fn write_on<W: Sink>(output: &mut CheckedSink<W>, text: &[u8])
+    ensures { WritesOn W.contents output.old output.new text.now }
 {
     if !output.is_refused() {
         write_part(output, text);
@@ -38,8 +38,8 @@ pub fn tell_on<W: Sink>(output: &mut Told<W>, text: &[u8])
 }
 
 /// Flushes the writer, unless it has refused something.
-pub fn flush_out<W: Sink>(output: &mut Told<W>)
-    ensures { KeepsTold W.contents output.old output.new }
+pub fn flush_out<W: Sink>(output: &mut CheckedSink<W>)
+    ensures { KeepsWritten W.contents output.old output.new }
 {
     if output.is_refused() {
         return;

@@ -1,4 +1,4 @@
-//! Writers for which it is known what they may refuse for.
+//! Writers whose possible kinds of error are known.
 ghost use Rattle.std.specs.Prelude.{◌≡◌, ◌<◌, IfErr, IfOk, length, ⊤};
 ghost use Rattle.std.specs.IoError.{error_kind};
 ghost use Rattle.std.specs.Io.{WritesAtMost};
@@ -8,9 +8,9 @@ ghost use Rattle.std.specs.declared.io.ErrorKind.{ErrorKind};
 use std::io;
 use std::io::{ErrorKind, Stderr, Stdout, Write};
 
-/// A writer for which the kinds of error are known that it may refuse for.
+/// A writer whose possible kinds of error are known.
 pub trait Sink: Write {
-    // The kinds of error that a write or a flush may end with. `WriteZero` is for a write that takes none of some bytes.
+    // The kinds of error that a write or a flush may end with. `WriteZero` is for a write that takes none of at least one byte.
     ghost refuses: { ErrorKind → Type 0 };
 
     /// Writes once, as [`Write::write`] does.
@@ -26,7 +26,7 @@ pub trait Sink: Write {
         ensures err { IfErr result (λ error. refuses (error_kind error)) };
 }
 
-/// A list of bytes refuses only for want of memory.
+/// A list of bytes refuses only if an allocation fails.
 impl Sink for Vec<u8> {
     ghost refuses = { λ kind. kind ≡ ErrorKind.OutOfMemory };
 

@@ -26,7 +26,7 @@ pub struct Stop {
     pub text: Vec<u8>,
 }
 
-/// Returns the line of a fault in a part of the input. Fails only for want of memory.
+/// Returns the line of a fault in a part of the input. Returns `AllocError` only if an allocation fails.
 fn line_of_fault<F: Display>(alloc: Global, part: &str, fault: &F) -> Result<String, AllocError>
     ensures { IfOk result (λ line. IfSome (F.output fault.now) (λ text. string_bytes line ≡ fault_line part.now text)) }
 {
@@ -35,7 +35,7 @@ fn line_of_fault<F: Display>(alloc: Global, part: &str, fault: &F) -> Result<Str
 }
 
 impl Stop {
-    /// Returns the end for want of memory.
+    /// Returns the end after a failed allocation: status 3 and no text.
     pub fn memory(alloc: Global) -> Stop
         ensures status { result.status ≡ 3 }
         ensures text { result.text.items ≡ [] }
@@ -46,7 +46,8 @@ impl Stop {
         }
     }
 
-    /// Returns the end with this status and line, or the end for want of memory if there is none for the line.
+    /// Returns the end with this status and line, or the end after a failed allocation if there is no memory for the
+    /// line. The status isn't 3.
     pub fn with_line(alloc: Global, status: u8, line: &str) -> Stop
         requires { status ≢ 3 }
         ensures { EndsWith status line.now result }
@@ -57,7 +58,8 @@ impl Stop {
         }
     }
 
-    /// Returns the end for arguments that can't be read because they aren't text or there is no memory for them.
+    /// Returns the end for arguments that can't be read: status 2 and the line `cqf: words` if they aren't text; the
+    /// end after a failed allocation if there is no memory for them or for the line.
     pub fn without_words(alloc: Global, error: &io::Error) -> Stop
         ensures { EndsWith 2 (line_of (codes "cqf: words")) result }
     {
@@ -68,10 +70,11 @@ impl Stop {
         }
     }
 
-    /// Returns the end with this status and text, or the end for want of memory if the text couldn't be made.
+    /// Returns the end with this status and text, or the end after a failed allocation if the text couldn't be made.
+    /// The status isn't 3.
     pub fn with_text(alloc: Global, status: u8, text: Result<String, AllocError>) -> Stop
         requires { status ≢ 3 }
-        ensures told { IfOk text (λ line. EndsJustWith status (string_bytes line) result) }
+        ensures checked { IfOk text (λ line. EndsJustWith status (string_bytes line) result) }
         ensures text { MatchResult text (λ line. EndsWith status (string_bytes line) result) (λ _. result.status ≡ 3) }
         ensures memory { result.status ≡ 3 → result.text.items ≡ [] }
     {
@@ -84,8 +87,8 @@ impl Stop {
         }
     }
 
-    /// Returns the end for a part of the input that is refused for a fault: status 1, and the line `cqf: PART: FAULT`
-    /// with the fault as it prints; or the end for want of memory if there is none for the line.
+    /// Returns the end for a part of the input that is refused for a fault: status 1, and the line `cqf: PART: FAULT`,
+    /// with the fault as it is displayed. Returns the end after a failed allocation if there is no memory for the line.
     pub fn refused<F: Display>(alloc: Global, part: &str, fault: &F) -> Stop
         ensures { IfSome (F.output fault.now) (λ text. EndsWith 1 (fault_line part.now text) result) }
     {

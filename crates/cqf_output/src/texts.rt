@@ -1,20 +1,20 @@
 //! Text that was written to a list.
 ghost use Rattle.std.specs.Prelude.{ℕ, ◌≡◌, [], List, IfOk, OnErr, Some, true};
-ghost use Rattle.cqf_output.specs.Edge.{HasTold, since};
+ghost use Rattle.cqf_output.specs.Edge.{IsWritten, since};
 
-use crate::told::Told;
+use crate::checked::CheckedSink;
 use std::alloc::AllocError;
 
-/// Returns the text that was written to a list that was empty before: all of it.
+/// Returns all of the text that was written to a list that was empty before.
 ///
 /// # Errors
-/// Returns `AllocError` if the list refused a part, which it does only for want of memory.
-pub fn told_text(told: Told<Vec<u8>>) -> Result<Vec<u8>, AllocError>
-    ensures ok { IfOk result (λ list. (text : List ℕ) → HasTold (since (λ list. Some list.items) (Some []) told) text → list.items ≡ text) }
-    ensures err { OnErr result (told.refused ≡ true) }
+/// Returns `AllocError` if the list refused a part, which it does only if an allocation fails.
+pub fn written_text(checked: CheckedSink<Vec<u8>>) -> Result<Vec<u8>, AllocError>
+    ensures ok { IfOk result (λ list. (text : List ℕ) → IsWritten (since (λ list. Some list.items) (Some []) checked) text → list.items ≡ text) }
+    ensures err { OnErr result (checked.refused ≡ true) }
 {
-    if told.is_refused() {
+    if checked.is_refused() {
         return Err(AllocError);
     }
-    Ok(told.into_writer())
+    Ok(checked.into_writer())
 }

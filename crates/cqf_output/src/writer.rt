@@ -1,37 +1,37 @@
-//! A writer: text is put on a buffer, and each full buffer is written out.
+//! A buffered writer: text is put on a buffer, and each full buffer is written out.
 ghost use Rattle.std.specs.Prelude.{◌≡◌, ◌≤◌, ◌∷◌, [], length};
 ghost use Rattle.cqf_output.specs.Writer.{ClosesBuffer, Opens, Puts};
 
 use crate::buffer::{BUFFER_SIZE, Buffer, MOST_PUT};
-use crate::outputs::{flush_out, tell_on};
+use crate::checked::CheckedSink;
+use crate::outputs::{flush_out, write_on};
 use crate::sinks::Sink;
-use crate::told::Told;
 use itoa::Integer;
 
 /// A buffer of text, and the writer that it is written to.
 #[derive(Drop)]
 pub struct Writer<'o, W: Sink> {
-    told: &'o mut Told<W>,
+    checked: &'o mut CheckedSink<W>,
     buffer: Buffer,
 }
 
 impl<'o, W: Sink> Writer<'o, W> {
-    /// Returns a writer on this writer with this buffer, which is emptied first.
-    pub fn new(told: &'o mut Told<W>, buffer: Buffer) -> Writer<'o, W>
-        ensures same { result.told.ghost_name ≡ told.entry.ghost_name }
-        ensures opens { Opens told.old result }
+    /// Returns a buffered writer that writes to `checked` by this buffer, which is emptied first.
+    pub fn new(checked: &'o mut CheckedSink<W>, buffer: Buffer) -> Writer<'o, W>
+        ensures same { result.checked.ghost_name ≡ checked.entry.ghost_name }
+        ensures opens { Opens checked.old result }
     {
         let mut buffer = buffer;
         buffer.clear();
-        Writer { told, buffer }
+        Writer { checked, buffer }
     }
 
     /// Writes the buffer to the writer, and empties it.
-    fn turn(&mut self)
+    fn write_buffer(&mut self)
         ensures puts { Puts W.contents self.old self.new [] }
         ensures empty { self.new.buffer ≡ [] }
     {
-        tell_on(self.told, self.buffer.text());
+        write_on(self.checked, self.buffer.text());
         self.buffer.clear();
     }
 
@@ -41,7 +41,7 @@ impl<'o, W: Sink> Writer<'o, W> {
         ensures room { length self.new.buffer ≤ 65536 }
     {
         if self.buffer.len() > BUFFER_SIZE {
-            self.turn();
+            self.write_buffer();
         }
     }
 
@@ -54,20 +54,20 @@ impl<'o, W: Sink> Writer<'o, W> {
         self.buffer.put(bytes);
     }
 
-    /// Writes the buffer to the writer, and then bytes that are too many for a buffer.
+    /// Writes the buffer to the writer, and then these bytes, which are too many for the buffer.
     fn put_many(&mut self, bytes: &[u8])
         ensures { Puts W.contents self.old self.new bytes.now }
     {
-        self.turn();
-        self.tell_past(bytes);
+        self.write_buffer();
+        self.write_past(bytes);
     }
 
     /// Writes bytes directly to the writer. The buffer is empty.
-    fn tell_past(&mut self, bytes: &[u8])
+    fn write_past(&mut self, bytes: &[u8])
         requires { self.old.buffer ≡ [] }
         ensures { Puts W.contents self.old self.new bytes.now }
     {
-        tell_on(self.told, bytes);
+        write_on(self.checked, bytes);
     }
 
     /// Appends any number of bytes to the text.
@@ -97,14 +97,14 @@ impl<'o, W: Sink> Writer<'o, W> {
         self.put(digits.format(number).as_bytes());
     }
 
-    /// Writes the rest of the text, flushes the writer unless it refused something, and gives it back.
-    pub fn close(self) -> &'o mut Told<W>
-        ensures same { result.ghost_name ≡ self.entry.told.ghost_name }
+    /// Writes the rest of the text, flushes the writer unless it has refused something, and returns the writer.
+    pub fn close(self) -> &'o mut CheckedSink<W>
+        ensures same { result.ghost_name ≡ self.entry.checked.ghost_name }
         ensures closes { ClosesBuffer W.contents self.entry result.now }
     {
-        let Writer { told, buffer } = self;
-        tell_on(told, buffer.text());
-        flush_out(told);
-        told
+        let Writer { checked, buffer } = self;
+        write_on(checked, buffer.text());
+        flush_out(checked);
+        checked
     }
 }

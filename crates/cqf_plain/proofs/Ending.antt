@@ -15,7 +15,7 @@ use Rattle.cqf_model.specs.History.{Recorded}
 use Rattle.cqf_model.specs.Network.{IsLegalNetwork, IsLost, Network, compiled_lists}
 use Rattle.cqf_model.specs.Run.{AreBackground, AreOffers, Run}
 use Rattle.cqf_model.specs.Table.{AreOrderly, table_of}
-use Rattle.cqf_model.specs.Traffic.{policed_before}
+use Rattle.cqf_model.specs.Policing.{policed_before}
 use Rattle.cqf_laws_history.specs.HistoryLaws.{TablesAreOrderly}
 use Rattle.cqf_laws_network.specs.NetworkLaws.{BookIsUnique, LegalNetworkIsUnique}
 use Rattle.cqf_laws_cycle.specs.BridgeCycle.{DropsAreOfTheCycle}
@@ -66,16 +66,16 @@ begins_at follows d tables offers background net c new =
     }
 
 -- the element read at an index is there
-there_at : {X : Type 0} (xs : List X) (place : ℕ) (x : X) → place < length xs → x ≡ get_or xs place x → slice_get xs place ≡ Some x
-there_at xs place x inside is = elim (slice_get_cases xs place).1 [
-  | inl w ↦ w.2 ∙ ap Some (sym (get_or_from_slice_get xs place w.0 x w.2) ∙ sym is)
+there_at : {X : Type 0} (xs : List X) (index : ℕ) (x : X) → index < length xs → x ≡ get_or xs index x → slice_get xs index ≡ Some x
+there_at xs index x inside is = elim (slice_get_cases xs index).1 [
+  | inl w ↦ w.2 ∙ ap Some (sym (get_or_from_slice_get xs index w.0 x w.2) ∙ sym is)
   | inr w ↦ absurd (omega (arith, w.0, inside))
 ]
 
 -- each of numbered tables is of the cycle of its index
-pub numbered_so : (tables : List CycleTable) (place : ℕ) (table : CycleTable) → AreTablesNumbered (length tables) tables → place < length tables →
-    table ≡ get_or tables place table → table.cycle ≡ place
-numbered_so tables place table numbered inside is = numbered.numbers place table (there_at tables place table inside is)
+pub numbered_so : (tables : List CycleTable) (index : ℕ) (table : CycleTable) → AreTablesNumbered (length tables) tables → index < length tables →
+    table ≡ get_or tables index table → table.cycle ≡ index
+numbered_so tables index table numbered inside is = numbered.numbers index table (there_at tables index table inside is)
 
 module _ (d : Domain) (tables : List CycleTable) (run : Run) (net : Network) (over : IsRunOver d tables run net) where
   -- there are as many cycles as tables
@@ -83,10 +83,10 @@ module _ (d : Domain) (tables : List CycleTable) (run : Run) (net : Network) (ov
   as_many = ap (λ (rows : List (List Row)). length rows) over.rows ∙ length-map tables rows_of
 
   -- it may go on by the next table
-  pub may_go_on : AreTablesNumbered (length tables) tables → (place : ℕ) (table : CycleTable) (c : SoFarState) → place < length tables →
-      table ≡ get_or tables place table → IsAt run net place c → RunMayGoOn d table c run net
-  may_go_on numbered place table c inside is at =
-      let own = numbered_so tables place table numbered inside is in
+  pub may_go_on : AreTablesNumbered (length tables) tables → (index : ℕ) (table : CycleTable) (c : SoFarState) → index < length tables →
+      table ≡ get_or tables index table → IsAt run net index c → RunMayGoOn d table c run net
+  may_go_on numbered index table c inside is at =
+      let own = numbered_so tables index table numbered inside is in
       record {
         domain = over.domain;
         of_run = record {
@@ -97,16 +97,16 @@ module _ (d : Domain) (tables : List CycleTable) (run : Run) (net : Network) (ov
         };
         table_is = record {
           rows = ap (table_of run.tables) own
-              ∙ ap (λ (rows : List (List Row)). table_of rows place) over.rows ∙ get_or-map rows_of tables place table [] inside ∙ ap rows_of (sym is);
+              ∙ ap (λ (rows : List (List Row)). table_of rows index) over.rows ∙ get_or-map rows_of tables index table [] inside ∙ ap rows_of (sym is);
         };
         at = subst (λ (n : ℕ). IsAt run net n c) (sym own) at;
       }
 
   -- and is then at the one after it
-  pub at_next : AreTablesNumbered (length tables) tables → (place : ℕ) (table : CycleTable) (c : SoFarState) → place < length tables →
-      table ≡ get_or tables place table → IsAt run net (table.cycle + 1) c → IsAt run net (place + 1) c
-  at_next numbered place table c inside is at =
-      subst (λ (n : ℕ). IsAt run net (n + 1) c) (numbered_so tables place table numbered inside is) at
+  pub at_next : AreTablesNumbered (length tables) tables → (index : ℕ) (table : CycleTable) (c : SoFarState) → index < length tables →
+      table ≡ get_or tables index table → IsAt run net (table.cycle + 1) c → IsAt run net (index + 1) c
+  at_next numbered index table c inside is at =
+      subst (λ (n : ℕ). IsAt run net (n + 1) c) (numbered_so tables index table numbered inside is) at
 
   -- after the last cycle the book is the run's
   pub ends_at : BookIsUnique → LegalNetworkIsUnique → DropsAreOfTheCycle → (c : SoFarState) → IsAt run net (length tables) c → IsBookOfRun run c.book
@@ -137,7 +137,7 @@ module _ (d : Domain) (tables : List CycleTable) (run : Run) (net : Network) (ov
       }
 
 module _ (d : Domain) (tables : List CycleTable) (offers : List Offer) (background : List Background) (accepted : IsAccepted d) (good : AreOffers d offers)
-    (behind : AreBackground d background) where
+    (following : AreBackground d background) where
   -- the requested run is over these tables
   pub over_so : (e : Domain) (net : Network) → e ≡ d → IsLegalNetwork (run_of d tables offers background) (compiled_lists d) (length (map rows_of tables)) net →
       IsRunOver e tables (run_of d tables offers background) net
@@ -145,7 +145,7 @@ module _ (d : Domain) (tables : List CycleTable) (offers : List Offer) (backgrou
     domain = sym same;
     compiled = record { accepted = accepted; legal = legal };
     offers = good;
-    background = behind;
+    background = following;
     rows = refl;
   }
 
@@ -158,7 +158,7 @@ module _ (d : Domain) (tables : List CycleTable) (offers : List Offer) (backgrou
   pub keeps_promise : BookSaysTheShift → TablesAreOrderly → (book : Contents) →
       IsBookOfRun (run_of d tables offers background) book → KeepsItOfHistory d tables offers background book
   keeps_promise says are_orderly book is entries of_history =
-      says (run_of d tables offers background) book accepted (orderly are_orderly entries of_history) good behind is.is_book
+      says (run_of d tables offers background) book accepted (orderly are_orderly entries of_history) good following is.is_book
 
   -- and there is no book only if memory is refused
   pub memory_alone : GatesMeanTheShift → TablesAreOrderly → (cycles : ℕ) (fault : RunFault) →
@@ -167,7 +167,7 @@ module _ (d : Domain) (tables : List CycleTable) (offers : List Offer) (backgrou
   memory_alone mean are_orderly cycles (Inside frame) lost entries of_history are_numbered =
       let l = lost.1 in
       absurd ((mean (run_of d tables offers background) l.net
-      (record { accepted = accepted; orderly = orderly are_orderly entries of_history; offered = good; background = behind; legal = l.legal })).none_lost
+      (record { accepted = accepted; orderly = orderly are_orderly entries of_history; offered = good; background = following; legal = l.legal })).none_lost
       l.bridge l.policed l.lost)
   memory_alone mean are_orderly cycles Memory lost entries of_history are_numbered = refl
 

@@ -21,10 +21,10 @@ use Rattle.cqf_model.specs.Domain.{Domain, IsAccepted, IsNode, cycle_of, enters,
 use Rattle.cqf_model.specs.Network.{IsLoss, Network}
 use Rattle.cqf_model.specs.Run.{Run}
 use Rattle.cqf_model.specs.Table.{begins_at, is_live, row_named, table_of}
-use Rattle.cqf_model.specs.Traffic.{AtEdge, Carried, DroppedFor, Policed, Queued, Received, edge_verdict, is_offered_at}
-use Rattle.cqf_model.specs.Traffic.{numbered, offer_received, offered_at, police_all, policed_before, received_at}
-use Rattle.cqf_model.specs.Traffic.{relayed_at, verdict_by, within_gate}
-use Rattle.cqf_model.proofs.Policing.{behind_those_before, police_member}
+use Rattle.cqf_model.specs.Policing.{AtEdge, Carried, DroppedFor, Policed, Queued, Received, edge_verdict, is_offered_at}
+use Rattle.cqf_model.specs.Policing.{numbered, offer_received, offered_at, police_all, policed_before, received_at}
+use Rattle.cqf_model.specs.Policing.{relayed_at, verdict_by, within_gate}
+use Rattle.cqf_model.proofs.Policing.{after_those_before, police_member}
 use Rattle.cqf_laws_cycle.specs.BridgeCycle.{policed_of, received_in}
 use Rattle.cqf_laws_cycle.specs.RunSteps.{LossesAreOfCycles}
 use Rattle.cqf_plain.specs.declared.faults.RunFault.{RunFault}
@@ -70,7 +70,7 @@ none_elsewhere run carried bridge cycle p accepted outside h =
     let begins = cycle * d.cycle_time in
     let earlier = policed_before run carried bridge begins in
     let xs = received_in run carried bridge cycle in
-    let r = behind_those_before d run.tables bridge earlier xs p h in
+    let r = after_those_before d run.tables bridge earlier xs p h in
     let c = contains_from_below (λ offset. received_at run carried bridge (begins + offset)) d.cycle_time p.received
     (police_member d run.tables bridge earlier xs p h) in
     let t = begins + c.0 in
@@ -80,11 +80,11 @@ none_elsewhere run carried bridge cycle p accepted outside h =
           absurd (omega (arith, outside, enters_one d m.0 bridge accepted (contains_if_there (enters d m.0 bridge) _ p.received m.2).0))
       | inr offered ↦
           let w = contains_from_map offer_received (filter (is_offered_at bridge t) (numbered run.offers)) p.received offered in
-          let way : r.x.way ≡ AtEdge w.0.offer.stream = sym (ap (λ (y : Policed). y.received.way) r.is) ∙ sym (ap (λ (y : Received). y.way) w.2) in
+          let ingress : r.x.ingress ≡ AtEdge w.0.offer.stream = sym (ap (λ (y : Policed). y.received.ingress) r.is) ∙ sym (ap (λ (y : Received). y.ingress) w.2) in
           let at_cycle = cycle_of d r.x.at in
           let rows = table_of run.tables at_cycle in
           let passes = λ (row : Row). within_gate d (earlier ++ police_all d run.tables bridge earlier r.before) row r.x in
-          subst (λ v. ¬ IsLoss v) (sym (ap (λ (y : Policed). y.verdict) r.is ∙ ap (verdict_by d rows bridge at_cycle passes) way))
+          subst (λ v. ¬ IsLoss v) (sym (ap (λ (y : Policed). y.verdict) r.is ∙ ap (verdict_by d rows bridge at_cycle passes) ingress))
           (edge_not_lost d bridge at_cycle passes (row_named rows w.0.offer.stream))
     ]
 
@@ -149,7 +149,7 @@ module _ (run : Run) (net : Network) (cycle : ℕ) (of : IsCycleOf run net cycle
             (record {
               cycle = cycle;
               within_run = of.within_run;
-              came = contains_at (policed_of run net.carried stop.bridge cycle) l.first.place l.x l.first.there;
+              came = contains_at (policed_of run net.carried stop.bridge cycle) l.first.index l.x l.first.there;
               lost = l.first.lost;
             });
         first = record { cycle = cycle; within_run = of.within_run; sooner = at.none_lost; lower = λ b p less. stop.none_lower b less p; here = l.first };

@@ -16,7 +16,7 @@ use Rattle.cqf_model.specs.Book.{Contents, background_in, starts_in}
 use Rattle.cqf_model.specs.Domain.{Domain, IsAccepted, enters, leaves}
 use Rattle.cqf_model.specs.Network.{Network}
 use Rattle.cqf_model.specs.Run.{Run}
-use Rattle.cqf_model.specs.Traffic.{Carried}
+use Rattle.cqf_model.specs.Policing.{Carried}
 use Rattle.cqf_laws_cycle.specs.Gathered.{IsInOrderOf}
 use Rattle.cqf_bridge.specs.Batch.{LinkBatch}
 use Rattle.cqf_bridge.specs.BridgeState.{BridgeState}
@@ -148,7 +148,7 @@ module _ (run : Run) (net : Network) (cycle : ℕ) (of : IsCycleOf run net cycle
                 agenda = subst (λ (a : AgendaOf). IsAgendaOf run.domain run.offers run.background k a) (sym (handed.same_agenda k e within)) st.own.agenda;
               };
               has_sent = subst (λ (b : BridgeState). HasSentOfTheNetwork run net b) (sym same) st.has_sent;
-              came_are = handed.behind k e within
+              came_are = handed.following k e within
                   ∙ ap (λ (xs : List LinkBatch). xs ++ filter (λ (x : LinkBatch). enters d x.link k) sorted) st.came_are
                   ∙ ap (filter (λ (x : LinkBatch). enters d x.link k)) (sorted_batches d accepted net.carried cycle sent sorted all_sent.batches_are order)
                   ∙ into_links d accepted net.carried cycle k;
@@ -161,7 +161,7 @@ none_handed d bridges = record {
   as_many = refl;
   same_bridge = λ k e inside. refl;
   same_agenda = λ k e inside. refl;
-  behind = λ k e inside. sym (append-nil (get_or bridges k e).inbox.items);
+  following = λ k e inside. sym (append-nil (get_or bridges k e).inbox.items);
 }
 
 -- one more batch among those of links into a bridge, or of others
@@ -177,39 +177,39 @@ passed_by d batches before after batch none so = record {
   as_many = so.as_many;
   same_bridge = so.same_bridge;
   same_agenda = so.same_agenda;
-  behind = λ k e inside.
-      so.behind k e inside
+  following = λ k e inside.
+      so.following k e inside
       ∙ ap (λ (ys : List LinkBatch). (get_or before k e).inbox.items ++ ys)
       (sym (one_filtered (λ (x : LinkBatch). enters d x.link k) batches batch false (none k)
       ∙ append-nil (filter (λ (x : LinkBatch). enters d x.link k) batches)));
 }
 
 -- a batch of a link that ends in one
-pub one_handed : (d : Domain) (batches : List LinkBatch) (before after : List RunBridge) (batch : LinkBatch) (x y : RunBridge) (bridge place : ℕ) →
-    enters d batch.link bridge ≡ true → ((other : ℕ) → enters d batch.link other ≡ true → other ≡ bridge) → place ≡ bridge → place < length after →
-    x ≡ get_or after place x → y.bridge ≡ x.bridge → y.agenda ≡ x.agenda → y.inbox.items ≡ x.inbox.items ++ batch ∷ [] →
-    AreHandedOut d batches before after → AreHandedOut d (batches ++ batch ∷ []) before (set after place y)
-one_handed d batches before after batch x y bridge place ends only at inside there same_bridge same_agenda pushed so = record {
-  as_many = length-set after place y ∙ so.as_many;
-  same_bridge = λ k e within. elim (cases_eq k place) [
+pub one_handed : (d : Domain) (batches : List LinkBatch) (before after : List RunBridge) (batch : LinkBatch) (x y : RunBridge) (bridge index : ℕ) →
+    enters d batch.link bridge ≡ true → ((other : ℕ) → enters d batch.link other ≡ true → other ≡ bridge) → index ≡ bridge → index < length after →
+    x ≡ get_or after index x → y.bridge ≡ x.bridge → y.agenda ≡ x.agenda → y.inbox.items ≡ x.inbox.items ++ batch ∷ [] →
+    AreHandedOut d batches before after → AreHandedOut d (batches ++ batch ∷ []) before (set after index y)
+one_handed d batches before after batch x y bridge index ends only at inside there same_bridge same_agenda pushed so = record {
+  as_many = length-set after index y ∙ so.as_many;
+  same_bridge = λ k e within. elim (cases_eq k index) [
     | inl same ↦ ap (λ (s : RunBridge). s.bridge) (here k e same) ∙ same_bridge ∙ ap (λ (s : RunBridge). s.bridge) (was k e same) ∙ so.same_bridge k e within
-    | inr differ ↦ ap (λ (s : RunBridge). s.bridge) (get_or-set_other after place k y e differ) ∙ so.same_bridge k e within
+    | inr differ ↦ ap (λ (s : RunBridge). s.bridge) (get_or-set_other after index k y e differ) ∙ so.same_bridge k e within
   ];
-  same_agenda = λ k e within. elim (cases_eq k place) [
+  same_agenda = λ k e within. elim (cases_eq k index) [
     | inl same ↦ ap (λ (s : RunBridge). s.agenda) (here k e same) ∙ same_agenda ∙ ap (λ (s : RunBridge). s.agenda) (was k e same) ∙ so.same_agenda k e within
-    | inr differ ↦ ap (λ (s : RunBridge). s.agenda) (get_or-set_other after place k y e differ) ∙ so.same_agenda k e within
+    | inr differ ↦ ap (λ (s : RunBridge). s.agenda) (get_or-set_other after index k y e differ) ∙ so.same_agenda k e within
   ];
-  behind = λ k e within. elim (cases_eq k place) [
+  following = λ k e within. elim (cases_eq k index) [
     | inl same ↦
         let own : enters d batch.link k ≡ true = ap (enters d batch.link) (same ∙ at) ∙ ends in
         ap (λ (s : RunBridge). s.inbox.items) (here k e same) ∙ pushed
         ∙ ap (λ (s : RunBridge). s.inbox.items ++ batch ∷ []) (was k e same)
-        ∙ ap (λ (ys : List LinkBatch). ys ++ batch ∷ []) (so.behind k e within)
+        ∙ ap (λ (ys : List LinkBatch). ys ++ batch ∷ []) (so.following k e within)
         ∙ append_assoc (get_or before k e).inbox.items (filter (into k) batches) (batch ∷ [])
         ∙ ap (λ (ys : List LinkBatch). (get_or before k e).inbox.items ++ ys) (sym (one_filtered (into k) batches batch true own))
     | inr differ ↦
-        ap (λ (s : RunBridge). s.inbox.items) (get_or-set_other after place k y e differ)
-        ∙ so.behind k e within
+        ap (λ (s : RunBridge). s.inbox.items) (get_or-set_other after index k y e differ)
+        ∙ so.following k e within
         ∙ ap (λ (ys : List LinkBatch). (get_or before k e).inbox.items ++ ys)
         (sym (one_filtered (into k) batches batch false (other k differ) ∙ append-nil (filter (into k) batches)))
   ];
@@ -220,15 +220,15 @@ one_handed d batches before after batch x y bridge place ends only at inside the
     into k z = enters d z.link k
 
     -- what is there afterwards
-    here : (k : ℕ) (e : RunBridge) → k ≡ place → get_or (set after place y) k e ≡ y
-    here k e same = ap (λ (j : ℕ). get_or (set after place y) j e) same ∙ get_or-set_same after place y e inside
+    here : (k : ℕ) (e : RunBridge) → k ≡ index → get_or (set after index y) k e ≡ y
+    here k e same = ap (λ (j : ℕ). get_or (set after index y) j e) same ∙ get_or-set_same after index y e inside
 
     -- and what was there before
-    was : (k : ℕ) (e : RunBridge) → k ≡ place → x ≡ get_or after k e
-    was k e same = there ∙ get_or_default after place x e inside ∙ ap (λ (j : ℕ). get_or after j e) (sym same)
+    was : (k : ℕ) (e : RunBridge) → k ≡ index → x ≡ get_or after k e
+    was k e same = there ∙ get_or_default after index x e inside ∙ ap (λ (j : ℕ). get_or after j e) (sym same)
 
     -- another bridge isn't the link's end
-    other : (k : ℕ) → (k ≡ place → ⊥) → enters d batch.link k ≡ false
+    other : (k : ℕ) → (k ≡ index → ⊥) → enters d batch.link k ≡ false
     other k differ = elim (cases_Bool (enters d batch.link k)) [
       | inl it ↦ absurd (differ (only k it ∙ sym at))
       | inr not ↦ not

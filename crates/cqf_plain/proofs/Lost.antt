@@ -13,7 +13,7 @@ use Rattle.cqf_model.specs.Domain.{Domain, cycle_of, enters}
 use Rattle.cqf_model.specs.Network.{Network}
 use Rattle.cqf_model.specs.Run.{Run}
 use Rattle.cqf_model.specs.Table.{table_of}
-use Rattle.cqf_model.specs.Traffic.{Carried, Policed, Received, offer_received, police_all, sent_received}
+use Rattle.cqf_model.specs.Policing.{Carried, Policed, Received, offer_received, police_all, sent_received}
 use Rattle.cqf_model.proofs.InCycle.{received_in_when}
 use Rattle.cqf_laws_cycle.specs.BridgeCycle.{BatchIsWholeInItsCycle, CycleBringsItsBatches, policed_of, received_in}
 use Rattle.cqf_laws_cycle.specs.Gathered.{FramesAreTakenInOrder, IsInOrderOf, gathered_in, offered_for}

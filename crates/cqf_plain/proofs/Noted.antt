@@ -120,32 +120,32 @@ first_of [] none = absurd (omega (arith, none))
 first_of (x ∷ xs) some = x
 
 -- one more port of a bridge
-pub next_noted : (due : Moments) (ports own : List PortRecord) (place : ℕ) → place < length own →
-    ((e : PortRecord) → AreNextStarts due ((ports ++ take place own) ++ get_or own place e ∷ [])) → AreNextStarts due (ports ++ take (place + 1) own)
-next_noted due ports own place inside so =
+pub next_noted : (due : Moments) (ports own : List PortRecord) (index : ℕ) → index < length own →
+    ((e : PortRecord) → AreNextStarts due ((ports ++ take index own) ++ get_or own index e ∷ [])) → AreNextStarts due (ports ++ take (index + 1) own)
+next_noted due ports own index inside so =
     let e = first_of own (omega (arith, inside)) in
-    subst (AreNextStarts due) (append_assoc ports (take place own) (get_or own place e ∷ []) ∙ ap (λ (rs : List PortRecord). ports ++ rs)
-    (sym (take_more own place e inside)))
+    subst (AreNextStarts due) (append_assoc ports (take index own) (get_or own index e ∷ []) ∙ ap (λ (rs : List PortRecord). ports ++ rs)
+    (sym (take_more own index e inside)))
     (so e)
 
 -- and in the end all
-pub all_noted : (due : Moments) (ports own : List PortRecord) (place : ℕ) → length own ≤ place → AreNextStarts due (ports ++ take place own) →
+pub all_noted : (due : Moments) (ports own : List PortRecord) (index : ℕ) → length own ≤ index → AreNextStarts due (ports ++ take index own) →
     AreNextStarts due (ports ++ own)
-all_noted due ports own place past so = subst (λ (rs : List PortRecord). AreNextStarts due (ports ++ rs)) (take_all place own past) so
+all_noted due ports own index past so = subst (λ (rs : List PortRecord). AreNextStarts due (ports ++ rs)) (take_all index own past) so
 
 -- the ports of one more bridge
-pub bridge_noted : (due : Moments) (bridges : List RunBridge) (place : ℕ) (s : RunBridge) → place < length bridges →
-    AreNextStarts due (ports_of (take place bridges) ++ (get_or bridges place s).bridge.ports) → AreNextStarts due (ports_of (take (place + 1) bridges))
-bridge_noted due bridges place s inside so =
+pub bridge_noted : (due : Moments) (bridges : List RunBridge) (index : ℕ) (s : RunBridge) → index < length bridges →
+    AreNextStarts due (ports_of (take index bridges) ++ (get_or bridges index s).bridge.ports) → AreNextStarts due (ports_of (take (index + 1) bridges))
+bridge_noted due bridges index s inside so =
     subst (AreNextStarts due)
-    (sym (ap ports_of (take_more bridges place s inside) ∙ ports_more (take place bridges) (get_or bridges place s))) so
+    (sym (ap ports_of (take_more bridges index s inside) ∙ ports_more (take index bridges) (get_or bridges index s))) so
 
 -- there is nothing for one more bridge
-pub nothing_more : (cycle : ℕ) (bridges : List RunBridge) (place : ℕ) (s : RunBridge) → place < length bridges → s ≡ get_or bridges place s →
-    NothingComes cycle (take place bridges) → HasNothing cycle s → NothingComes cycle (take (place + 1) bridges)
-nothing_more cycle bridges place s inside is so more =
-    subst (NothingComes cycle) (sym (take_more bridges place s inside ∙ ap (λ (x : RunBridge). take place bridges ++ x ∷ []) (sym is)))
-    (λ x held. elim (Contains-push_cases (take place bridges) s x held) [
+pub nothing_more : (cycle : ℕ) (bridges : List RunBridge) (index : ℕ) (s : RunBridge) → index < length bridges → s ≡ get_or bridges index s →
+    NothingComes cycle (take index bridges) → HasNothing cycle s → NothingComes cycle (take (index + 1) bridges)
+nothing_more cycle bridges index s inside is so more =
+    subst (NothingComes cycle) (sym (take_more bridges index s inside ∙ ap (λ (x : RunBridge). take index bridges ++ x ∷ []) (sym is)))
+    (λ x held. elim (Contains-push_cases (take index bridges) s x held) [
       | inl old ↦ so x old
       | inr new ↦ subst (HasNothing cycle) new more
     ])

@@ -15,7 +15,7 @@ use Rattle.cqf_model.specs.Book.{background_in, batch, started, starts_in}
 use Rattle.cqf_model.specs.Domain.{Domain, bridge_of, cycle_of, leaves}
 use Rattle.cqf_model.specs.Network.{Network}
 use Rattle.cqf_model.specs.Run.{Run}
-use Rattle.cqf_model.specs.Traffic.{Policed}
+use Rattle.cqf_model.specs.Policing.{Policed}
 use Rattle.cqf_laws_cycle.specs.Gathered.{FramesAreTakenInOrder, offered_for}
 use Rattle.cqf_laws_cycle.specs.PageLaws.{on_links_of}
 use Rattle.cqf_laws_cycle.specs.RunSteps.{LossesAreOfCycles}
@@ -152,7 +152,7 @@ module _ (run : Run) (net : Network) (cycle : ℕ) (of : IsCycleOf run net cycle
         subst (λ (x : Domain). IsQuiet (end_of_cycle x cycle) r) (sym st.own.domain)
         (noted_quiet part c.due r (end_of_cycle run.domain cycle) (at.due.noted r (contains_flat (λ (x : RunBridge). x.bridge.ports) c.bridges s r held port))
         (omega (arith, reached, ends_later))
-        (λ place t started. omega (arith, has.legal.before_end place t started, has.reached, reached, ends_later)) none_start)
+        (λ index t started. omega (arith, has.legal.before_end index t started, has.reached, reached, ends_later)) none_start)
 
     -- so it may pass over the cycle
     pub may_pass : cycle < 100000 → (s : RunBridge) → Contains c.bridges s → MayPass s.bridge cycle

@@ -10,7 +10,7 @@ use Rattle.cqf_model.specs.declared.topology.Row.{Row}
 use Rattle.cqf_model.specs.Domain.{Domain}
 use Rattle.cqf_model.specs.Network.{IsLoss, Network}
 use Rattle.cqf_model.specs.Run.{Run}
-use Rattle.cqf_model.specs.Traffic.{Policed}
+use Rattle.cqf_model.specs.Policing.{Policed}
 use Rattle.cqf_laws_cycle.specs.BridgeCycle.{policed_of}
 use Rattle.cqf_laws_cycle.specs.Gathered.{offered_for}
 use Rattle.cqf_admission.specs.Tables.{CycleTable}
@@ -126,7 +126,7 @@ module _ (run : Run) (net : Network) (table : CycleTable) (of : IsCycleOf run ne
         let over = refused.1 in
         let among : Contains (policed_of run net.carried bridge cycle) over.over =
         subst (λ (ps : List Policed). Contains ps over.over) (verdicts_are verdicts)
-        (contains_at (verdicts_in run s.bridge.number cycle batches) over.place over.over over.there) in
+        (contains_at (verdicts_in run s.bridge.number cycle batches) over.index over.over over.there) in
         none over.over among (subst IsLoss (sym over.exceeds) tt)
     lost_so verdicts may_come after fault.Memory refused other none = other refl
 
@@ -154,15 +154,15 @@ module _ (run : Run) (net : Network) (table : CycleTable) (of : IsCycleOf run ne
       bridges x so.turned inside is
 
   -- then one more
-  pub one_received : (count place : ℕ) (bridges after : List RunBridge) (drops now now_after : List Dropped) (dropped : List Dropped)
+  pub one_received : (count index : ℕ) (bridges after : List RunBridge) (drops now now_after : List Dropped) (dropped : List Dropped)
       (y : RunBridge) →
-      FirstHaveReceived count bridges drops now → count < length run.domain.bridges → place ≡ count → after ≡ set bridges place y →
+      FirstHaveReceived count bridges drops now → count < length run.domain.bridges → index ≡ count → after ≡ set bridges index y →
       ReceivesOne run net cycle count y dropped → now_after ≡ now ++ dropped → FirstHaveReceived (count + 1) after drops now_after
-  one_received count place bridges after drops now now_after dropped y so inside at is more listed =
+  one_received count index bridges after drops now now_after dropped y so inside at is more listed =
       let next : suc count ≡ count + 1 = omega arith in
       record {
         turned = one_turned (StandsHalfway run net cycle (all_of run net cycle)) (StandsBeforeCycle run net (cycle + 1))
-            (length run.domain.bridges) count place bridges after y
+            (length run.domain.bridges) count index bridges after y
             so.turned inside at more.stands is;
         dropped = listed ∙ (λ i. so.dropped i ++ more.are_drops i)
             ∙ append_assoc drops (drops_of_first run net cycle count) (drops_of_cycle run net count cycle)

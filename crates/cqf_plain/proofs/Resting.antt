@@ -9,39 +9,39 @@ use Rattle.cqf_lists.specs.Lists.{each_below}
 use Rattle.cqf_lists.proofs.EachBelow.{filter_each, filter_none, none_below}
 use Rattle.cqf_lists.proofs.Members.{contains_cases, contains_from_map, contains_here, contains_later, contains_none, contains_one}
 use Rattle.cqf_model.specs.declared.frames.Sent.{Sent}
-use Rattle.cqf_model.specs.Book.{drop_by, is_of_place}
+use Rattle.cqf_model.specs.Book.{drop_by, is_of_index}
 use Rattle.cqf_model.specs.Domain.{enters}
 use Rattle.cqf_model.specs.Port.{AreLegal, Transmission}
 use Rattle.cqf_model.specs.Run.{Run}
-use Rattle.cqf_model.specs.Traffic.{Carried, Policed, Received, offer_received, police_all, sent_received}
+use Rattle.cqf_model.specs.Policing.{Carried, Policed, Received, offer_received, police_all, sent_received}
 use Rattle.cqf_laws_cycle.specs.BridgeCycle.{received_in}
 use Rattle.cqf_laws_cycle.specs.Gathered.{FramesAreTakenInOrder, IsInOrderOf, gathered_in, offered_for}
 use Rattle.cqf_laws_network.specs.PortLaws.{LegalPartIsLegal}
 use Rattle.cqf_port.specs.NextStart.{StartsNext}
 use Rattle.cqf_bridge.specs.Batch.{LinkBatch}
-use Rattle.cqf_bridge.specs.BridgeState.{BridgeState, SendsCycle, background_from, batch_from, end_of_cycle, port_behind, port_with}
+use Rattle.cqf_bridge.specs.BridgeState.{BridgeState, SendsCycle, background_from, batch_from, end_of_cycle, port_after, port_with}
 use Rattle.cqf_bridge.specs.PortRecord.{AreDemanded, PortRecord, with_frames}
 use Rattle.cqf_bridge.specs.Quiet.{IsQuiet, passed, rested}
 use Rattle.cqf_bridge.specs.Receiving.{ReceivesCycle, carried_by, port_queued, verdicts_in}
 use Rattle.cqf_plain.specs.Due.{IsNoted, Moments, NoneBefore}
 
 -- up to an instant that isn't after its next start, a port starts nothing more
-quiet_until : LegalPartIsLegal → (r : PortRecord) (end t : ℕ) → ((place s : ℕ) → Contains r.port.starts (place, s) → s < end) → end ≤ t →
+quiet_until : LegalPartIsLegal → (r : PortRecord) (end t : ℕ) → ((index s : ℕ) → Contains r.port.starts (index, s) → s < end) → end ≤ t →
     StartsNext r.port t → IsQuiet end r
 quiet_until part r end t before upto next =
     let test = λ (x : Transmission). nat_lt x.1 end in
-    let last : List Transmission = (next.place, t) ∷ [] in
+    let last : List Transmission = (next.index, t) ∷ [] in
     let same : filter test (r.port.starts ++ last) ≡ r.port.starts =
     filter-append test r.port.starts last
     ∙ (λ i. filter_each test r.port.starts (λ x h. lt-ltb x.1 end (before x.0 x.1 h)) i
-    ++ filter_none test last (λ x h. ap (λ (y : Transmission). nat_lt y.1 end) (sym (contains_one (next.place, t) x h)) ∙ le-ltb t end upto) i)
+    ++ filter_none test last (λ x h. ap (λ (y : Transmission). nat_lt y.1 end) (sym (contains_one (next.index, t) x h)) ∙ le-ltb t end upto) i)
     ∙ append-nil r.port.starts in
     subst (λ (xs : List Transmission). AreLegal r.port.rules r.port.arrivals end xs) same
     (part r.port.rules r.port.arrivals end (t + 1) (r.port.starts ++ last) (omega (arith, upto)) next.legal)
 
 -- so a port that is recorded starts nothing before the least recorded start
 pub noted_quiet : LegalPartIsLegal → (due : Moments) (r : PortRecord) (end : ℕ) → IsNoted due r → r.port.reached ≤ end →
-    ((place s : ℕ) → Contains r.port.starts (place, s) → s < end) → NoneBefore end due → IsQuiet end r
+    ((index s : ℕ) → Contains r.port.starts (index, s) → s < end) → NoneBefore end due → IsQuiet end r
 noted_quiet part due r end noted from before none = elim noted [
   | inl never ↦ never end from
   | inr some ↦ quiet_until part r end some.0.0 before (none (some.0, r.link) some.2) some.1
@@ -49,12 +49,12 @@ noted_quiet part due r end noted from before none = elim noted [
 
 -- its next start is that of the port that has rested
 pub starts_rested : (r : PortRecord) (t end : ℕ) → StartsNext r.port t → end ≤ t → StartsNext (rested end r).port t
-starts_rested r t end next upto = record { from_now = upto; place = next.place; legal = next.legal }
+starts_rested r t end next upto = record { from_now = upto; index = next.index; legal = next.legal }
 
 -- which is recorded then
 pub noted_rested : (due : Moments) (r : PortRecord) (end : ℕ) → IsNoted due r → r.port.reached ≤ end → NoneBefore end due → IsNoted due (rested end r)
 noted_rested due r end noted from none = elim noted [
-  | inl never ↦ inl (λ later behind. never later (omega (arith, from, behind)))
+  | inl never ↦ inl (λ later following. never later (omega (arith, from, following)))
   | inr some ↦ inr (some.0, starts_rested r some.0.0 end some.1 (none (some.0, r.link) some.2), some.2)
 ]
 
@@ -128,11 +128,11 @@ module _ (b : BridgeState) (cycle : ℕ) (quiet : (r : PortRecord) → Contains 
       (subst (λ (r : PortRecord). AreDemanded r end []) (sym (with_none p.0))
       (record {
         legal = subst (λ (xs : List Transmission). AreLegal p.0.port.rules p.0.port.arrivals end xs) (sym (append-nil p.0.port.starts)) (quiet p.0 w.0);
-        later = λ place s none. absurd (contains_none {X = Transmission} (place, s) none);
+        later = λ index s none. absurd (contains_none {X = Transmission} (index, s) none);
       }))
 
   -- it rests
-  rests : (r : PortRecord) → port_behind b.domain cycle [] (r, []) ≡ rested (end_of_cycle b.domain cycle) r
+  rests : (r : PortRecord) → port_after b.domain cycle [] (r, []) ≡ rested (end_of_cycle b.domain cycle) r
   rests r = λ i. record {
     link = r.link;
     port = record {
@@ -158,8 +158,8 @@ module _ (b : BridgeState) (cycle : ℕ) (quiet : (r : PortRecord) → Contains 
   -- so the bridge has sent the cycle
   pub sends_none : SendsCycle b (halfway_past cycle b) cycle [] [] empty_batches
   sends_none =
-      let ports : map (port_behind b.domain cycle []) beside ≡ map (rested (end_of_cycle b.domain cycle)) b.ports =
-      map_beside (port_behind b.domain cycle []) (rested (end_of_cycle b.domain cycle)) b.ports rests in
+      let ports : map (port_after b.domain cycle []) beside ≡ map (rested (end_of_cycle b.domain cycle)) b.ports =
+      map_beside (port_after b.domain cycle []) (rested (end_of_cycle b.domain cycle)) b.ports rests in
       let background : flat_map (background_from cycle []) beside ≡ [] =
       flat_none (background_from cycle []) beside (λ p held.
       ap (λ (made : List Transmission). background_from cycle [] (p.0, made)) (from_beside {X = PortRecord} {Y = Transmission} b.ports p held).1) in
@@ -238,9 +238,9 @@ module _ (run : Run) (cycle : ℕ) (law : FramesAreTakenInOrder) (some : 0 < run
             background = [];
           };
           none_lost = λ p held. absurd (contains_none p (subst (λ (ps : List Policed). Contains ps p) here held));
-          drops = sym (none_below _ (length run.offers) (λ place inside.
+          drops = sym (none_below _ (length run.offers) (λ index inside.
               ap (λ (ps : List Policed). flat_map (λ (p : Policed). drop_by cycle b.number p.received p.verdict)
-              (filter (is_of_place run.domain cycle place) ps)) here));
+              (filter (is_of_index run.domain cycle index) ps)) here));
         }
       where
         -- each is unchanged

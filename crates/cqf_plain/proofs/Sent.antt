@@ -84,13 +84,13 @@ module _ (run : Run) (net : Network) (cycle : ℕ) (of : IsCycleOf run net cycle
       next_was (StandsBeforeCycle run net cycle) (StandsHalfway run net cycle none_yet) (length run.domain.bridges) count bridges x so.turned inside is
 
   -- then one more
-  pub one_sent : (count place : ℕ) (bridges after : List RunBridge) (batches batches_after : List LinkBatch) (y : RunBridge) → FirstHaveSent count bridges batches →
-      count < length run.domain.bridges → place ≡ count → after ≡ set bridges place y → StandsHalfway run net cycle none_yet count y →
+  pub one_sent : (count index : ℕ) (bridges after : List RunBridge) (batches batches_after : List LinkBatch) (y : RunBridge) → FirstHaveSent count bridges batches →
+      count < length run.domain.bridges → index ≡ count → after ≡ set bridges index y → StandsHalfway run net cycle none_yet count y →
       batches_after ≡ batches ++ batches_from run.domain net.carried count cycle → FirstHaveSent (count + 1) after batches_after
-  one_sent count place bridges after batches batches_after y so inside at more is given =
+  one_sent count index bridges after batches batches_after y so inside at more is given =
       let next : suc count ≡ count + 1 = omega arith in
       record {
-        turned = one_turned (StandsBeforeCycle run net cycle) (StandsHalfway run net cycle none_yet) (length run.domain.bridges) count place
+        turned = one_turned (StandsBeforeCycle run net cycle) (StandsHalfway run net cycle none_yet) (length run.domain.bridges) count index
             bridges after y so.turned inside at is more;
         batches_are = given ∙ ap (λ (xs : List LinkBatch). xs ++ batches_from run.domain net.carried count cycle) so.batches_are
             ∙ ap (sent_by_first run net cycle) next;

@@ -40,9 +40,9 @@ module _ {X : Type 0} (Was Is : ℕ → X → Type 0) (count : ℕ) where
   next_was turned xs x so inside is = subst (Was turned) (sym is) (so.others turned x (omega arith) inside)
 
   -- then one more has it
-  pub one_turned : (turned place : ℕ) (xs after : List X) (y : X) → AreTurned Was Is count turned xs → turned < count → place ≡ turned → Is turned y →
-      after ≡ set xs place y → AreTurned Was Is count (turned + 1) after
-  one_turned turned place xs after y so inside at is more = subst (AreTurned Was Is count (turned + 1)) (sym (more ∙ ap (λ (p : ℕ). set xs p y) at)) (record {
+  pub one_turned : (turned index : ℕ) (xs after : List X) (y : X) → AreTurned Was Is count turned xs → turned < count → index ≡ turned → Is turned y →
+      after ≡ set xs index y → AreTurned Was Is count (turned + 1) after
+  one_turned turned index xs after y so inside at is more = subst (AreTurned Was Is count (turned + 1)) (sym (more ∙ ap (λ (p : ℕ). set xs p y) at)) (record {
     one_each = length-set xs turned y ∙ so.one_each;
     first = λ k e less within. elim (cases_eq k turned) [
       | inl same ↦

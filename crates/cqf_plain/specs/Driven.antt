@@ -46,19 +46,19 @@ pub record IsOfRunIn (run : Run) (cycle bridge : ℕ) (s : RunBridge) : Type 0 w
   pub received : s.bridge.received ≡ cycle
   pub agenda : IsAgendaOf run.domain run.offers run.background bridge s.agenda
 
--- it is at the cycle's beginning: it follows the network, and no batch of the cycle has arrived at it yet
+-- a bridge of the run at a cycle's beginning: it follows the network, and no batch of the cycle has arrived at it yet
 pub record StandsBeforeCycle (run : Run) (net : Network) (cycle bridge : ℕ) (s : RunBridge) : Type 0 where
   pub own : IsOfRunIn run cycle bridge s
   pub follows : FollowsTheNetwork run net s.bridge
   pub none_came : s.inbox.items ≡ []
 
--- it has sent the cycle as the network does, and these batches have arrived at it
+-- a bridge of the run has sent the cycle as the network does, and these batches have arrived at it
 pub record StandsHalfway (run : Run) (net : Network) (cycle : ℕ) (came : ℕ → List LinkBatch) (bridge : ℕ) (s : RunBridge) : Type 0 where
   pub own : IsOfRunIn run cycle bridge s
   pub has_sent : HasSentOfTheNetwork run net s.bridge
   pub came_are : s.inbox.items ≡ came bridge
 
--- all batches of the cycle have arrived at it, whether it takes them or not
+-- all batches of the cycle have arrived at a bridge of the run, whether it takes them or not
 pub record HasCome (run : Run) (net : Network) (cycle bridge : ℕ) (s : RunBridge) : Type 0 where
   pub domain : s.bridge.domain ≡ run.domain
   pub number : s.bridge.number ≡ bridge
@@ -93,7 +93,7 @@ pub record AreHandedOut (d : Domain) (batches : List LinkBatch) (before after : 
   pub as_many : length after ≡ length before
   pub same_bridge : (k : ℕ) (e : RunBridge) → k < length before → (slice_index_or after k e).bridge ≡ (slice_index_or before k e).bridge
   pub same_agenda : (k : ℕ) (e : RunBridge) → k < length before → (slice_index_or after k e).agenda ≡ (slice_index_or before k e).agenda
-  pub behind : (k : ℕ) (e : RunBridge) → k < length before →
+  pub following : (k : ℕ) (e : RunBridge) → k < length before →
       (slice_index_or after k e).inbox.items ≡ (slice_index_or before k e).inbox.items ++ filter (λ (x : LinkBatch). enters d x.link k) batches
 
 -- the bridges' background frames of the cycle that they have sent are listed, by link

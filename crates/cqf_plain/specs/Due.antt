@@ -32,7 +32,7 @@ IsAmong due k = IsSome (lookup (is_at (by_moment k)) due)
 abbrev pub IsNoted : Moments → PortRecord → Type 0
 IsNoted due r = StartsNoMore r.port ⊎ ((t : Nanos) × StartsNext r.port t.0 × IsAmong due (t, r.link))
 
--- they are exactly the next starts of these ports
+-- moments are exactly the next starts of these ports
 pub record AreNextStarts (due : Moments) (ports : List PortRecord) : Type 0 where
   pub noted : (r : PortRecord) → Contains ports r → IsNoted due r
   pub only : (k : Moment) → IsAmong due k → (r : PortRecord) × Contains ports r × StartsNext r.port k.0.0 × (k.1 ≡ r.link)
@@ -50,7 +50,7 @@ pub record HasNothing (cycle : ℕ) (s : RunBridge) : Type 0 where
   pub no_offers : offers_listed_at s.agenda cycle ≡ []
   pub no_background : background_at s.agenda cycle ≡ []
 
--- nor for any of the bridges
+-- the run has neither offers nor background frames for any of the bridges in a cycle
 abbrev pub NothingComes : ℕ → List RunBridge → Type 0
 NothingComes cycle bridges = (s : RunBridge) → Contains bridges s → HasNothing cycle s
 

@@ -22,6 +22,6 @@ abbrev pub KeepsItOfHistory : Domain → List CycleTable → List Offer → List
 KeepsItOfHistory d tables offers background book = (entries : List Recorded) → AreOfHistory d tables entries →
     KeepsThePromise (run_of d tables offers background) book
 
--- and a run returns no book only if memory is refused
+-- under the tables of one legal history, a run returns no book only if an allocation fails
 abbrev pub WantsMemoryAlone : Domain → ℕ → List CycleTable → RunFault → Type 0
 WantsMemoryAlone d cycles tables fault = (entries : List Recorded) → AreOfHistory d tables entries → AreTablesNumbered cycles tables → fault ≡ Memory

@@ -6,7 +6,7 @@ use Rattle.cqf_model.specs.Book.{Contents, IsOneThreadBook}
 use Rattle.cqf_model.specs.Domain.{Domain}
 use Rattle.cqf_model.specs.Network.{IsLegalNetwork, IsLoss, IsLost, Network, compiled_lists}
 use Rattle.cqf_model.specs.Run.{Run}
-use Rattle.cqf_model.specs.Traffic.{Carried, Policed}
+use Rattle.cqf_model.specs.Policing.{Carried, Policed}
 use Rattle.cqf_laws_cycle.specs.BridgeCycle.{policed_of}
 use Rattle.cqf_admission.specs.Tables.{CycleTable}
 use Rattle.cqf_plain.specs.declared.faults.RunFault.{RunFault}
@@ -25,16 +25,16 @@ pub record AreTablesNumbered (cycles : ℕ) (tables : List CycleTable) : Type 0 
 abbrev pub IsNetworkOf : Run → Network → Type 0
 IsNetworkOf run net = IsLegalNetwork run (compiled_lists run.domain) (length run.tables) net
 
--- it loses nothing inside
+-- the run loses nothing inside
 abbrev pub LosesNothingInside : Run → Type 0
 LosesNothingInside run = (net : Network) (bridge : ℕ) (policed : Policed) → IsNetworkOf run net → ¬ IsLost run net.carried (length run.tables) bridge policed
 
 -- the first of some frames that is lost, in the order in which they are taken
 pub record IsFirstLoss (policed : List Policed) (x : Policed) : Type 0 where
-  pub place : ℕ
-  pub there : slice_get policed place ≡ Some x
+  pub index : ℕ
+  pub there : slice_get policed index ≡ Some x
   pub lost : IsLoss x.verdict
-  pub before : (p : Policed) → Contains (take place policed) p → ¬ IsLoss p.verdict
+  pub before : (p : Policed) → Contains (take index policed) p → ¬ IsLoss p.verdict
 
 -- no frame is lost sooner: in an earlier cycle, in this one at a bridge of a lower number, or at this bridge before it
 pub record IsLostFirst (run : Run) (carried : Carried) (bridge : ℕ) (x : Policed) : Type 0 where
@@ -44,7 +44,7 @@ pub record IsLostFirst (run : Run) (carried : Carried) (bridge : ℕ) (x : Polic
   pub lower : (b : ℕ) (p : Policed) → b < bridge → Contains (policed_of run carried b cycle) p → ¬ IsLoss p.verdict
   pub here : IsFirstLoss (policed_of run carried bridge cycle) x
 
--- it loses this frame inside, and none before it
+-- the run loses this frame inside, and none before it
 pub record LosesInside (run : Run) (frame : ℕ) : Type 0 where
   pub net : Network
   pub legal : IsNetworkOf run net
@@ -61,7 +61,7 @@ pub record IsBookOfRun (run : Run) (book : Contents) : Type 0 where
   pub only : (other : Contents) → IsOneThreadBook run other → other ≡ book
   pub loses_nothing : LosesNothingInside run
 
--- why a run returns no book: each cause is the first that applies, and the frame is the first one that is lost. But memory may be refused
+-- why a run returns no book: each cause is the first that applies, and the frame is the first one that is lost. But an allocation may fail
 -- before a lost frame is reached
 abbrev pub IsRunFault : Run → ℕ → List CycleTable → RunFault → Type 0
 IsRunFault run cycles tables WrongTables = ¬ AreTablesNumbered cycles tables

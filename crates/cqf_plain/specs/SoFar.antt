@@ -8,7 +8,7 @@ use Rattle.cqf_model.specs.Book.{Contents, background_in, background_of, starts_
 use Rattle.cqf_model.specs.Domain.{Domain}
 use Rattle.cqf_model.specs.Network.{IsLost, Network}
 use Rattle.cqf_model.specs.Run.{AreBackground, AreOffers, Run}
-use Rattle.cqf_model.specs.Traffic.{Policed}
+use Rattle.cqf_model.specs.Policing.{Policed}
 use Rattle.cqf_laws_cycle.specs.BridgeCycle.{IsCompiledNetwork}
 use Rattle.cqf_admission.specs.Tables.{CycleTable}
 use Rattle.cqf_bridge.specs.BridgeState.{end_of_cycle}

@@ -32,8 +32,8 @@ fn note(
 fn note_starts(bridge: &Bridge, due: &mut BTreeMap<(Nanos, u16), u16>) -> Result<(), Memory>
     ensures { OnOk result ((ports : List PortRecord) → AreNextStarts due.old.entries ports → AreNextStarts due.new.entries (ports ++ bridge.now.ports)) }
 {
-    for place in 0..bridge.links() {
-        note(bridge.next_start(place), bridge.number(), due)?;
+    for index in 0..bridge.links() {
+        note(bridge.next_start(index), bridge.number(), due)?;
     }
     Ok(())
 }
@@ -46,8 +46,8 @@ pub(crate) fn next_starts(
     ensures { IfOk result (λ due. AreNextStarts due.entries (ports_of bridges.now)) }
 {
     let mut due = BTreeMap::new(alloc);
-    for place in 0..bridges.len() {
-        note_starts(&bridges[place].bridge, &mut due)?;
+    for index in 0..bridges.len() {
+        note_starts(&bridges[index].bridge, &mut due)?;
     }
     Ok(due)
 }

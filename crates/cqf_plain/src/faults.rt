@@ -32,7 +32,7 @@ impl fmt::Display for RunFault {
     }
 }
 
-/// A failed allocation as a fault.
+/// Converts a failed allocation into a fault.
 impl From<Memory> for RunFault {
     ghost use Rattle.cqf_plain.specs.declared.faults.RunFault.TheVariants as variant;
 

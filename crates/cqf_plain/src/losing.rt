@@ -5,7 +5,7 @@ ghost use Rattle.cqf_model.specs.Domain.{cycle_of};
 ghost use Rattle.cqf_model.specs.Network.{IsLoss, Network};
 ghost use Rattle.cqf_model.specs.Run.{Run};
 ghost use Rattle.cqf_model.specs.Table.{table_of};
-ghost use Rattle.cqf_model.specs.Traffic.{Policed, Received, police, police_all, sent_received};
+ghost use Rattle.cqf_model.specs.Policing.{Policed, Received, police, police_all, sent_received};
 ghost use Rattle.cqf_laws_cycle.specs.BridgeCycle.{policed_of};
 ghost use Rattle.cqf_laws_cycle.specs.Gathered.{IsInOrderOf};
 ghost use Rattle.cqf_bridge.specs.Batch.{LinkBatch};
@@ -33,8 +33,8 @@ fn gather_batch(domain: &Domain, batch: &Batch, frames: &mut Vec<Incoming>) -> R
     ensures { OnOk result (map received_as frames.new.items
         ≡ map received_as frames.old.items ++ map (sent_received domain.now batch.now.link) batch.now.frames) }
 {
-    for place in 0..batch.len() {
-        frames.push(Incoming::by_link(domain, batch.link(), batch.get(place)))?;
+    for index in 0..batch.len() {
+        frames.push(Incoming::by_link(domain, batch.link(), batch.get(index)))?;
     }
     Ok(())
 }
@@ -68,14 +68,14 @@ fn is_lost(
 ) -> Result<bool, Memory>
     requires { cycle_of domain.now frame.now.at.0 ≡ table.now.cycle }
     ensures counted { OnOk result ((tables : List (List ARow)) (policed : List Policed) → table_of tables table.now.cycle ≡ table.now.rows →
-        HaveCounted domain.now.cycle_time table.now.cycle policed gates.old →
-        HaveCounted domain.now.cycle_time table.now.cycle
+        HaveCounted domain.now table.now.cycle policed gates.old →
+        HaveCounted domain.now table.now.cycle
         (policed ++ police domain.now tables number policed (received_as frame.now) ∷ []) gates.new) }
     ensures yes { IfOk result (λ lost. (tables : List (List ARow)) (policed : List Policed) → table_of tables table.now.cycle ≡ table.now.rows →
-        HaveCounted domain.now.cycle_time table.now.cycle policed gates.old →
+        HaveCounted domain.now table.now.cycle policed gates.old →
         lost ≡ true → IsLoss (police domain.now tables number policed (received_as frame.now)).verdict) }
     ensures no { IfOk result (λ lost. (tables : List (List ARow)) (policed : List Policed) → table_of tables table.now.cycle ≡ table.now.rows →
-        HaveCounted domain.now.cycle_time table.now.cycle policed gates.old →
+        HaveCounted domain.now table.now.cycle policed gates.old →
         lost ≡ false → ¬ IsLoss (police domain.now tables number policed (received_as frame.now)).verdict) }
 {
     match police(domain, number, table.cycle(), table, frame, gates)? {

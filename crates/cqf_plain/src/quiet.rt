@@ -23,8 +23,8 @@ fn has_nothing(driven: &RunBridge, cycle: Cycle) -> bool
 pub(crate) fn nothing_comes(bridges: &[RunBridge], cycle: Cycle) -> bool
     ensures { result ≡ true → NothingComes cycle.0 bridges.now }
 {
-    for place in 0..bridges.len() {
-        if !has_nothing(&bridges[place], cycle) {
+    for index in 0..bridges.len() {
+        if !has_nothing(&bridges[index], cycle) {
             return false;
         }
     }
@@ -45,8 +45,8 @@ pub(crate) fn pass_all(bridges: &mut Vec<RunBridge>, cycle: Cycle) -> Result<(),
     requires { (s : ARunBridge) → Contains bridges.old.items s → MayPass s.bridge cycle.0 }
     ensures { OnOk result (bridges.new.items ≡ map (driven_past cycle.0) bridges.old.items) }
 {
-    for place in 0..bridges.len() {
-        pass_one(&mut bridges[place], cycle)?;
+    for index in 0..bridges.len() {
+        pass_one(&mut bridges[index], cycle)?;
     }
     Ok(())
 }

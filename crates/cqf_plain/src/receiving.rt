@@ -17,7 +17,8 @@ use cqf_model::Dropped;
 use cqf_units::Memory;
 use std::alloc::Global;
 
-/// Returns why a bridge didn't take what arrived at it in the cycle of a table, if memory wasn't the reason: a frame is lost.
+/// Returns the fault of a bridge that lost a frame among those that arrived at it in the cycle of a table: `Inside` with the first such
+/// frame, or `Memory` if an allocation fails while it is sought.
 fn why_lost(alloc: Global, driven: &RunBridge, table: &Table) -> RunFault
     requires early { table.now.cycle < most_cycles }
     requires part { (run : Run) × (net : Network) × (bridge : ℕ) × IsCycleOf run net table.now.cycle × IsTableOf run table.now
@@ -90,8 +91,8 @@ pub(crate) fn receive_all(
     ensures stops { IfErr result (λ fault. (run : Run) (net : Network) → IsCycleOf run net table.now.cycle → IsTableOf run table.now →
         AllStandHalfway run net table.now.cycle (all_of run net table.now.cycle) bridges.old.items → IsFaultInCycle run net table.now.cycle fault) }
 {
-    for place in 0..bridges.len() {
-        let dropped = match receive_one(alloc, &mut bridges[place], table) {
+    for index in 0..bridges.len() {
+        let dropped = match receive_one(alloc, &mut bridges[index], table) {
             Ok(dropped) => dropped,
             Err(fault) => return Err(fault),
         };

@@ -37,8 +37,8 @@ fn go_all(
     ensures stops { IfErr result (λ fault. (run : Run) (net : Network) → IsRunOver domain.now tables.now run net → IsAt run net 0 so_far.old →
         StopsRun run fault) }
 {
-    for place in 0..tables.len() {
-        match so_far.go_on(alloc, domain, &tables[place]) {
+    for index in 0..tables.len() {
+        match so_far.go_on(alloc, domain, &tables[index]) {
             Ok(()) => {}
             Err(fault) => return Err(fault),
         }
@@ -81,7 +81,8 @@ fn run_numbered(
 /// project's own).
 ///
 /// `cycles` is at most 100,000. There are at most 16,777,215 offers, each at a bridge of the domain, and 16,777,215 background frames, each
-/// on a link of it. With the tables of one history the book says the shift, and loads, instants and latencies are as promised.
+/// on a link of it. With the tables of one history the book has each covered frame on each link in the cycle that the shift says, and
+/// loads, instants and latencies are as promised.
 ///
 /// Returns `WrongTables` if there isn't exactly one table for each cycle, numbered from 0. Returns `Inside` with the first frame that the
 /// network loses inside, by cycle, then bridge, then the order in which the bridge takes frames; this never happens with the tables of one

@@ -50,8 +50,8 @@ pub(crate) fn send_all(
         HaveAllSentCycle run net cycle.0 bridges.new.items batches.items) }
 {
     let mut batches = Vec::new(alloc);
-    for place in 0..bridges.len() {
-        send_one(alloc, &mut bridges[place], cycle, &mut batches)?;
+    for index in 0..bridges.len() {
+        send_one(alloc, &mut bridges[index], cycle, &mut batches)?;
     }
     Ok(batches)
 }

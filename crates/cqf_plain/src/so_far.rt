@@ -45,7 +45,7 @@ impl Model for RunSoFar {
 }
 
 impl RunSoFar {
-    /// Returns a run over a plan that hasn't begun.
+    /// Returns a run of a plan's network, before its first cycle.
     pub(crate) fn new(
         alloc: Global,
         plan: &Plan,
@@ -69,7 +69,7 @@ impl RunSoFar {
         })
     }
 
-    /// Sends the cycle of a table at all bridges, and hands it along the links.
+    /// Sends the cycle of a table at all bridges, and hands what they sent along the links.
     fn send(&mut self, alloc: Global, domain: &Domain, table: &Table) -> Result<(), Memory>
         requires early { table.now.cycle < most_cycles }
         requires part { (run : Run) × (net : Network) × RunMayGoOn domain.now table.now self.old run net }
@@ -113,7 +113,7 @@ impl RunSoFar {
         Ok(())
     }
 
-    /// Runs the cycle of a table: the bridges send it, it goes along the links, and they receive it.
+    /// Runs the cycle of a table: the bridges send it, its batches go along the links, and the bridges receive it.
     fn work(&mut self, alloc: Global, domain: &Domain, table: &Table) -> Result<(), RunFault>
         requires early { table.now.cycle < most_cycles }
         requires part { (run : Run) × (net : Network) × RunMayGoOn domain.now table.now self.old run net }
@@ -155,7 +155,7 @@ impl RunSoFar {
         }
     }
 
-    /// Returns the book of what was run.
+    /// Returns the book of the cycles that were run.
     pub(crate) fn into_book(self) -> Book
         ensures { contents_of result ≡ self.book }
     {

@@ -12,8 +12,8 @@ pub(crate) fn are_numbered(tables: &[Table], cycles: u32) -> bool
     if tables.len() != cycles as usize {
         return false;
     }
-    for place in 0..tables.len() {
-        if tables[place].cycle().0 as usize != place {
+    for index in 0..tables.len() {
+        if tables[index].cycle().0 as usize != index {
             return false;
         }
     }

@@ -10,31 +10,31 @@ use Rattle.cqf_port.specs.Progress.{IsNewest, AreNewest, IsAfterArrival, IsKeptB
 use Rattle.cqf_port.specs.declared.progress.Progress.{Progress}
 use Rattle.cqf_port.proofs.Kept.{kept_offer_as}
 
-module _ (arrivals : List Arrival) (taken : AreTaken arrivals) (place : ℕ) (inside : place < length arrivals) where
+module _ (arrivals : List Arrival) (taken : AreTaken arrivals) (index : ℕ) (inside : index < length arrivals) where
   -- the last arrival of its class came no later than the next arrival
-  in_turn : (newest : List Nanos) → AreNewest (take place arrivals) newest → (get_or newest (class_of arrivals place) (record { 0 = 0 })).0
-      ≤ instant_of arrivals place
+  in_turn : (newest : List Nanos) → AreNewest (take index arrivals) newest → (get_or newest (class_of arrivals index) (record { 0 = 0 })).0
+      ≤ instant_of arrivals index
   in_turn newest by_class =
-      let t = (get_or newest (class_of arrivals place) (record { 0 = 0 })).0 in
-      let there : IsNewest (take place arrivals) (class_of arrivals place) t = by_class.each (class_of arrivals place) (taken.classes place inside) in
+      let t = (get_or newest (class_of arrivals index) (record { 0 = 0 })).0 in
+      let there : IsNewest (take index arrivals) (class_of arrivals index) t = by_class.each (class_of arrivals index) (taken.classes index inside) in
       elim (cases_lt 0 t) [
         | inl some ↦ (let last = there.of_last some in
-            let before : last.0 < place = omega (arith, last.1.inside, length-take-le place arrivals (omega (arith, inside))) in
-            let same : get_or (take place arrivals) last.0 no_arrival ≡ get_or arrivals last.0 no_arrival =
-            get_or-take place arrivals last.0 no_arrival before in
-            let class : class_of arrivals last.0 ≡ class_of arrivals place = sym (ap (λ (x : Arrival). x.class) same) ∙ last.1.of_class in
-            omega (arith, taken.by_class last.0 place before inside class, ap (λ (x : Arrival). x.at.0) same, last.2))
+            let before : last.0 < index = omega (arith, last.1.inside, length-take-le index arrivals (omega (arith, inside))) in
+            let same : get_or (take index arrivals) last.0 no_arrival ≡ get_or arrivals last.0 no_arrival =
+            get_or-take index arrivals last.0 no_arrival before in
+            let class : class_of arrivals last.0 ≡ class_of arrivals index = sym (ap (λ (x : Arrival). x.class) same) ∙ last.1.of_class in
+            omega (arith, taken.by_class last.0 index before inside class, ap (λ (x : Arrival). x.at.0) same, last.2))
         | inr none ↦ omega (arith, none)
       ]
 
   -- so the next arrival is taken
-  pub kept_next : (before after : Progress) (newest : List Nanos) (slot : ℕ) → IsKeptByAll (take place arrivals) before newest → slot
-      ≡ class_of arrivals place →
-      IsAfterArrival place (class_of arrivals place) before after → IsKeptByAll (take (place + 1) arrivals) after
-      (set newest slot (get_or arrivals place no_arrival).at)
+  pub kept_next : (before after : Progress) (newest : List Nanos) (slot : ℕ) → IsKeptByAll (take index arrivals) before newest → slot
+      ≡ class_of arrivals index →
+      IsAfterArrival index (class_of arrivals index) before after → IsKeptByAll (take (index + 1) arrivals) after
+      (set newest slot (get_or arrivals index no_arrival).at)
   kept_next before after newest slot kept same step rules some =
       let now = kept rules some in
-      kept_offer_as rules (take place arrivals) (take (place + 1) arrivals) 0 [] before after newest (get_or arrivals place no_arrival) place slot now
-      (taken.classes place inside) (taken.early place inside) (λ was. absurd (omega (arith, was.before_last))) (take_more arrivals place no_arrival inside)
-      (sym (length-take-le place arrivals (omega (arith, inside)))) same
-      (subst (λ (n : ℕ). (get_or newest n (record { 0 = 0 })).0 ≤ instant_of arrivals place) (sym same) (in_turn newest now.by_class)) step
+      kept_offer_as rules (take index arrivals) (take (index + 1) arrivals) 0 [] before after newest (get_or arrivals index no_arrival) index slot now
+      (taken.classes index inside) (taken.early index inside) (λ was. absurd (omega (arith, was.before_last))) (take_more arrivals index no_arrival inside)
+      (sym (length-take-le index arrivals (omega (arith, inside)))) same
+      (subst (λ (n : ℕ). (get_or newest n (record { 0 = 0 })).0 ≤ instant_of arrivals index) (sym same) (in_turn newest now.by_class)) step

@@ -105,41 +105,41 @@ module _ (rules : PortRules) (arrivals : List Arrival) (heads : List (Option ℕ
     (some : 0 < rules.octet_time) (inside : AreInside arrivals heads) (open_for : AreSpansAt rules.entries t (2 ^ 62) spans)
     (asked : AreAsked rules.octet_time arrivals heads t spans 8 classes need left) where
   -- a frame takes some time
-  takes_some : (place : ℕ) → 0 < time_of (octets_of arrivals place + 8) rules.octet_time
-  takes_some place = time_some (octets_of arrivals place + 8) rules.octet_time (omega arith) some
+  takes_some : (index : ℕ) → 0 < time_of (octets_of arrivals index + 8) rules.octet_time
+  takes_some index = time_some (octets_of arrivals index + 8) rules.octet_time (omega arith) some
 
   -- a head that fits is ready
   ready_from_fits : (class : ℕ) → class < 8 → (fits : HeadFits rules.octet_time arrivals (get_or heads class None) t (get_or spans class 0))
-      → IsReady rules arrivals heads t class fits.place
+      → IsReady rules arrivals heads t class fits.index
   ready_from_fits class low fits =
-      let takes : ℕ = time_of (octets_of arrivals fits.place + 8) rules.octet_time in
-      let small = asked.short class low low fits.place fits.is_head in
-      let through : IsOpenThrough rules.entries class t (t + takes) = ((open_for.each class low) takes (takes_some fits.place) (omega arith)).1 fits.fits in
+      let takes : ℕ = time_of (octets_of arrivals fits.index + 8) rules.octet_time in
+      let small = asked.short class low low fits.index fits.is_head in
+      let through : IsOpenThrough rules.entries class t (t + takes) = ((open_for.each class low) takes (takes_some fits.index) (omega arith)).1 fits.fits in
       record {
         is_head = fits.is_head;
         come = fits.come;
-        eligible = subst (λ k. IsOpenThrough rules.entries k t (t + takes)) (sym (inside.classes class fits.place low fits.is_head)) through;
+        eligible = subst (λ k. IsOpenThrough rules.entries k t (t + takes)) (sym (inside.classes class fits.index low fits.is_head)) through;
       }
 
   -- and the other way round
-  fits_from_ready : (class place : ℕ) → class < 8 → IsReady rules arrivals heads t class place →
+  fits_from_ready : (class index : ℕ) → class < 8 → IsReady rules arrivals heads t class index →
       HeadFits rules.octet_time arrivals (get_or heads class None) t (get_or spans class 0)
-  fits_from_ready class place low ready =
-      let takes : ℕ = time_of (octets_of arrivals place + 8) rules.octet_time in
-      let small = asked.short class low low place ready.is_head in
+  fits_from_ready class index low ready =
+      let takes : ℕ = time_of (octets_of arrivals index + 8) rules.octet_time in
+      let small = asked.short class low low index ready.is_head in
       let through : IsOpenThrough rules.entries class t (t + takes) =
-      subst (λ k. IsOpenThrough rules.entries k t (t + takes)) (inside.classes class place low ready.is_head) ready.eligible in
+      subst (λ k. IsOpenThrough rules.entries k t (t + takes)) (inside.classes class index low ready.is_head) ready.eligible in
       record {
-        place = place;
+        index = index;
         is_head = ready.is_head;
         come = ready.come;
-        fits = ((open_for.each class low) takes (takes_some place) (omega arith)).0 through;
+        fits = ((open_for.each class low) takes (takes_some index) (omega arith)).0 through;
       }
 
   -- if no class is eligible, no head is ready
   pub none_ready : (eligible : ℕ) → AreEligible classes need left eligible → eligible ≡ 0 → NoneReady rules arrivals heads t 0
-  none_ready eligible are none class place from low ready =
-      let bits = (asked.each class low low).1 (fits_from_ready class place low ready) in
+  none_ready eligible are none class index from low ready =
+      let bits = (asked.each class low low).1 (fits_from_ready class index low ready) in
       unset_from_zero eligible class (ap (λ m. bit_at m class) none ∙ bit_at-zero class) ((are class low).1 bits)
 
   -- otherwise the head of the highest eligible class is chosen
@@ -151,6 +151,6 @@ module _ (rules : PortRules) (arrivals : List Arrival) (heads : List (Option ℕ
         class = class;
         low = highest.low;
         ready = ready_from_fits class highest.low fits;
-        above = λ other place above low ready. highest.none_above other (omega arith)
-            ((are other low).1 ((asked.each other low low).1 (fits_from_ready other place low ready)));
+        above = λ other index above low ready. highest.none_above other (omega arith)
+            ((are other low).1 ((asked.each other low low).1 (fits_from_ready other index low ready)));
       })

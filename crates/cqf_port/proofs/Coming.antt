@@ -19,10 +19,10 @@ use Rattle.cqf_port.proofs.Steps.{abreast_skip}
 
 -- one more head has come by the later of two instants
 pub come_more : (arrivals : List Arrival) (heads : List (Option ℕ)) (seen latest after : ℕ) → HaveCome arrivals heads seen latest →
-    latest ≤ after → ((place : ℕ) → get_or heads seen None ≡ Some place → instant_of arrivals place ≤ after) → HaveCome arrivals heads (seen + 1) after
-come_more arrivals heads seen latest after so_far later here class place below is_head = elim (cases_lt class seen) [
-  | inl before ↦ omega (arith, so_far class place before is_head)
-  | inr last ↦ (let same : seen ≡ class = omega arith in here place (subst (λ k. get_or heads k None ≡ Some place) (sym same) is_head))
+    latest ≤ after → ((index : ℕ) → get_or heads seen None ≡ Some index → instant_of arrivals index ≤ after) → HaveCome arrivals heads (seen + 1) after
+come_more arrivals heads seen latest after so_far later here class index below is_head = elim (cases_lt class seen) [
+  | inl before ↦ omega (arith, so_far class index before is_head)
+  | inr last ↦ (let same : seen ≡ class = omega arith in here index (subst (λ k. get_or heads k None ≡ Some index) (sym same) is_head))
 ]
 
 -- rounds repeat
@@ -42,19 +42,19 @@ same_in_round states some_entry entries positive t rounds =
 pub never_ready : StatesAreOfTheEntry → SomeEntryIsInForce → (rules : PortRules) (arrivals : List Arrival) (heads : List (Option ℕ)) (from latest : ℕ)
     → 0 < round_of rules.entries → from ≤ latest → HaveCome arrivals heads 8 latest →
     ((s : ℕ) → from ≤ s → s < latest + round_of rules.entries → NoneReady rules arrivals heads s 0) → NeverReady rules arrivals heads from
-never_ready states some_entry rules arrivals heads from latest positive in_order come none s behind = elim (cases_lt s (latest + round_of rules.entries)) [
-  | inl soon ↦ none s behind soon
-  | inr late ↦ λ class place lowest low ready.
+never_ready states some_entry rules arrivals heads from latest positive in_order come none s following = elim (cases_lt s (latest + round_of rules.entries)) [
+  | inl soon ↦ none s following soon
+  | inr late ↦ λ class index lowest low ready.
       let round : ℕ = round_of rules.entries in
       let rounds : ℕ = (s - latest) / round in
       let before : ℕ = latest + (s - latest) % round in
       let whole = mod-add-div' (s - latest) round in
       let at : before + rounds * round ≡ s = omega (arith, whole) in
       let short : (s - latest) % round < round = omega (arith, positive) in
-      none before (omega arith) (omega arith) class place lowest low (record {
+      none before (omega arith) (omega arith) class index lowest low (record {
         is_head = ready.is_head;
-        come = omega (arith, come class place low ready.is_head);
-        eligible = λ u after until. subst (λ x. IsBitSet x (class_of arrivals place)) (same_in_round states some_entry rules.entries positive u rounds)
+        come = omega (arith, come class index low ready.is_head);
+        eligible = λ u after until. subst (λ x. IsBitSet x (class_of arrivals index)) (same_in_round states some_entry rules.entries positive u rounds)
             (ready.eligible (u + rounds * round) (omega (arith, at)) (omega (arith, at)));
       })
 ]
@@ -78,9 +78,9 @@ module _ (rules : PortRules) (arrivals : List Arrival) (reached from : ℕ) (sta
       let here : IsAbreast rules arrivals t.0 starts progress = abreast_until t.0 (omega (arith, next.later)) next.none_before in
       record {
         from_now = omega (arith, next.later);
-        place = next.place;
-        legal = legal_start rules arrivals t.0 starts next.place here.legal (here.idle_again t.0 (omega arith) (omega (arith, next.later)))
-            (chosen_is_due rules arrivals t.0 starts progress next.place taken here next.chosen);
+        index = next.index;
+        legal = legal_start rules arrivals t.0 starts next.index here.legal (here.idle_again t.0 (omega arith) (omega (arith, next.later)))
+            (chosen_is_due rules arrivals t.0 starts progress next.index taken here next.chosen);
       }
 
 -- a class that was closed for a round is closed for longer

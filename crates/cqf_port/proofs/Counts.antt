@@ -19,25 +19,25 @@ use Rattle.cqf_port.proofs.Heads.{cases_order, head_at}
 use Rattle.cqf_port.proofs.More.{range_to_end}
 
 -- an arrival with a start has started
-pub started_is : (starts : List Transmission) (place : ℕ) → HasStarted starts place → has_started starts place ≡ true
-started_is starts place started = list_any_at (λ (x : Transmission). x.0 == place) starts started.1.0 (place, started.0) started.1.1
-    (ap (λ (x : Transmission). x.0 == place) started.1.2 ∙ eq-eqb place place refl)
+pub started_is : (starts : List Transmission) (index : ℕ) → HasStarted starts index → has_started starts index ≡ true
+started_is starts index started = list_any_at (λ (x : Transmission). x.0 == index) starts started.1.0 (index, started.0) started.1.1
+    (ap (λ (x : Transmission). x.0 == index) started.1.2 ∙ eq-eqb index index refl)
 
 -- an arrival without a start hasn't
-pub not_started_is : (starts : List Transmission) (place : ℕ) → ((s : ℕ) → ¬ Contains starts (place, s)) → has_started starts place ≡ false
-not_started_is starts place none = list_any_none (λ (x : Transmission). x.0 == place) starts
-    (λ k d inside. ne_eqb (get_or starts k d).0 place (λ same.
+pub not_started_is : (starts : List Transmission) (index : ℕ) → ((s : ℕ) → ¬ Contains starts (index, s)) → has_started starts index ≡ false
+not_started_is starts index none = list_any_none (λ (x : Transmission). x.0 == index) starts
+    (λ k d inside. ne_eqb (get_or starts k d).0 index (λ same.
     none (get_or starts k d).1 (subst (λ (n : ℕ). Contains starts (n, (get_or starts k d).1)) same (Contains-get_or starts k d inside))))
 
 -- no arrival of a class after its head has started
-pub behind_head : (rules : PortRules) (arrivals : List Arrival) (t : ℕ) (starts : List Transmission) (class place other s : ℕ) →
-    AreTaken arrivals → AreLegal rules arrivals t starts → IsHead arrivals starts class place → place ≤ other → class_of arrivals other
+pub after_head : (rules : PortRules) (arrivals : List Arrival) (t : ℕ) (starts : List Transmission) (class index other s : ℕ) →
+    AreTaken arrivals → AreLegal rules arrivals t starts → IsHead arrivals starts class index → index ≤ other → class_of arrivals other
     ≡ class → ¬ Contains starts (other, s)
-behind_head rules arrivals t starts class place other s taken legal head behind same started = elim (cases_order place other) [
+after_head rules arrivals t starts class index other s taken legal head following same started = elim (cases_order index other) [
   | inl lower ↦ (let first : IsFirst arrivals starts other s = legal.first other s started in
-      let one_class : class_of arrivals place ≡ class_of arrivals other = head.of_class ∙ sym same in
-      let in_order : instant_of arrivals place ≤ instant_of arrivals other = taken.by_class place other lower first.waits.inside one_class in
-      first.none_before place lower one_class (record {
+      let one_class : class_of arrivals index ≡ class_of arrivals other = head.of_class ∙ sym same in
+      let in_order : instant_of arrivals index ≤ instant_of arrivals other = taken.by_class index other lower first.waits.inside one_class in
+      first.none_before index lower one_class (record {
         inside = head.inside;
         come = omega (arith, in_order, first.waits.come);
         not_started = λ u began. absurd (head.not_started u began);
@@ -87,26 +87,26 @@ module _ (starts : List Transmission) (class : ℕ) where
   ]
 
   -- if none of the class has started, all of the class wait
-  each_waits : (n : ℕ) (xs : List Arrival) → ((place i : ℕ) → place ≡ n + i → i < length xs → (get_or xs i no_arrival).class ≡ class →
-      has_started starts place ≡ false) → count_by still_waits (enumerate_from n xs) ≡ count_by is_of_class xs
-  each_waits n [] behind = refl
-  each_waits n (x ∷ xs) behind =
+  each_waits : (n : ℕ) (xs : List Arrival) → ((index i : ℕ) → index ≡ n + i → i < length xs → (get_or xs i no_arrival).class ≡ class →
+      has_started starts index ≡ false) → count_by still_waits (enumerate_from n xs) ≡ count_by is_of_class xs
+  each_waits n [] following = refl
+  each_waits n (x ∷ xs) following =
       let rest : count_by still_waits (enumerate_from (n + 1) xs) ≡ count_by is_of_class xs =
-      each_waits (n + 1) xs (λ place i is inside same. behind place (suc i) (omega arith) (omega arith) same) in
+      each_waits (n + 1) xs (λ index i is inside same. following index (suc i) (omega arith) (omega arith) same) in
       count_cons still_waits (n, x) (enumerate_from (n + 1) xs) (is_of_class x) (count_by is_of_class xs)
-      (fresh n x (λ same. behind n 0 (omega arith) (omega arith) same)) rest
+      (fresh n x (λ same. following n 0 (omega arith) (omega arith) same)) rest
       ∙ sym (count_cons is_of_class x xs (is_of_class x) (count_by is_of_class xs) refl refl)
 
   -- the frames that wait are those of the class from its head on
-  pub count_from : (n head : ℕ) (xs : List Arrival) → ((place i : ℕ) → place ≡ n + i → i < length xs → i < head → (get_or xs i no_arrival).class
-      ≡ class → has_started starts place ≡ true) → ((place i : ℕ) → place ≡ n + i → i < length xs → head ≤ i → (get_or xs i no_arrival).class
-      ≡ class → has_started starts place ≡ false) → count_by still_waits (enumerate_from n xs) ≡ count_by is_of_class (drop head xs)
-  count_from n zero xs before behind = each_waits n xs (λ place i is inside same. behind place i is inside (omega arith) same)
-  count_from n (suc head) [] before behind = refl
-  count_from n (suc head) (x ∷ xs) before behind =
+  pub count_from : (n head : ℕ) (xs : List Arrival) → ((index i : ℕ) → index ≡ n + i → i < length xs → i < head → (get_or xs i no_arrival).class
+      ≡ class → has_started starts index ≡ true) → ((index i : ℕ) → index ≡ n + i → i < length xs → head ≤ i → (get_or xs i no_arrival).class
+      ≡ class → has_started starts index ≡ false) → count_by still_waits (enumerate_from n xs) ≡ count_by is_of_class (drop head xs)
+  count_from n zero xs before following = each_waits n xs (λ index i is inside same. following index i is inside (omega arith) same)
+  count_from n (suc head) [] before following = refl
+  count_from n (suc head) (x ∷ xs) before following =
       let rest : count_by still_waits (enumerate_from (n + 1) xs) ≡ count_by is_of_class (drop head xs) =
-      count_from (n + 1) head xs (λ place i is inside lower same. before place (suc i) (omega arith) (omega arith) (omega arith) same)
-      (λ place i is inside upper same. behind place (suc i) (omega arith) (omega arith) (omega arith) same) in
+      count_from (n + 1) head xs (λ index i is inside lower same. before index (suc i) (omega arith) (omega arith) (omega arith) same)
+      (λ index i is inside upper same. following index (suc i) (omega arith) (omega arith) (omega arith) same) in
       count_cons still_waits (n, x) (enumerate_from (n + 1) xs) false (count_by is_of_class (drop head xs))
       (gone n x (λ same. before n 0 (omega arith) (omega arith) (omega arith) same)) rest
       ∙ omega arith
@@ -116,10 +116,10 @@ pub waiting_from_head : (rules : PortRules) (arrivals : List Arrival) (t : ℕ) 
     → AreLegal rules arrivals t starts → IsHead arrivals starts class head → waiting_of arrivals starts class
     ≡ count_by (λ (x : Arrival). x.class == class) (drop head arrivals)
 waiting_from_head rules arrivals t starts class head taken legal is_head = count_from starts class 0 head arrivals
-    (λ place i is inside lower same. let here : place ≡ i = omega arith in
-    started_is starts place (is_head.started_before place (omega arith) (subst (λ (n : ℕ). class_of arrivals n ≡ class) (sym here) same)))
-    (λ place i is inside upper same. let here : place ≡ i = omega arith in
-    not_started_is starts place (λ s. behind_head rules arrivals t starts class head place s taken legal is_head (omega arith)
+    (λ index i is inside lower same. let here : index ≡ i = omega arith in
+    started_is starts index (is_head.started_before index (omega arith) (subst (λ (n : ℕ). class_of arrivals n ≡ class) (sym here) same)))
+    (λ index i is inside upper same. let here : index ≡ i = omega arith in
+    not_started_is starts index (λ s. after_head rules arrivals t starts class head index s taken legal is_head (omega arith)
     (subst (λ (n : ℕ). class_of arrivals n ≡ class) (sym here) same)))
 
 -- none waits if the class has no head
@@ -127,9 +127,9 @@ pub none_waiting : (arrivals : List Arrival) (starts : List Transmission) (class
     waiting_of arrivals starts class ≡ 0
 none_waiting arrivals starts class all =
     count_from starts class 0 (length arrivals) arrivals
-    (λ place i is inside lower same. let here : place ≡ i = omega arith in
-    started_is starts place (all place (omega arith) (subst (λ (n : ℕ). class_of arrivals n ≡ class) (sym here) same)))
-    (λ place i is inside upper same. absurd (omega arith))
+    (λ index i is inside lower same. let here : index ≡ i = omega arith in
+    started_is starts index (all index (omega arith) (subst (λ (n : ℕ). class_of arrivals n ≡ class) (sym here) same)))
+    (λ index i is inside upper same. absurd (omega arith))
     ∙ ap (λ (rest : List Arrival). count_by (λ (x : Arrival). x.class == class) rest) (drop_all (length arrivals) arrivals (omega arith))
 
 -- what a port returns if the class has a head

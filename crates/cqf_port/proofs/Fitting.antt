@@ -14,24 +14,24 @@ use Rattle.cqf_port.proofs.Coming.{same_in_round}
 use Rattle.cqf_port.proofs.Staying.{span_within}
 
 -- after an entry the next one is in force, in the same round
-pub force_next : (entries : List Entry) (t place offset : ℕ) → IsTxList entries → InForce entries t place offset → place + 1 < length entries
-    → InForce entries (t + ((get_or entries place (0, 0)).1 - offset)) (place + 1) 0
-force_next entries t place offset list force more =
-    let sum = sum_by_more (λ (entry : Entry). entry.1) entries place (0, 0) force.inside in
+pub force_next : (entries : List Entry) (t index offset : ℕ) → IsTxList entries → InForce entries t index offset → index + 1 < length entries
+    → InForce entries (t + ((get_or entries index (0, 0)).1 - offset)) (index + 1) 0
+force_next entries t index offset list force more =
+    let sum = sum_by_more (λ (entry : Entry). entry.1) entries index (0, 0) force.inside in
     record {
       inside = more;
       round = force.round;
       spans = omega (arith, force.spans, force.within, sum);
-      within = All-get_or (λ (entry : Entry). 0 < entry.1) entries (place + 1) (0, 0) more list.lasting;
+      within = All-get_or (λ (entry : Entry). 0 < entry.1) entries (index + 1) (0, 0) more list.lasting;
     }
 
 -- after the last entry the first is in force, in the next round
-pub force_again : (entries : List Entry) (t place offset : ℕ) → IsTxList entries → InForce entries t place offset → place + 1 ≡ length entries
-    → InForce entries (t + ((get_or entries place (0, 0)).1 - offset)) 0 0
-force_again entries t place offset list force last =
-    let sum = sum_by_more (λ (entry : Entry). entry.1) entries place (0, 0) force.inside in
-    let whole : round_of (take (place + 1) entries) ≡ round_of entries =
-    ap (λ (xs : List Entry). round_of xs) (take_all (place + 1) entries (omega (arith, last))) in
+pub force_again : (entries : List Entry) (t index offset : ℕ) → IsTxList entries → InForce entries t index offset → index + 1 ≡ length entries
+    → InForce entries (t + ((get_or entries index (0, 0)).1 - offset)) 0 0
+force_again entries t index offset list force last =
+    let sum = sum_by_more (λ (entry : Entry). entry.1) entries index (0, 0) force.inside in
+    let whole : round_of (take (index + 1) entries) ≡ round_of entries =
+    ap (λ (xs : List Entry). round_of xs) (take_all (index + 1) entries (omega (arith, last))) in
     let once : (force.round + 1) * round_of entries ≡ force.round * round_of entries + round_of entries = grind arith in
     record {
       inside = list.some;
@@ -58,19 +58,19 @@ nowhere_steady entries t begins class need some steady waits s from to through =
     ])
 
 -- what takes longer than a class stays open from the beginning of an entry on fits nowhere within the entry
-pub nowhere_within : StatesAreOfTheEntry → RoundTakesTime → SomeEntryIsInForce → (entries : List Entry) (spans : List (List ℕ)) (t place class need : ℕ)
-    → AreSpans entries spans → InForce entries t place 0 → class < 8 → 0 < need → need < 2 ^ 62 → (get_or entries place (0, 0)).1 < 2 ^ 32 →
-    get_or (get_or spans place []) class 0 < need → FitsNowhere entries class need t (t + (get_or entries place (0, 0)).1)
-nowhere_within states round_takes some_entry entries spans t place class need known force low some short brief over s from to through =
-    let here : InForce entries s place (s - t) = record {
+pub nowhere_within : StatesAreOfTheEntry → RoundTakesTime → SomeEntryIsInForce → (entries : List Entry) (spans : List (List ℕ)) (t index class need : ℕ)
+    → AreSpans entries spans → InForce entries t index 0 → class < 8 → 0 < need → need < 2 ^ 62 → (get_or entries index (0, 0)).1 < 2 ^ 32 →
+    get_or (get_or spans index []) class 0 < need → FitsNowhere entries class need t (t + (get_or entries index (0, 0)).1)
+nowhere_within states round_takes some_entry entries spans t index class need known force low some short brief over s from to through =
+    let here : InForce entries s index (s - t) = record {
       inside = force.inside;
       round = force.round;
       spans = omega (arith, force.spans);
       within = omega arith;
     } in
-    let span : ℕ = get_or (get_or spans place []) class 0 in
-    let left = span_within states round_takes some_entry entries s place (s - t) here class span (2 ^ 63) (2 ^ 62) (omega arith)
-    ((known.rows place force.inside).each class low) need some short in
+    let span : ℕ = get_or (get_or spans index []) class 0 in
+    let left = span_within states round_takes some_entry entries s index (s - t) here class span (2 ^ 63) (2 ^ 62) (omega arith)
+    ((known.rows index force.inside).each class low) need some short in
     absurd (omega (arith, left.0 through, over))
 
 -- what fits nowhere in a whole round never fits
@@ -88,18 +88,18 @@ nowhere_ever states some_entry entries class need first last later positive whol
     (through (u + rounds * round) (omega (arith, at)) (omega (arith, at))))
 
 -- what doesn't fit now, nor from the next entry up to an instant, fits nowhere up to that instant
-pub nowhere_behind : (entries shown : List Entry) (t place begins again class need fit : ℕ) → entries ≡ shown → IsAhead shown t place begins again
+pub nowhere_after : (entries shown : List Entry) (t index begins again class need fit : ℕ) → entries ≡ shown → IsAhead shown t index begins again
     → 0 < need → ¬ IsOpenThrough shown class t (t + need) → FitsNowhere entries class need begins fit → FitsNowhere shown class need t fit
-nowhere_behind entries shown t place begins again class need fit same ahead some waits after =
+nowhere_after entries shown t index begins again class need fit same ahead some waits after =
     nowhere_on shown class need t begins fit (nowhere_steady shown t begins class need some ahead.steady waits)
     (subst (λ (xs : List Entry). FitsNowhere xs class need begins fit) same after)
 
 -- what takes no longer than a class stays open from the beginning of an entry on fits there
-pub fits_at : StatesAreOfTheEntry → RoundTakesTime → SomeEntryIsInForce → (entries : List Entry) (spans : List (List ℕ)) (t place class need : ℕ)
-    → AreSpans entries spans → InForce entries t place 0 → class < 8 → 0 < need → need < 2 ^ 62 → need ≤ get_or (get_or spans place []) class 0
+pub fits_at : StatesAreOfTheEntry → RoundTakesTime → SomeEntryIsInForce → (entries : List Entry) (spans : List (List ℕ)) (t index class need : ℕ)
+    → AreSpans entries spans → InForce entries t index 0 → class < 8 → 0 < need → need < 2 ^ 62 → need ≤ get_or (get_or spans index []) class 0
     → IsOpenThrough entries class t (t + need)
-fits_at states round_takes some_entry entries spans t place class need known force low some short within =
-    let span : ℕ = get_or (get_or spans place []) class 0 in
-    let left = span_within states round_takes some_entry entries t place 0 force class span (2 ^ 63) (2 ^ 62) (omega arith)
-    ((known.rows place force.inside).each class low) need some short in
+fits_at states round_takes some_entry entries spans t index class need known force low some short within =
+    let span : ℕ = get_or (get_or spans index []) class 0 in
+    let left = span_within states round_takes some_entry entries t index 0 force class span (2 ^ 63) (2 ^ 62) (omega arith)
+    ((known.rows index force.inside).each class low) need some short in
     left.1 (omega (arith, within))

@@ -40,40 +40,40 @@ module _ (arrivals : List Arrival) (arrival : Arrival) where
   longer = length-append arrivals (arrival ∷ [])
 
   -- a property of each earlier arrival and of the last is one of each
-  each_arrival : (P : Arrival → Type 0) → ((place : ℕ) → place < length arrivals → P (get_or arrivals place no_arrival)) → P arrival →
-      (place : ℕ) → place < length (arrivals ++ arrival ∷ []) → P (get_or (arrivals ++ arrival ∷ []) place no_arrival)
-  each_arrival P before last place inside = elim (cases_lt place (length arrivals)) [
-    | inl in_list ↦ arrival_after arrivals arrival P place in_list (before place in_list)
-    | inr past ↦ (let here : length arrivals ≡ place = omega (arith, longer) in
+  each_arrival : (P : Arrival → Type 0) → ((index : ℕ) → index < length arrivals → P (get_or arrivals index no_arrival)) → P arrival →
+      (index : ℕ) → index < length (arrivals ++ arrival ∷ []) → P (get_or (arrivals ++ arrival ∷ []) index no_arrival)
+  each_arrival P before last index inside = elim (cases_lt index (length arrivals)) [
+    | inl in_list ↦ arrival_after arrivals arrival P index in_list (before index in_list)
+    | inr past ↦ (let here : length arrivals ≡ index = omega (arith, longer) in
         subst (λ (n : ℕ). P (get_or (arrivals ++ arrival ∷ []) n no_arrival)) here (subst P (sym (last_arrival arrivals arrival)) last))
   ]
 
   -- an arrival at or after the last one of its class is taken
   pub taken_more : AreTaken arrivals → arrival.class < 8 → arrival.at.0 < 2 ^ 62 →
-      ((place : ℕ) → place < length arrivals → class_of arrivals place ≡ arrival.class → instant_of arrivals place ≤ arrival.at.0) →
+      ((index : ℕ) → index < length arrivals → class_of arrivals index ≡ arrival.class → instant_of arrivals index ≤ arrival.at.0) →
       AreTaken (arrivals ++ arrival ∷ [])
   taken_more taken low early in_order = record {
     classes = each_arrival (λ x. x.class < 8) taken.classes low;
     early = each_arrival (λ x. x.at.0 < 2 ^ 62) taken.early early;
-    by_class = λ place later lower inside same.
-        let in_list : place < length arrivals = omega (arith, longer) in
-        let old : get_or (arrivals ++ arrival ∷ []) place no_arrival ≡ get_or arrivals place no_arrival = same_arrival arrivals arrival place in_list in
-        let behind : class_of arrivals place ≡ class_of (arrivals ++ arrival ∷ []) later →
-        instant_of arrivals place ≤ instant_of (arrivals ++ arrival ∷ []) later = elim (cases_lt later (length arrivals)) [
-          | inl also ↦ arrival_after arrivals arrival (λ x. class_of arrivals place ≡ x.class → instant_of arrivals place ≤ x.at.0) later
-              also (taken.by_class place later lower also)
+    by_class = λ index later lower inside same.
+        let in_list : index < length arrivals = omega (arith, longer) in
+        let old : get_or (arrivals ++ arrival ∷ []) index no_arrival ≡ get_or arrivals index no_arrival = same_arrival arrivals arrival index in_list in
+        let following : class_of arrivals index ≡ class_of (arrivals ++ arrival ∷ []) later →
+        instant_of arrivals index ≤ instant_of (arrivals ++ arrival ∷ []) later = elim (cases_lt later (length arrivals)) [
+          | inl also ↦ arrival_after arrivals arrival (λ x. class_of arrivals index ≡ x.class → instant_of arrivals index ≤ x.at.0) later
+              also (taken.by_class index later lower also)
           | inr past ↦ (let here : length arrivals ≡ later = omega (arith, longer) in
-              subst (λ (n : ℕ). class_of arrivals place ≡ class_of (arrivals ++ arrival ∷ []) n →
-              instant_of arrivals place ≤ instant_of (arrivals ++ arrival ∷ []) n) here
-              (subst (λ (x : Arrival). class_of arrivals place ≡ x.class → instant_of arrivals place ≤ x.at.0) (sym (last_arrival arrivals arrival))
-              (in_order place in_list)))
+              subst (λ (n : ℕ). class_of arrivals index ≡ class_of (arrivals ++ arrival ∷ []) n →
+              instant_of arrivals index ≤ instant_of (arrivals ++ arrival ∷ []) n) here
+              (subst (λ (x : Arrival). class_of arrivals index ≡ x.class → instant_of arrivals index ≤ x.at.0) (sym (last_arrival arrivals arrival))
+              (in_order index in_list)))
         ] in
         subst (λ (x : Arrival). x.at.0 ≤ instant_of (arrivals ++ arrival ∷ []) later) (sym old)
-        (behind (subst (λ (x : Arrival). x.class ≡ class_of (arrivals ++ arrival ∷ []) later) old same));
+        (following (subst (λ (x : Arrival). x.class ≡ class_of (arrivals ++ arrival ∷ []) later) old same));
   }
 
   -- it is the last of its class
-  newest_own : ((place : ℕ) → place < length arrivals → class_of arrivals place ≡ arrival.class → instant_of arrivals place ≤ arrival.at.0)
+  newest_own : ((index : ℕ) → index < length arrivals → class_of arrivals index ≡ arrival.class → instant_of arrivals index ≤ arrival.at.0)
       → IsNewest (arrivals ++ arrival ∷ []) arrival.class arrival.at.0
   newest_own in_order = record {
     latest = each_arrival (λ x. x.class ≡ arrival.class → x.at.0 ≤ arrival.at.0) in_order (λ same. omega arith);
@@ -82,18 +82,18 @@ module _ (arrivals : List Arrival) (arrival : Arrival) where
       record {
         inside = omega (arith, longer);
         of_class = ap (λ (x : Arrival). x.class) (last_arrival arrivals arrival);
-        none_behind = λ other past inside. absurd (omega (arith, longer));
+        none_after = λ other past inside. absurd (omega (arith, longer));
       },
       ap (λ (x : Arrival). x.at.0) (last_arrival arrivals arrival),
     );
   }
 
   -- the last of another class stays the last
-  each_arrival_behind : (class place : ℕ) → class ≢ arrival.class → IsLast arrivals class place → (other : ℕ) → place < other →
+  each_arrival_after : (class index : ℕ) → class ≢ arrival.class → IsLast arrivals class index → (other : ℕ) → index < other →
       other < length (arrivals ++ arrival ∷ []) → class_of (arrivals ++ arrival ∷ []) other ≢ class
-  each_arrival_behind class place differs last other past inside = elim (cases_lt other (length arrivals)) [
-    | inl in_list ↦ arrival_after arrivals arrival (λ x. x.class ≢ class) other in_list (last.none_behind other past in_list)
-    | inr behind ↦ (let here : length arrivals ≡ other = omega (arith, longer) in
+  each_arrival_after class index differs last other past inside = elim (cases_lt other (length arrivals)) [
+    | inl in_list ↦ arrival_after arrivals arrival (λ x. x.class ≢ class) other in_list (last.none_after other past in_list)
+    | inr following ↦ (let here : length arrivals ≡ other = omega (arith, longer) in
         subst (λ (n : ℕ). class_of (arrivals ++ arrival ∷ []) n ≢ class) here
         (subst (λ (x : Arrival). x.class ≢ class) (sym (last_arrival arrivals arrival)) (λ same. differs (sym same))))
   ]
@@ -107,7 +107,7 @@ module _ (arrivals : List Arrival) (arrival : Arrival) where
       record {
         inside = omega (arith, last.1.inside, longer);
         of_class = ap (λ (x : Arrival). x.class) (same_arrival arrivals arrival last.0 last.1.inside) ∙ last.1.of_class;
-        none_behind = λ other past inside. each_arrival_behind class last.0 differs last.1 other past inside;
+        none_after = λ other past inside. each_arrival_after class last.0 differs last.1 other past inside;
       },
       ap (λ (x : Arrival). x.at.0) (same_arrival arrivals arrival last.0 last.1.inside) ∙ last.2,
     );
@@ -115,7 +115,7 @@ module _ (arrivals : List Arrival) (arrival : Arrival) where
 
   -- so the instants of the last arrivals are correct again
   pub newest_more : (newest : List Nanos) → AreNewest arrivals newest → arrival.class < 8 →
-      ((place : ℕ) → place < length arrivals → class_of arrivals place ≡ arrival.class → instant_of arrivals place ≤ arrival.at.0) →
+      ((index : ℕ) → index < length arrivals → class_of arrivals index ≡ arrival.class → instant_of arrivals index ≤ arrival.at.0) →
       AreNewest (arrivals ++ arrival ∷ []) (set newest arrival.class arrival.at)
   newest_more newest before low in_order =
       let zero_at : Nanos = record { 0 = 0 } in
@@ -140,7 +140,7 @@ newest_before p newest arrival by_class low in_order =
     let t = (get_or newest arrival.class (record { 0 = 0 })).0 in
     elim (cases_lt arrival.at.0 t) [
       | inl earlier ↦ (let last = (by_class.each arrival.class low).of_last (omega (arith, earlier)) in
-          absurd (in_order (record { place = last.0; last = last.1; earlier = omega (arith, earlier, last.2) })))
+          absurd (in_order (record { index = last.0; last = last.1; earlier = omega (arith, earlier, last.2) })))
       | inr later ↦ later
     ]
 
@@ -151,8 +151,8 @@ pub kept_offer : (rules : PortRules) (arrivals : List Arrival) (reached : ℕ) (
     IsAfterArrival (length arrivals) arrival.class before after → IsKept rules (arrivals ++ arrival ∷ []) reached starts after
     (set newest arrival.class arrival.at)
 kept_offer rules arrivals reached starts before after newest arrival kept low early not_late in_order step =
-    let latest : (place : ℕ) → place < length arrivals → class_of arrivals place ≡ arrival.class → instant_of arrivals place ≤ arrival.at.0 =
-    λ place inside same. omega (arith, (kept.by_class.each arrival.class low).latest place inside same, in_order) in
+    let latest : (index : ℕ) → index < length arrivals → class_of arrivals index ≡ arrival.class → instant_of arrivals index ≤ arrival.at.0 =
+    λ index inside same. omega (arith, (kept.by_class.each arrival.class low).latest index inside same, in_order) in
     record {
       abreast = abreast_arrival rules arrivals reached starts arrival before after kept.octets_take_time kept.abreast
           (λ s come soon is_open. not_late (record { instant = s; from_first = come; before_last = soon; is_open = is_open })) step low;
@@ -194,11 +194,11 @@ advances p until starts handed given given_after more rest appended =
 
 -- the same for the list, the index and the class in other forms
 pub kept_offer_as : (rules : PortRules) (arrivals items : List Arrival) (reached : ℕ) (starts : List Transmission) (before after : Progress)
-    (newest : List Nanos) (arrival : Arrival) (place slot : ℕ) → IsKept rules arrivals reached starts before newest → arrival.class < 8 →
-    arrival.at.0 < 2 ^ 62 → ¬ WasOpen rules.entries arrival.class arrival.at.0 reached → items ≡ arrivals ++ arrival ∷ [] → place
+    (newest : List Nanos) (arrival : Arrival) (index slot : ℕ) → IsKept rules arrivals reached starts before newest → arrival.class < 8 →
+    arrival.at.0 < 2 ^ 62 → ¬ WasOpen rules.entries arrival.class arrival.at.0 reached → items ≡ arrivals ++ arrival ∷ [] → index
     ≡ length arrivals → slot ≡ arrival.class → (get_or newest slot (record { 0 = 0 })).0 ≤ arrival.at.0 →
-    IsAfterArrival place arrival.class before after → IsKept rules items reached starts after (set newest slot arrival.at)
-kept_offer_as rules arrivals items reached starts before after newest arrival place slot kept low early not_late appended here same in_order step =
+    IsAfterArrival index arrival.class before after → IsKept rules items reached starts after (set newest slot arrival.at)
+kept_offer_as rules arrivals items reached starts before after newest arrival index slot kept low early not_late appended here same in_order step =
     let in_class : (get_or newest arrival.class (record { 0 = 0 })).0 ≤ arrival.at.0 =
     subst (λ (n : ℕ). (get_or newest n (record { 0 = 0 })).0 ≤ arrival.at.0) same in_order in
     let at_end : IsAfterArrival (length arrivals) arrival.class before after = subst (λ (n : ℕ). IsAfterArrival n arrival.class before after) here step in

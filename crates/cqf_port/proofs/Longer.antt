@@ -10,20 +10,20 @@ pub longer : (arrivals : List Arrival) (arrival : Arrival) → length (arrivals 
 longer arrivals arrival = length-append arrivals (arrival ∷ [])
 
 -- the earlier arrivals are unchanged
-pub same_arrival : (arrivals : List Arrival) (arrival : Arrival) (place : ℕ) → place < length arrivals →
-    get_or (arrivals ++ arrival ∷ []) place no_arrival ≡ get_or arrivals place no_arrival
-same_arrival arrivals arrival place inside = get_or_append_left arrivals (arrival ∷ []) no_arrival place inside
+pub same_arrival : (arrivals : List Arrival) (arrival : Arrival) (index : ℕ) → index < length arrivals →
+    get_or (arrivals ++ arrival ∷ []) index no_arrival ≡ get_or arrivals index no_arrival
+same_arrival arrivals arrival index inside = get_or_append_left arrivals (arrival ∷ []) no_arrival index inside
 
 -- the last arrival is the new one
 pub last_arrival : (arrivals : List Arrival) (arrival : Arrival) → get_or (arrivals ++ arrival ∷ []) (length arrivals) no_arrival ≡ arrival
 last_arrival arrivals arrival = get_or-append_seam arrivals arrival [] no_arrival
 
 -- a property of an earlier arrival remains
-pub arrival_after : (arrivals : List Arrival) (arrival : Arrival) (P : Arrival → Type 0) (place : ℕ) → place < length arrivals →
-    P (get_or arrivals place no_arrival) → P (get_or (arrivals ++ arrival ∷ []) place no_arrival)
-arrival_after arrivals arrival P place inside = subst P (sym (same_arrival arrivals arrival place inside))
+pub arrival_after : (arrivals : List Arrival) (arrival : Arrival) (P : Arrival → Type 0) (index : ℕ) → index < length arrivals →
+    P (get_or arrivals index no_arrival) → P (get_or (arrivals ++ arrival ∷ []) index no_arrival)
+arrival_after arrivals arrival P index inside = subst P (sym (same_arrival arrivals arrival index inside))
 
 -- and the other way round
-pub arrival_before : (arrivals : List Arrival) (arrival : Arrival) (P : Arrival → Type 0) (place : ℕ) → place < length arrivals →
-    P (get_or (arrivals ++ arrival ∷ []) place no_arrival) → P (get_or arrivals place no_arrival)
-arrival_before arrivals arrival P place inside = subst P (same_arrival arrivals arrival place inside)
+pub arrival_before : (arrivals : List Arrival) (arrival : Arrival) (P : Arrival → Type 0) (index : ℕ) → index < length arrivals →
+    P (get_or (arrivals ++ arrival ∷ []) index no_arrival) → P (get_or arrivals index no_arrival)
+arrival_before arrivals arrival P index inside = subst P (same_arrival arrivals arrival index inside)

@@ -10,7 +10,7 @@ pub none_more : (starts : List Transmission) (lowest : ℕ) → AreMore starts s
 none_more starts lowest = record {
   made = [];
   value = sym (append-nil starts);
-  not_before = λ place s started. absurd (omega (arith, started.1));
+  not_before = λ index s started. absurd (omega (arith, started.1));
 }
 
 -- more and then more again
@@ -19,12 +19,12 @@ pub more_again : (before between after : List Transmission) (lowest later : ℕ)
 more_again before between after lowest later first then in_order = record {
   made = first.made ++ then.made;
   value = then.value ∙ ap (λ (starts : List Transmission). starts ++ then.made) first.value ∙ rw append_assoc refl;
-  not_before = λ place s started. elim (Contains-append_cases first.made then.made (place, s) started) [
-    | inl early ↦ first.not_before place s early
-    | inr late ↦ omega (arith, then.not_before place s late)
+  not_before = λ index s started. elim (Contains-append_cases first.made then.made (index, s) started) [
+    | inl early ↦ first.not_before index s early
+    | inr late ↦ omega (arith, then.not_before index s late)
   ];
 }
 
--- a slice from a place to the end
+-- a slice from an index to the end
 pub range_to_end : {X : Type 0} (n : ℕ) (xs : List X) → take (length xs - n) (drop n xs) ≡ drop n xs
 range_to_end n xs = take_all (length xs - n) (drop n xs) (omega (arith, length-drop n xs))

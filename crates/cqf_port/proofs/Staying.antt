@@ -30,14 +30,14 @@ span_until entries class t bound end later through closed need some small = (
 )
 
 module _ (states : StatesAreOfTheEntry) (round_takes : RoundTakesTime) (some_entry : SomeEntryIsInForce) (entries : List Entry)
-    (t place offset : ℕ) (force : InForce entries t place offset) where
+    (t index offset : ℕ) (force : InForce entries t index offset) where
   -- the first instant of the entry in the first round
   abbrev begun : ℕ
-  begun = round_of (take place entries)
+  begun = round_of (take index entries)
 
   -- a round has a positive duration
   positive : 0 < round_of entries
-  positive = round_takes entries place force.inside (omega (arith, force.within))
+  positive = round_takes entries index force.inside (omega (arith, force.within))
 
   -- rounds repeat
   same_later : (x : ℕ) → states_at entries (t + x) ≡ states_at entries (begun + offset + x)
@@ -52,10 +52,10 @@ module _ (states : StatesAreOfTheEntry) (round_takes : RoundTakesTime) (some_ent
       states entries (t + x) there.0 there.1 here ∙ sym (states entries (begun + offset + x) there.0 there.1 there.2)
 
   -- within the entry its states are in force
-  in_entry : (x : ℕ) → x < (get_or entries place (0, 0)).1 → states_at entries (begun + x) ≡ states_at entries t
+  in_entry : (x : ℕ) → x < (get_or entries index (0, 0)).1 → states_at entries (begun + x) ≡ states_at entries t
   in_entry x within =
-      let here : InForce entries (begun + x) place x = record { inside = force.inside; round = 0; spans = omega arith; within = within } in
-      states entries (begun + x) place x here ∙ sym (states entries t place offset force)
+      let here : InForce entries (begun + x) index x = record { inside = force.inside; round = 0; spans = omega arith; within = within } in
+      states entries (begun + x) index x here ∙ sym (states entries t index offset force)
 
   -- what stays open for a time from the beginning of the entry on stays open for less from within it
   pub span_within : (class span bound shorter : ℕ) → offset + shorter ≤ bound → IsSpan entries class begun bound span →
@@ -82,10 +82,10 @@ module _ (states : StatesAreOfTheEntry) (round_takes : RoundTakesTime) (some_ent
       )
 
   -- the same of eight classes
-  pub spans_within : (spans : List (List ℕ)) (left : List ℕ) → AreSpans entries spans → offset < 2 ^ 32 → AreLess (get_or spans place []) offset left
+  pub spans_within : (spans : List (List ℕ)) (left : List ℕ) → AreSpans entries spans → offset < 2 ^ 32 → AreLess (get_or spans index []) offset left
       → AreSpansAt entries t (2 ^ 62) left
   spans_within spans left known short less = record {
     eight = less.eight;
     each = λ class low. subst (λ span. IsSpan entries class t (2 ^ 62) span) (sym (less.each class low))
-        (span_within class (get_or (get_or spans place []) class 0) (2 ^ 63) (2 ^ 62) (omega arith) ((known.rows place force.inside).each class low));
+        (span_within class (get_or (get_or spans index []) class 0) (2 ^ 63) (2 ^ 62) (omega arith) ((known.rows index force.inside).each class low));
   }

@@ -34,15 +34,15 @@ takes : (octet_time octets : ℕ) → 0 < octet_time → 0 < slot_of octets octe
 takes octet_time octets some = slot_some octets octet_time some
 
 -- a port that starts a frame
-pub steps_start : (rules : PortRules) (arrivals : List Arrival) (t place : ℕ) (starts all : List Transmission) (before after : Progress) →
+pub steps_start : (rules : PortRules) (arrivals : List Arrival) (t index : ℕ) (starts all : List Transmission) (before after : Progress) →
     0 < rules.octet_time → AreTaken arrivals → IsAbreast rules arrivals t starts before → before.idle_from.0 ≤ t →
-    IsChosen rules arrivals before.heads t place → IsAfterStart rules.octet_time arrivals place t before after →
+    IsChosen rules arrivals before.heads t index → IsAfterStart rules.octet_time arrivals index t before after →
     IsAbreast rules arrivals (t + 1) all after → StepsTo rules arrivals t all after after.idle_from.0
-steps_start rules arrivals t place starts all before after some taken abreast free chosen step started =
-    let later : t < after.idle_from.0 = omega (arith, step.idle_from, takes rules.octet_time (octets_of arrivals place) some) in
+steps_start rules arrivals t index starts all before after some taken abreast free chosen step started =
+    let later : t < after.idle_from.0 = omega (arith, step.idle_from, takes rules.octet_time (octets_of arrivals index) some) in
     record {
       later = later;
-      abreast = λ e behind until. abreast_busy rules arrivals (t + 1) e all after started (omega arith) until;
+      abreast = λ e following until. abreast_busy rules arrivals (t + 1) e all after started (omega arith) until;
     }
 
 -- one more class is idle
@@ -50,44 +50,44 @@ pub idle_one_more : (rules : PortRules) (arrivals : List Arrival) (heads : List 
     ((class : ℕ) → class < seen → IsIdleOf rules arrivals (get_or heads class None) t until) → IsIdleOf rules arrivals (get_or heads seen None) t other
     → less ≤ until → less ≤ other → (class : ℕ) → class < seen + 1 → IsIdleOf rules arrivals (get_or heads class None) t less
 idle_one_more rules arrivals heads t until other less seen so_far here shorter also class below = elim (cases_lt class seen) [
-  | inl before ↦ λ s place from soon. so_far class before s place from (omega arith)
+  | inl before ↦ λ s index from soon. so_far class before s index from (omega arith)
   | inr last ↦ subst (λ k. IsIdleOf rules arrivals (get_or heads k None) t less) (let same : seen ≡ class = omega arith in same)
-      (λ s place from soon. here s place from (omega arith))
+      (λ s index from soon. here s index from (omega arith))
 ]
 
 -- if each class is idle, no head is ready
 pub idle_each : (rules : PortRules) (arrivals : List Arrival) (heads : List (Option ℕ)) (t until : ℕ) →
     ((class : ℕ) → class < 8 → IsIdleOf rules arrivals (get_or heads class None) t until) → IsIdleUntil rules arrivals heads t until
-idle_each rules arrivals heads t until each s from soon class place lowest low ready = each class low s place from soon ready.is_head ready.come ready.eligible
+idle_each rules arrivals heads t until each s from soon class index lowest low ready = each class low s index from soon ready.is_head ready.come ready.eligible
 
 -- the index of a head
-abbrev place_in : Option ℕ → ℕ
-place_in None = 0
-place_in (Some place) = place
+abbrev index_in : Option ℕ → ℕ
+index_in None = 0
+index_in (Some index) = index
 
 -- if it fits nowhere, the head isn't eligible
-pub idle_nowhere : (rules : PortRules) (arrivals : List Arrival) (head : Option ℕ) (class t until place need : ℕ) → head ≡ Some place →
-    class_of arrivals place ≡ class → need ≡ time_of (octets_of arrivals place + 8) rules.octet_time → FitsNowhere rules.entries class need t until
+pub idle_nowhere : (rules : PortRules) (arrivals : List Arrival) (head : Option ℕ) (class t until index need : ℕ) → head ≡ Some index →
+    class_of arrivals index ≡ class → need ≡ time_of (octets_of arrivals index + 8) rules.octet_time → FitsNowhere rules.entries class need t until
     → IsIdleOf rules arrivals head t until
-idle_nowhere rules arrivals head class t until place need was of_class takes_so nowhere s other from soon is_head come eligible =
-    let same : place ≡ other = ap place_in (sym was ∙ is_head) in
-    let here : IsEligible rules arrivals place s = subst (λ n. IsEligible rules arrivals n s) (sym same) eligible in
-    let ends : s + time_of (octets_of arrivals place + 8) rules.octet_time ≡ s + need = ap (λ n. s + n) (sym takes_so) in
+idle_nowhere rules arrivals head class t until index need was of_class takes_so nowhere s other from soon is_head come eligible =
+    let same : index ≡ other = ap index_in (sym was ∙ is_head) in
+    let here : IsEligible rules arrivals index s = subst (λ n. IsEligible rules arrivals n s) (sym same) eligible in
+    let ends : s + time_of (octets_of arrivals index + 8) rules.octet_time ≡ s + need = ap (λ n. s + n) (sym takes_so) in
     nowhere s from soon (subst (λ n. IsOpenThrough rules.entries class s n) ends
-    (subst (λ k. IsOpenThrough rules.entries k s (s + time_of (octets_of arrivals place + 8) rules.octet_time)) of_class here))
+    (subst (λ k. IsOpenThrough rules.entries k s (s + time_of (octets_of arrivals index + 8) rules.octet_time)) of_class here))
 
 -- if the head has come and fits, something can start
-pub turns_fits : (rules : PortRules) (arrivals : List Arrival) (head : Option ℕ) (class t place need : ℕ) → head ≡ Some place →
-    class_of arrivals place ≡ class → need ≡ time_of (octets_of arrivals place + 8) rules.octet_time → instant_of arrivals place ≤ t →
+pub turns_fits : (rules : PortRules) (arrivals : List Arrival) (head : Option ℕ) (class t index need : ℕ) → head ≡ Some index →
+    class_of arrivals index ≡ class → need ≡ time_of (octets_of arrivals index + 8) rules.octet_time → instant_of arrivals index ≤ t →
     IsOpenThrough rules.entries class t (t + need) → Turns rules arrivals head t
-turns_fits rules arrivals head class t place need was of_class takes_so come fits =
-    let ends : t + need ≡ t + time_of (octets_of arrivals place + 8) rules.octet_time = ap (λ n. t + n) takes_so in
+turns_fits rules arrivals head class t index need was of_class takes_so come fits =
+    let ends : t + need ≡ t + time_of (octets_of arrivals index + 8) rules.octet_time = ap (λ n. t + n) takes_so in
     record {
-      place = place;
+      index = index;
       is_head = was;
       turns = inr (
         come,
-        subst (λ k. IsOpenThrough rules.entries k t (t + time_of (octets_of arrivals place + 8) rules.octet_time)) (sym of_class)
+        subst (λ k. IsOpenThrough rules.entries k t (t + time_of (octets_of arrivals index + 8) rules.octet_time)) (sym of_class)
             (subst (λ n. IsOpenThrough rules.entries class t n) ends fits),
       );
     }

@@ -6,10 +6,10 @@ use Rattle.cqf_model.specs.Port.{instant_of, octets_of}
 
 -- the class has a head, which has come by t and takes no longer than is left
 pub record HeadFits (octet_time : ℕ) (arrivals : List Arrival) (head : Option ℕ) (t left : ℕ) : Type 0 where
-  pub place : ℕ
-  pub is_head : head ≡ Some place
-  pub come : instant_of arrivals place ≤ t
-  pub fits : time_of (octets_of arrivals place + 8) octet_time ≤ left
+  pub index : ℕ
+  pub is_head : head ≡ Some index
+  pub come : instant_of arrivals index ≤ t
+  pub fits : time_of (octets_of arrivals index + 8) octet_time ≤ left
 
 -- the class has no head, or its head hasn't come by t or takes longer than is left
 abbrev pub NoHeadFits : ℕ → List Arrival → Option ℕ → ℕ → ℕ → Type 0
@@ -17,9 +17,9 @@ NoHeadFits octet_time arrivals head t left = ¬ HeadFits octet_time arrivals hea
 
 -- the head takes less than 2^43 nanoseconds
 abbrev pub IsShortFrame : ℕ → List Arrival → Option ℕ → Type 0
-IsShortFrame octet_time arrivals head = (place : ℕ) → head ≡ Some place → time_of (octets_of arrivals place + 8) octet_time < 2 ^ 43
+IsShortFrame octet_time arrivals head = (index : ℕ) → head ≡ Some index → time_of (octets_of arrivals index + 8) octet_time < 2 ^ 43
 
--- of the classes below `seen`, those are set and need no longer than is left whose heads fit, and no others; the classes from `seen` on aren't set
+-- a class below `seen` is set and needs no longer than is left exactly if its head fits; the classes from `seen` on aren't set
 pub record AreAsked (octet_time : ℕ) (arrivals : List Arrival) (heads : List (Option ℕ)) (t : ℕ) (spans : List ℕ) (seen classes : ℕ)
     (need left : List ℕ) : Type 0 where
   pub eight_need : length need ≡ 8

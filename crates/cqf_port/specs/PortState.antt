@@ -21,10 +21,10 @@ pub record PortState : Type 0 where
 
 -- arrivals that a port takes: of eight classes, before 2^62 ns, and within each class in order of instant
 pub record AreTaken (arrivals : List Arrival) : Type 0 where
-  pub classes : (place : ℕ) → place < length arrivals → class_of arrivals place < 8
-  pub early : (place : ℕ) → place < length arrivals → instant_of arrivals place < 2 ^ 62
-  pub by_class : (place later : ℕ) → place < later → later < length arrivals → class_of arrivals place ≡ class_of arrivals later →
-      instant_of arrivals place ≤ instant_of arrivals later
+  pub classes : (index : ℕ) → index < length arrivals → class_of arrivals index < 8
+  pub early : (index : ℕ) → index < length arrivals → instant_of arrivals index < 2 ^ 62
+  pub by_class : (index later : ℕ) → index < later → later < length arrivals → class_of arrivals index ≡ class_of arrivals later →
+      instant_of arrivals index ≤ instant_of arrivals later
 
 -- the invariant of each port: its starts are legal up to the instant that it has reached
 pub record IsPort (p : PortState) : Type 0 where
@@ -48,16 +48,16 @@ abbrev pub IsLate : PortState → Arrival → Type 0
 IsLate p arrival = WasOpen p.rules.entries arrival.class arrival.at.0 p.reached
 
 -- the last arrival of the class is at this index
-pub record IsLast (arrivals : List Arrival) (class place : ℕ) : Type 0 where
-  pub inside : place < length arrivals
-  pub of_class : class_of arrivals place ≡ class
-  pub none_behind : (other : ℕ) → place < other → other < length arrivals → class_of arrivals other ≢ class
+pub record IsLast (arrivals : List Arrival) (class index : ℕ) : Type 0 where
+  pub inside : index < length arrivals
+  pub of_class : class_of arrivals index ≡ class
+  pub none_after : (other : ℕ) → index < other → other < length arrivals → class_of arrivals other ≢ class
 
 -- the arrival is before the last one taken of its class
 pub record IsOutOfOrder (p : PortState) (arrival : Arrival) : Type 0 where
-  pub place : ℕ
-  pub last : IsLast p.arrivals arrival.class place
-  pub earlier : arrival.at.0 < instant_of p.arrivals place
+  pub index : ℕ
+  pub last : IsLast p.arrivals arrival.class index
+  pub earlier : arrival.at.0 < instant_of p.arrivals index
 
 -- a transmission as callers get it, with the data of its arrival
 abbrev pub start_of : List Arrival → Transmission → Start
@@ -71,19 +71,19 @@ start_of arrivals x = record {
 -- the port runs up to an instant: it makes starts from the instant that it had reached on, after those before
 pub record RunsUpTo (until : ℕ) (before after : PortState) : Type 0 where
   pub made : List Transmission
-  pub from_reached : (place s : ℕ) → Contains made (place, s) → before.reached ≤ s
+  pub from_reached : (index s : ℕ) → Contains made (index, s) → before.reached ≤ s
   pub value : after ≡ record { rules = before.rules; reached = until; arrivals = before.arrivals; starts = before.starts ++ made }
 
 -- the port runs up to an instant: it makes starts from the instant that it had reached on, and appends them to its caller's list
 pub record Advances (before after : PortState) (until : ℕ) (given given_after : List Start) : Type 0 where
   pub made : List Transmission
-  pub from_reached : (place s : ℕ) → Contains made (place, s) → before.reached ≤ s
+  pub from_reached : (index s : ℕ) → Contains made (index, s) → before.reached ≤ s
   pub value : after ≡ record { rules = before.rules; reached = until; arrivals = before.arrivals; starts = before.starts ++ made }
   pub handed : given_after ≡ given ++ map (start_of before.arrivals) made
 
 -- whether the arrival at the index has started
 abbrev pub has_started : List Transmission → ℕ → Bool
-has_started starts place = list_any (λ (x : Transmission). x.0 == place) starts
+has_started starts index = list_any (λ (x : Transmission). x.0 == index) starts
 
 -- the number of arrivals of the class that haven't started
 abbrev pub waiting_of : List Arrival → List Transmission → ℕ → ℕ

@@ -12,7 +12,7 @@ FitsNowhere entries class need first last = (s : ℕ) → first ≤ s → s < la
 -- at no instant from `first` up to but excluding `last` is there a head that has come and is eligible
 abbrev pub IsIdleOf : PortRules → List Arrival → Option ℕ → ℕ → ℕ → Type 0
 IsIdleOf rules arrivals head first last =
-    (s place : ℕ) → first ≤ s → s < last → head ≡ Some place → instant_of arrivals place ≤ s → ¬ IsEligible rules arrivals place s
+    (s index : ℕ) → first ≤ s → s < last → head ≡ Some index → instant_of arrivals index ≤ s → ¬ IsEligible rules arrivals index s
 
 -- from t up to but excluding an instant no head is ready
 abbrev pub IsIdleUntil : PortRules → List Arrival → List (Option ℕ) → ℕ → ℕ → Type 0
@@ -20,9 +20,9 @@ IsIdleUntil rules arrivals heads t until = (s : ℕ) → t ≤ s → s < until �
 
 -- the head comes at the instant, or has come and is eligible
 pub record Turns (rules : PortRules) (arrivals : List Arrival) (head : Option ℕ) (t : ℕ) : Type 0 where
-  pub place : ℕ
-  pub is_head : head ≡ Some place
-  pub turns : (instant_of arrivals place ≡ t) ⊎ ((instant_of arrivals place ≤ t) × IsEligible rules arrivals place t)
+  pub index : ℕ
+  pub is_head : head ≡ Some index
+  pub turns : (instant_of arrivals index ≡ t) ⊎ ((instant_of arrivals index ≤ t) × IsEligible rules arrivals index t)
 
 -- some head comes or is ready at the instant
 pub record OneTurns (rules : PortRules) (arrivals : List Arrival) (heads : List (Option ℕ)) (t : ℕ) : Type 0 where

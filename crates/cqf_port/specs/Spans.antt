@@ -16,7 +16,7 @@ pub record AreSpansAt (entries : List Entry) (t bound : ℕ) (row : List ℕ) : 
 pub record AreSpans (entries : List Entry) (spans : List (List ℕ)) : Type 0 where
   pub few : length entries ≤ 16
   pub sixteen : length spans ≡ 16
-  pub rows : (place : ℕ) → place < length entries → AreSpansAt entries (round_of (take place entries)) (2 ^ 63) (slice_index_or spans place [])
+  pub rows : (index : ℕ) → index < length entries → AreSpansAt entries (round_of (take index entries)) (2 ^ 63) (slice_index_or spans index [])
 
 -- each of eight numbers is less by this much, but not below 0
 pub record AreLess (row : List ℕ) (much : ℕ) (left : List ℕ) : Type 0 where
@@ -24,9 +24,9 @@ pub record AreLess (row : List ℕ) (much : ℕ) (left : List ℕ) : Type 0 wher
   pub each : (class : ℕ) → class < 8 → slice_index_or left class 0 ≡ slice_index_or row class 0 - much
 
 -- the next entry begins after t, no gate changes before it does, and the list has repeated at `again`, one round after t
-pub record IsAhead (entries : List Entry) (t place begins again : ℕ) : Type 0 where
+pub record IsAhead (entries : List Entry) (t index begins again : ℕ) : Type 0 where
   pub later : t < begins
-  pub force : InForce entries begins place 0
+  pub force : InForce entries begins index 0
   pub steady : (s : ℕ) → t ≤ s → s < begins → states_at entries s ≡ states_at entries t
   pub round : again ≡ t + round_of entries
   pub soon : again < t + 2 ^ 37

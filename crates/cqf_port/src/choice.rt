@@ -40,7 +40,7 @@ fn asked_of(
     t: Nanos,
     left: u64,
 ) -> Option<(u32, u32)>
-    requires { (place : ℕ) → head ≡ Some place → place < length arrivals.now }
+    requires { (index : ℕ) → head ≡ Some index → index < length arrivals.now }
     ensures short { IsShortFrame (ticks_of_octet rate) arrivals.now head }
     ensures asked { let octet_time = ticks_of_octet rate in
         MatchOption result (NoHeadFits octet_time arrivals.now head t.0 left) (λ asked. (asked.0 ≤ asked.1) ↔ HeadFits octet_time arrivals.now head t.0 left) }

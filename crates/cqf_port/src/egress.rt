@@ -12,6 +12,6 @@ pub(crate) struct Egress<'p> {
     pub(crate) schedule: &'p Schedule,
     /// The rate of the link.
     pub(crate) rate: Rate,
-    /// The frames that have arrive at the port, in order.
+    /// The frames that have arrived at the port, in order.
     pub(crate) arrivals: &'p [Arrival],
 }

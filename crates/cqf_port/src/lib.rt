@@ -1,5 +1,5 @@
-//! One output port: gates that open and close eight queues, and the frames that it starts (IEEE Std 802.1Q-2018,
-//! 8.6.6, 8.6.8.1 and 8.6.8.4).
+//! One output port: gates that open and close eight queues (Qbv, the time-aware shaper), and the frames that it starts
+//! (IEEE Std 802.1Q-2018, 8.6.6, 8.6.8.1 and 8.6.8.4).
 //!
 //! - A [`Port`] follows a gate control list on a link of a rate. It takes arrivals with [`Port::offer`] and runs to an
 //!   instant with [`Port::advance`], which returns the starts on the way; [`Port::next_start`] returns the instant of

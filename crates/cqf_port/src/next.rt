@@ -22,8 +22,8 @@ fn all_come(arrivals: &[Arrival], heads: &[Option<usize>; 8], from: Nanos) -> Na
 {
     let mut latest = from.0;
     for class in 0..8 {
-        if let Some(place) = heads[class] {
-            latest = latest.max(arrivals[place].at.0);
+        if let Some(index) = heads[class] {
+            latest = latest.max(arrivals[index].at.0);
         }
     }
     Nanos(latest)

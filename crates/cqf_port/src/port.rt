@@ -54,8 +54,8 @@ fn taken_in_turn(arrivals: &[Arrival]) -> (Progress, [Nanos; 8])
         heads: [None; 8],
     };
     let mut newest = [Nanos(0); 8];
-    for (place, arrival) in arrivals.iter().enumerate() {
-        progress = after_arrival(place, arrival.class, progress);
+    for (index, arrival) in arrivals.iter().enumerate() {
+        progress = after_arrival(index, arrival.class, progress);
         newest[usize::from(arrival.class)] = arrival.at;
     }
     (progress, newest)
@@ -89,7 +89,8 @@ impl Model for Port {
 }
 
 impl Port {
-    /// Returns a port at instant 0 with this gate control list, at the end of a link of this rate. Allocates nothing yet.
+    /// Returns a port at instant 0 with this gate control list, which sends on a link of this rate. Allocates nothing
+    /// yet.
     pub fn new(alloc: Global, list: TxList, rate: Rate) -> Port
         ensures { result ≡ record { rules = rules_of list rate; reached = 0; arrivals = []; starts = [] } }
     {
@@ -109,8 +110,8 @@ impl Port {
 
     /// Returns a port at instant 0 that has taken these arrivals, in their order, without copying them. Each has a
     /// class from 0 to 7 and an instant below 2^62 ns, and none is before an earlier arrival of its class. The port has
-    /// this gate control list, at the end of a link of this rate, and is the same as a new one to which [`Port::offer`]
-    /// is applied for each arrival in turn. Allocates nothing.
+    /// this gate control list and sends on a link of this rate. It is the same as a new one to which [`Port::offer`] is
+    /// applied for each arrival in turn. Allocates nothing.
     pub fn with_arrivals(alloc: Global, list: TxList, rate: Rate, arrivals: Vec<Arrival>) -> Port
         requires { AreTaken arrivals.items }
         ensures { result ≡ record { rules = rules_of list rate; reached = 0; arrivals = arrivals.items; starts = [] } }
@@ -220,12 +221,12 @@ impl Port {
         ensures facts { IsPort self.new }
     {
         let class = usize::from(arrival.class);
-        let place = self.arrivals.len();
+        let index = self.arrivals.len();
         if self.arrivals.push(arrival).is_err() {
             return Err(AllocError);
         }
         self.newest[class] = arrival.at;
-        self.progress = after_arrival(place, arrival.class, self.progress);
+        self.progress = after_arrival(index, arrival.class, self.progress);
         Ok(())
     }
 

@@ -20,16 +20,16 @@ pub(crate) struct Progress {
 fn next_of_class(arrivals: &[Arrival], first: usize, class: u8) -> Option<usize>
     ensures { IsNextOf arrivals.now first class result }
 {
-    for place in first..arrivals.len() {
-        if arrivals[place].class == class {
-            return Some(place);
+    for index in first..arrivals.len() {
+        if arrivals[index].class == class {
+            return Some(index);
         }
     }
     None
 }
 
 /// Returns the instant from which the port may start again after a frame of these octets.
-fn idle_behind(octets: u32, rate: Rate, start: Nanos) -> Nanos
+fn idle_since(octets: u32, rate: Rate, start: Nanos) -> Nanos
     requires { start.0 < 2 ^ 62 }
     ensures value { result.0 ≡ idle_after start.0 octets (ticks_of_octet rate) }
     ensures soon { result.0 < 2 ^ 63 }
@@ -41,31 +41,31 @@ fn idle_behind(octets: u32, rate: Rate, start: Nanos) -> Nanos
 pub(crate) fn after_start(
     arrivals: &[Arrival],
     rate: Rate,
-    place: usize,
+    index: usize,
     t: Nanos,
     before: Progress,
 ) -> Progress
-    requires inside { place < length arrivals.now }
-    requires class { class_of arrivals.now place < 8 }
+    requires inside { index < length arrivals.now }
+    requires class { class_of arrivals.now index < 8 }
     requires early { t.0 < 2 ^ 62 }
-    ensures { IsAfterStart (ticks_of_octet rate) arrivals.now place t.0 before result }
+    ensures { IsAfterStart (ticks_of_octet rate) arrivals.now index t.0 before result }
 {
-    let arrival = arrivals[place];
+    let arrival = arrivals[index];
     let mut after = before;
-    after.idle_from = idle_behind(arrival.octets, rate, t);
-    after.heads[usize::from(arrival.class)] = next_of_class(arrivals, place + 1, arrival.class);
+    after.idle_from = idle_since(arrival.octets, rate, t);
+    after.heads[usize::from(arrival.class)] = next_of_class(arrivals, index + 1, arrival.class);
     after
 }
 
 /// Returns what the port knows after an arrival of the class was appended at the index.
-pub(crate) fn after_arrival(place: usize, class: u8, before: Progress) -> Progress
+pub(crate) fn after_arrival(index: usize, class: u8, before: Progress) -> Progress
     requires { class < 8 }
-    ensures { IsAfterArrival place class before result }
+    ensures { IsAfterArrival index class before result }
 {
     let mut after = before;
     let head = usize::from(class);
     if after.heads[head].is_none() {
-        after.heads[head] = Some(place);
+        after.heads[head] = Some(index);
     }
     after
 }

@@ -12,8 +12,8 @@ use crate::spans::Ahead;
 use cqf_units::Nanos;
 
 /// Returns the first instant after `t` at which the head of the class can start: the head comes, or it has come and its
-/// gate stays open long enough from the beginning of an entry. The result from `last` on has no meaning but that the
-/// head can't start before it.
+/// gate stays open long enough from the beginning of an entry. A result of `last` or later says only that the head
+/// can't start before it.
 fn idle_of(
     egress: &Egress<'_>,
     head: Option<usize>,
@@ -24,19 +24,19 @@ fn idle_of(
 ) -> Nanos
     requires gate { class < 8 }
     requires early { t.0 < 2 ^ 63 + 2 ^ 62 }
-    requires ahead { IsAhead egress.now.schedule.now t.0 ahead.place ahead.begins ahead.again }
-    requires inside { (place : ℕ) → head ≡ Some place → place < length egress.now.arrivals.now }
-    requires of_class { (place : ℕ) → head ≡ Some place → class_of egress.now.arrivals.now place ≡ class }
-    requires waits { (place : ℕ) → head ≡ Some place → instant_of egress.now.arrivals.now place ≤ t.0 →
-        ¬ IsEligible (rules_of egress.now.schedule.now egress.now.rate) egress.now.arrivals.now place t.0 }
+    requires ahead { IsAhead egress.now.schedule.now t.0 ahead.index ahead.begins ahead.again }
+    requires inside { (index : ℕ) → head ≡ Some index → index < length egress.now.arrivals.now }
+    requires of_class { (index : ℕ) → head ≡ Some index → class_of egress.now.arrivals.now index ≡ class }
+    requires waits { (index : ℕ) → head ≡ Some index → instant_of egress.now.arrivals.now index ≤ t.0 →
+        ¬ IsEligible (rules_of egress.now.schedule.now egress.now.rate) egress.now.arrivals.now index t.0 }
     ensures later { t.0 < result.0 }
     ensures idle { IsIdleOf (rules_of egress.now.schedule.now egress.now.rate) egress.now.arrivals.now head t.0 result.0 }
     ensures turns { result.0 < last → Turns (rules_of egress.now.schedule.now egress.now.rate) egress.now.arrivals.now head result.0 }
 {
     match head {
         None => Nanos(u64::MAX),
-        Some(place) => {
-            let arrival = egress.arrivals[place];
+        Some(index) => {
+            let arrival = egress.arrivals[index];
             if t < arrival.at {
                 return arrival.at;
             }
@@ -46,8 +46,8 @@ fn idle_of(
     }
 }
 
-/// Returns the first instant after `t`, at which no head is ready, at which one can be: a head comes, or one that has
-/// come fits.
+/// Returns the first instant after `t` at which a head can be ready: a head comes, or a head that has come fits. At `t`
+/// no head is ready.
 pub(crate) fn idle_until(egress: &Egress<'_>, heads: &[Option<usize>; 8], t: Nanos) -> Nanos
     requires early { t.0 < 2 ^ 63 + 2 ^ 62 }
     requires inside { AreInside egress.now.arrivals.now heads.now }

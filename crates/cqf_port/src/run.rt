@@ -30,9 +30,9 @@ fn step(
         return Ok((before, before.idle_from));
     }
     match choose(egress, &before.heads, t) {
-        Some(place) => {
-            starts.push((place, t.0))?;
-            let after = after_start(egress.arrivals, egress.rate, place, t, before);
+        Some(index) => {
+            starts.push((index, t.0))?;
+            let after = after_start(egress.arrivals, egress.rate, index, t, before);
             Ok((after, after.idle_from))
         }
         None => Ok((before, idle_until(egress, &before.heads, t))),

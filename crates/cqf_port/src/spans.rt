@@ -22,7 +22,7 @@ pub(crate) struct Schedule {
 #[derive(Clone, Copy, Debug)]
 pub(crate) struct Ahead {
     /// The index of the next entry.
-    place: usize,
+    index: usize,
     /// The instant at which that entry begins, in nanoseconds.
     begins: u64,
     /// The instant one round later, from which everything repeats.
@@ -80,8 +80,8 @@ fn spans_of(list: &TxList) -> [[u64; 8]; 16]
     let entries = list.entries();
     let mut spans = [[0; 8]; 16];
     let mut begun: u64 = 0;
-    for (place, entry) in entries.iter().enumerate() {
-        spans[place] = row_at(list, begun);
+    for (index, entry) in entries.iter().enumerate() {
+        spans[index] = row_at(list, begun);
         begun += widened(entry.1);
     }
     spans
@@ -108,21 +108,21 @@ fn less(row: [u64; 8], nanoseconds: u32) -> [u64; 8]
 }
 
 /// Returns the entry after the one in force, and the instant at which it begins.
-fn entry_behind(list: &TxList, t: u64, place: usize, offset: u32) -> (usize, u64)
-    requires force { InForce list.now t place offset }
+fn entry_after(list: &TxList, t: u64, index: usize, offset: u32) -> (usize, u64)
+    requires force { InForce list.now t index offset }
     requires early { t < 2 ^ 63 + 2 ^ 62 + 2 ^ 38 }
     ensures force { InForce list.now result.1 result.0 0 }
     ensures later { t < result.1 }
-    ensures value { result.1 ≡ t + ((slice_index_or list.now place (0, 0)).1 - offset) }
-    ensures short { (slice_index_or list.now place (0, 0)).1 < 2 ^ 32 }
+    ensures value { result.1 ≡ t + ((slice_index_or list.now index (0, 0)).1 - offset) }
+    ensures short { (slice_index_or list.now index (0, 0)).1 < 2 ^ 32 }
 {
     let entries = list.entries();
-    let after = if place + 1 == entries.len() {
+    let after = if index + 1 == entries.len() {
         0
     } else {
-        place + 1
+        index + 1
     };
-    (after, t + widened(entries[place].1 - offset))
+    (after, t + widened(entries[index].1 - offset))
 }
 
 /// Returns the first beginning of an entry, from the one ahead on, from which the class stays open for `need`
@@ -140,19 +140,19 @@ fn fit_from(
     requires short { need < 2 ^ 62 }
     requires early { end < 2 ^ 63 + 2 ^ 62 + 2 ^ 38 }
     requires spans { AreSpans list.now spans.now }
-    requires force { InForce list.now ahead.begins ahead.place 0 }
+    requires force { InForce list.now ahead.begins ahead.index 0 }
     ensures later { ahead.begins ≤ result }
     ensures nowhere { FitsNowhere list.now class need ahead.begins result }
     ensures fits { result < end → IsOpenThrough list.now class result (result + need) }
 {
     mask_is_in_force();
-    let mut place = ahead.place;
+    let mut index = ahead.index;
     let mut t = ahead.begins;
     while t < end {
-        if spans[place][usize::from(class)] >= need {
+        if spans[index][usize::from(class)] >= need {
             return t;
         }
-        (place, t) = entry_behind(list, t, place, 0);
+        (index, t) = entry_after(list, t, index, 0);
     }
     t
 }
@@ -188,8 +188,8 @@ impl Schedule {
         ensures { AreSpansAt self.now t.0 (2 ^ 62) result }
     {
         mask_is_in_force();
-        let (place, offset) = self.list.entry_at(t);
-        less(self.spans[place], offset)
+        let (index, offset) = self.list.entry_at(t);
+        less(self.spans[index], offset)
     }
 
     /// Returns the instant at which the entry in force ends.
@@ -198,34 +198,34 @@ impl Schedule {
         ensures later { t.0 < result.0 }
         ensures steady { (s : ℕ) → t.0 ≤ s → s < result.0 → states_at self.now s ≡ states_at self.now t.0 }
     {
-        let (place, offset) = self.list.entry_at(t);
-        later_by(t, self.list.entries()[place].1 - offset)
+        let (index, offset) = self.list.entry_at(t);
+        later_by(t, self.list.entries()[index].1 - offset)
     }
 
     /// Returns what comes after the entry in force at the instant.
     pub(crate) fn ahead(&self, t: Nanos) -> Ahead
         requires { t.0 < 2 ^ 63 + 2 ^ 62 }
-        ensures { IsAhead self.now t.0 result.place result.begins result.again }
+        ensures { IsAhead self.now t.0 result.index result.begins result.again }
     {
-        let (place, offset) = self.list.entry_at(t);
-        let (next, begins) = entry_behind(&self.list, t.0, place, offset);
+        let (index, offset) = self.list.entry_at(t);
+        let (next, begins) = entry_after(&self.list, t.0, index, offset);
         Ahead {
-            place: next,
+            index: next,
             begins,
             again: t.0 + self.list.round().0,
         }
     }
 
-    /// Returns the first instant after `t`, from which the class doesn't stay open for `need` nanoseconds, from which
-    /// it does: the beginning of an entry. It looks no further than one round, since what doesn't fit in a round never
-    /// does, and no further than `last`. If there is no such instant up to that, it returns one after all that it
-    /// examined.
+    /// Returns the first instant after `t` from which the class stays open for `need` nanoseconds, which is the
+    /// beginning of an entry. From `t` on it doesn't stay open for so long. The search goes no further than one round,
+    /// since what doesn't fit in a round never does, and no further than `last`. If there is no such instant up to
+    /// that, the result is an instant after all that was examined.
     pub(crate) fn next_fit(&self, t: Nanos, class: u8, need: u64, ahead: Ahead, last: u64) -> Nanos
         requires gate { class < 8 }
         requires early { t.0 < 2 ^ 63 + 2 ^ 62 }
         requires some { 0 < need }
         requires short { need < 2 ^ 62 }
-        requires ahead { IsAhead self.now t.0 ahead.place ahead.begins ahead.again }
+        requires ahead { IsAhead self.now t.0 ahead.index ahead.begins ahead.again }
         requires waits { ¬ IsOpenThrough self.now class t.0 (t.0 + need) }
         ensures later { t.0 < result.0 }
         ensures nowhere { FitsNowhere self.now class need t.0 result.0 }

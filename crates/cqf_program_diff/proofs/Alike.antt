@@ -83,20 +83,20 @@ figure_values before after same zero below =
 figure_values before after same (suc zero) below =
     (bytes_eq-Decides (value_of before 1) (value_of after 1)).0
     (and_parts (bytes_eq (value_of before 0) (value_of after 0)) (bytes_eq (value_of before 1) (value_of after 1)) same).1
-figure_values before after same (suc (suc place)) below = absurd (omega (arith, below))
+figure_values before after same (suc (suc index)) below = absurd (omega (arith, below))
 
 -- an element is unwritten if and only if it has the same values
 same_values : (form : Form) (before after : ElementText) → changed_lines form before after ≡ [] → HaveSameValues form before after
-same_values (Properties kind) before after none = λ place below.
-    same_value kind before.name (slice_index_or (keys_of kind) place []) (value_of before place) (value_of after place)
+same_values (Properties kind) before after none = λ index below.
+    same_value kind before.name (slice_index_or (keys_of kind) index []) (value_of before index) (value_of after index)
     (below_empty (λ at. changed_value kind before.name (slice_index_or (keys_of kind) at []) (value_of before at) (value_of after at)) (length (keys_of kind)) none
-    place below)
+    index below)
 same_values Figures before after none = figure_values before after (figure_is_same before after none)
 
 unwritten : (form : Form) (before after : ElementText) → HaveSameValues form before after → changed_lines form before after ≡ []
 unwritten (Properties kind) before after same =
     none_below (λ at. changed_value kind before.name (slice_index_or (keys_of kind) at []) (value_of before at) (value_of after at)) (length (keys_of kind))
-    (λ place below. value_unwritten kind before.name (slice_index_or (keys_of kind) place []) (value_of before place) (value_of after place) (same place below))
+    (λ index below. value_unwritten kind before.name (slice_index_or (keys_of kind) index []) (value_of before index) (value_of after index) (same index below))
 unwritten Figures before after same =
     cond-true (is_same_figure before after) [] (figure_line before.name (value_of before 0) (value_of after 0) (value_of after 1))
     (and_from (bytes_eq (value_of before 0) (value_of after 0)) (bytes_eq (value_of before 1) (value_of after 1))

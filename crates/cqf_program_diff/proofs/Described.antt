@@ -40,10 +40,10 @@ figures_lead network d edge requests figures same requests_are figures_are =
     ap (λ (x : Domain). requests_at x edge.flows) (sym same) ∙ requests_are in
     let found : figures_for (domain_of network) (map asked_by (map paced_text requests)) edge.deadlines edge.times ≡ figures =
     (λ i. figures_for (sym same i) (asked_texts requests i) edge.deadlines edge.times) ∙ figures_are in
-    let told : Result FiguresText (List ℕ) → Result Description (List ℕ) = λ all. and_then all (λ fs. Ok (description_with network edge fs)) in
+    let reported : Result FiguresText (List ℕ) → Result Description (List ℕ) = λ all. and_then all (λ fs. Ok (description_with network edge fs)) in
     ap (λ (all : Result (List PacedText) (List ℕ)).
-    and_then all (λ rs. told (figures_for (domain_of network) (map asked_by rs) edge.deadlines edge.times))) asked
-    ∙ ap told found
+    and_then all (λ rs. reported (figures_for (domain_of network) (map asked_by rs) edge.deadlines edge.times))) asked
+    ∙ ap reported found
 
 -- the whole description
 pub described_is : (network : NetworkDomain) (d : Domain) (edge : EdgeFlowsText) (own : OwnElements) (requests : List PacedRequest) (figures : FiguresText) →

@@ -20,14 +20,14 @@ pub more_below : {A : Type 0} (f : ℕ → List A) (n : ℕ) (before after new :
 more_below f n before after new so_far is one = is ∙ (λ i. so_far i ++ one i) ∙ sym (ap (each_below f) (add-one n))
 
 -- one more stream
-pub more_streams : (d : Domain) (talkers : List TalkerLink) (edge : EdgeFlowsText) (place : ℕ) (flow : FlowText) (before after : List ElementText) →
-    before ≡ each_below (element_at d talkers edge) place → slice_get edge.flows place ≡ Some flow →
-    after ≡ before ++ stream_element d talkers (slice_index_or edge.deadlines place None) (slice_index_or edge.handed place None) flow ∷ []
-    → after ≡ each_below (element_at d talkers edge) (place + 1)
-more_streams d talkers edge place flow before after so_far there is =
-    let element : FlowText → List ElementText = λ one. stream_element d talkers (slice_index_or edge.deadlines place None) (slice_index_or edge.handed place None) one ∷ [] in
-    more_below (element_at d talkers edge) place before after (element flow) so_far is (sym (ap (λ (found : Option FlowText). option_map_or element found []) there))
+pub more_streams : (d : Domain) (talkers : List TalkerLink) (edge : EdgeFlowsText) (index : ℕ) (flow : FlowText) (before after : List ElementText) →
+    before ≡ each_below (element_at d talkers edge) index → slice_get edge.flows index ≡ Some flow →
+    after ≡ before ++ stream_element d talkers (slice_index_or edge.deadlines index None) (slice_index_or edge.handed index None) flow ∷ []
+    → after ≡ each_below (element_at d talkers edge) (index + 1)
+more_streams d talkers edge index flow before after so_far there is =
+    let element : FlowText → List ElementText = λ one. stream_element d talkers (slice_index_or edge.deadlines index None) (slice_index_or edge.handed index None) one ∷ [] in
+    more_below (element_at d talkers edge) index before after (element flow) so_far is (sym (ap (λ (found : Option FlowText). option_map_or element found []) there))
 
--- the element at a place of a list, as it is seen
+-- the element at an index of a list, as it is seen
 pub seen_at : {X Y : Type 0} (view : X → Y) (xs : List X) (k : ℕ) (x d : X) → k < length xs → x ≡ get_or xs k d → slice_get (map view xs) k ≡ Some (view x)
 seen_at {X} {Y} view xs k x d below is = slice_get-map view xs k ∙ ap (option_map view) (slice_get-get_or xs k d below) ∙ ap (λ (y : X). Some (view y)) (sym is)

@@ -17,7 +17,7 @@ count_of Figures = 2
 
 -- two elements have the same values
 abbrev pub HaveSameValues : Form → ElementText → ElementText → Type 0
-HaveSameValues form before after = (place : ℕ) → place < count_of form → value_of before place ≡ value_of after place
+HaveSameValues form before after = (index : ℕ) → index < count_of form → value_of before index ≡ value_of after index
 
 -- an element has the same values in the second network, in which this is the first with its name
 abbrev pub IsKept : Form → ElementText → Option ElementText → Type 0

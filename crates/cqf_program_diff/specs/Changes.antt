@@ -16,7 +16,7 @@ is_named name element = bytes_eq element.name name
 
 -- the value at an index; empty if there is none
 abbrev pub value_of : ElementText → ℕ → List ℕ
-value_of element place = slice_index_or element.values place []
+value_of element index = slice_index_or element.values index []
 
 -- a line about an element: its kind, its name, what differs, and what it was and is
 abbrev pub property_line : Kind → List ℕ → List ℕ → List ℕ → List ℕ → List ℕ
@@ -28,7 +28,7 @@ changed_value kind name what before after = if bytes_eq before after then [] els
 -- the lines of an element that both networks have: one for each key whose value differs
 abbrev pub changed_values : Kind → ElementText → ElementText → List ℕ
 changed_values kind before after =
-    each_below (λ place. changed_value kind before.name (slice_index_or (keys_of kind) place []) (value_of before place) (value_of after place))
+    each_below (λ index. changed_value kind before.name (slice_index_or (keys_of kind) index []) (value_of before index) (value_of after index))
     (length (keys_of kind))
 
 -- a line about a figure: its name, what it was and is, and what is left

@@ -12,7 +12,7 @@ name_of_kind Stream = codes "stream"
 
 -- the keys of a network file, in the order of an element's values
 abbrev pub keys_of : Kind → List (List ℕ)
-keys_of Network = codes "cycle" ∷ codes "guard" ∷ codes "sync" ∷ []
+keys_of Network = codes "cycle" ∷ codes "guard" ∷ codes "sync" ∷ codes "gate-overhead" ∷ []
 keys_of Bridge = []
 keys_of Station = []
 keys_of Link = codes "rate" ∷ codes "delay" ∷ codes "guard" ∷ codes "other" ∷ []

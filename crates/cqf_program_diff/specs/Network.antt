@@ -11,7 +11,7 @@ use Rattle.cqf_program_diff.specs.Texts.{delay_text, optional_text}
 
 -- the network itself, which has no name
 abbrev pub network_element : Domain → ElementText
-network_element d = record { name = []; values = decimal d.cycle_time ∷ decimal d.guard ∷ decimal d.sync ∷ [] }
+network_element d = record { name = []; values = decimal d.cycle_time ∷ decimal d.guard ∷ decimal d.sync ∷ decimal d.overhead ∷ [] }
 
 -- a bridge or a station
 abbrev pub node_element : List ℕ → ElementText

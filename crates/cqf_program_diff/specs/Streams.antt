@@ -24,7 +24,7 @@ talker_name d link = name_of_node d (Station link.station) ++ (codes "@" ++ name
 
 abbrev pub talker_text : Domain → List TalkerLink → Option Handed → List ℕ
 talker_text d talkers None = []
-talker_text d talkers (Some handed) = option_map_or (talker_name d) (slice_get talkers handed.place) []
+talker_text d talkers (Some handed) = option_map_or (talker_name d) (slice_get talkers handed.index) []
 
 -- the fewest octets of a frame that is handed to an access link, if frames may be larger
 abbrev pub least_size_text : Option Handed → List ℕ
@@ -46,9 +46,9 @@ stream_element d talkers deadline handed flow = record {
 
 -- all streams, in their order
 abbrev pub element_at : Domain → List TalkerLink → EdgeFlowsText → ℕ → List ElementText
-element_at d talkers edge place = option_map_or
-    (λ (flow : FlowText). stream_element d talkers (slice_index_or edge.deadlines place None) (slice_index_or edge.handed place None) flow ∷ [])
-    (slice_get edge.flows place) []
+element_at d talkers edge index = option_map_or
+    (λ (flow : FlowText). stream_element d talkers (slice_index_or edge.deadlines index None) (slice_index_or edge.handed index None) flow ∷ [])
+    (slice_get edge.flows index) []
 
 abbrev pub stream_elements : Domain → List TalkerLink → EdgeFlowsText → List ElementText
 stream_elements d talkers edge = each_below (element_at d talkers edge) (length edge.flows)

@@ -43,10 +43,10 @@ impl Element {
     }
 
     /// Returns the value at an index; an empty text if there is none.
-    pub(crate) fn value(&self, place: usize) -> &str
-        ensures { result.now ≡ value_of self.now place }
+    pub(crate) fn value(&self, index: usize) -> &str
+        ensures { result.now ≡ value_of self.now index }
     {
-        match self.values.get(place) {
+        match self.values.get(index) {
             Some(value) => value.as_str(),
             None => "",
         }

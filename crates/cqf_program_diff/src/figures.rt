@@ -1,6 +1,6 @@
 //! The figures of a network: how long frames may take, and what its links hold.
 ghost use Rattle.std.specs.Prelude.{ℕ, ◌≡◌, ◌<◌, ◌∷◌, [], IfOk, length, map, slice_index_or};
-ghost use Rattle.cqf_admission.specs.Turns.{AreOfGoodPaces};
+ghost use Rattle.cqf_admission.specs.ActiveCycles.{AreOfGoodPaces};
 ghost use Rattle.cqf_laws_history.specs.StateLaws.{AreHeld};
 ghost use Rattle.cqf_lists.specs.Lists.{each_below};
 ghost use Rattle.cqf_program_diff.specs.Figures.{access_load_element, figures_of, latency_element, load_element};
@@ -60,10 +60,10 @@ fn load_element(alloc: Global, domain: &Domain, link: u16, held: u32) -> Result<
 }
 
 /// Returns the cost at an index; 0 if there is none.
-fn cost_at(costs: &[u32], place: u16) -> u32
-    ensures { result ≡ slice_index_or costs.now place 0 }
+fn cost_at(costs: &[u32], index: u16) -> u32
+    ensures { result ≡ slice_index_or costs.now index 0 }
 {
-    match costs.get(usize::from(place)) {
+    match costs.get(usize::from(index)) {
         Some(cost) => *cost,
         None => 0,
     }

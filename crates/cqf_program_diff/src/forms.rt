@@ -60,9 +60,9 @@ fn changed_values(
     ensures { IfOk result (λ text. string_bytes text ≡ changed_values kind before.now after.now) }
 {
     let mut text = String::new(alloc);
-    for place in 0..kind.count() {
-        let (old, new) = (before.value(place), after.value(place));
-        let line = changed_value(alloc, kind, before.name(), kind.key(place), old, new)?;
+    for index in 0..kind.count() {
+        let (old, new) = (before.value(index), after.value(index));
+        let line = changed_value(alloc, kind, before.name(), kind.key(index), old, new)?;
         text.push_str(line.as_str())?;
     }
     Ok(text)

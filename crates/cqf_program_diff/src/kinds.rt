@@ -15,7 +15,7 @@ pub(crate) enum Kind {
 }
 
 /// The keys of the network itself.
-const NETWORK: [&str; 3] = ["cycle", "guard", "sync"];
+const NETWORK: [&str; 4] = ["cycle", "guard", "sync", "gate-overhead"];
 
 /// The keys of a link.
 const LINK: [&str; 4] = ["rate", "delay", "guard", "other"];
@@ -70,10 +70,10 @@ impl Kind {
     }
 
     /// Returns the key at an index; an empty text if there is none.
-    pub(crate) fn key(self, place: usize) -> &'static str
-        ensures { result.now ≡ slice_index_or (keys_of self) place [] }
+    pub(crate) fn key(self, index: usize) -> &'static str
+        ensures { result.now ≡ slice_index_or (keys_of self) index [] }
     {
-        match self.keys().get(place) {
+        match self.keys().get(index) {
             Some(key) => *key,
             None => "",
         }

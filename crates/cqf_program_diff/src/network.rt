@@ -18,7 +18,8 @@ fn network_element(alloc: Global, domain: &Domain) -> Result<Element, Memory>
     let cycle = number_text(alloc, domain.cycle_time().0)?;
     let guard = number_text(alloc, domain.guard().0)?;
     let sync = number_text(alloc, domain.sync().0)?;
-    let values = vec![in alloc; cycle, guard, sync]?;
+    let overhead = number_text(alloc, u64::from(domain.overhead()))?;
+    let values = vec![in alloc; cycle, guard, sync, overhead]?;
     Ok(Element::new(String::new(alloc), values))
 }
 

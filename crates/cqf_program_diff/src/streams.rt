@@ -83,7 +83,7 @@ fn talker_text(
     let Some(handed) = handed else {
         return Ok(String::new(alloc));
     };
-    match talkers.get(handed.place) {
+    match talkers.get(handed.index) {
         Some(link) => talker_name(alloc, domain, link),
         None => Ok(String::new(alloc)),
     }
@@ -176,20 +176,20 @@ fn stream_element(
 }
 
 /// Returns the deadline at an index, in nanoseconds; `None` also if there is no such index.
-fn deadline_at(deadlines: &[Option<u32>], place: usize) -> Option<u32>
-    ensures { result ≡ slice_index_or deadlines.now place None }
+fn deadline_at(deadlines: &[Option<u32>], index: usize) -> Option<u32>
+    ensures { result ≡ slice_index_or deadlines.now index None }
 {
-    match deadlines.get(place) {
+    match deadlines.get(index) {
         Some(deadline) => *deadline,
         None => None,
     }
 }
 
 /// Returns what the stream at an index hands to an access link; `None` also if there is no such index.
-fn handed_at(all: &[Option<Handed>], place: usize) -> Option<Handed>
-    ensures { result ≡ slice_index_or all.now place None }
+fn handed_at(all: &[Option<Handed>], index: usize) -> Option<Handed>
+    ensures { result ≡ slice_index_or all.now index None }
 {
-    match all.get(place) {
+    match all.get(index) {
         Some(handed) => *handed,
         None => None,
     }
@@ -211,10 +211,10 @@ pub(crate) fn stream_elements(
     let deadlines = edge.deadlines.as_slice();
     let handed = edge.handed.as_slice();
     let mut elements = Vec::with_capacity(alloc, flows.len())?;
-    for place in 0..flows.len() {
-        let deadline = deadline_at(deadlines, place);
-        let one = handed_at(handed, place);
-        let element = stream_element(alloc, domain, talkers, deadline, &one, &flows[place])?;
+    for index in 0..flows.len() {
+        let deadline = deadline_at(deadlines, index);
+        let one = handed_at(handed, index);
+        let element = stream_element(alloc, domain, talkers, deadline, &one, &flows[index])?;
         elements.push(element)?;
     }
     Ok(elements)

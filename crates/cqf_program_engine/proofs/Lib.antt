@@ -1,3 +1,3 @@
 mod EdgeLemmas
 mod RunLemmas
-mod ToldLemmas
+mod WrittenLemmas

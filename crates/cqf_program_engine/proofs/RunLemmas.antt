@@ -15,10 +15,10 @@ use Rattle.cqf_output.specs.Edge.{Writing}
 use Rattle.cqf_output.specs.Kinds.{NoKind, SomeKind}
 use Rattle.cqf_program_engine.specs.Run.{first_line, input_of, version_line, words_of, AskForVersion, Ends}
 use Rattle.cqf_program_engine.specs.Run.{EndsByStatus, EndsDone, EndsFaulty, EndsInput, EndsRead, HandsOver, HasCause, HasFault}
-use Rattle.cqf_program_engine.specs.Run.{HasRun, HasWords, most_line, IsBehindWords, IsDone, IsEnd, IsFailure, IsOutput, IsResult, is_diff}
-use Rattle.cqf_program_engine.specs.Run.{IsFailedRun, IsMisuse, IsRefusedRun, TellsPlainly}
-use Rattle.cqf_program_engine.specs.Run.{IsRefusal, IsStopped, StopsWithAnswer, IsToldOutput, IsTooLong, IsWithin, most_bytes}
-use Rattle.cqf_program_engine.specs.Run.{FaultIsOfThreads, FaultIsOfThreadsOrOutput, TellsStop, TellsFaultAlone}
+use Rattle.cqf_program_engine.specs.Run.{HasRun, HasWords, most_line, IsAfterWords, IsDone, IsEnd, IsFailure, IsOutput, IsResult, is_diff}
+use Rattle.cqf_program_engine.specs.Run.{IsFailedRun, IsMisuse, IsRefusedRun, WritesPlainly}
+use Rattle.cqf_program_engine.specs.Run.{IsRefusal, IsStopped, StopsWithAnswer, IsWrittenOutput, IsTooLong, IsWithin, most_bytes}
+use Rattle.cqf_program_engine.specs.Run.{FaultIsOfThreads, FaultIsOfThreadsOrOutput, WritesStop, WritesFaultAlone}
 use Rattle.cqf_program_engine.specs.Run.{IsRunOf, IsThreadedRun, LeavesThreads, OnlyThreadsAreLeft, is_threaded}
 use Rattle.cqf_program_engine.specs.Prepared.{Begins, HasResult, HasText, is_of_diff, status_after}
 use Rattle.cqf_program_engine.specs.declared.prepared.PreparedOutput.{PreparedOutput}
@@ -36,15 +36,15 @@ use Rattle.cqf_program_words.specs.declared.words.Job.TheVariants.{Check, Compil
 
 -- given words that mean no job stop the run before anything is read
 pub IsStopped-by_words : (words : List (List ℕ)) (input : Reading) (stop : Stop) → words ≢ [] → input.failed ≡ false → EndsWords words stop
-    → ¬ AskForVersion words → ShowsWords words stop → TellsPlainly words stop → IsStopped words input stop
-IsStopped-by_words [] input stop some sound e no_version shows tells = absurd (some refl)
-IsStopped-by_words (word ∷ words) input stop some sound e no_version shows tells = elim e.statuses [
+    → ¬ AskForVersion words → ShowsWords words stop → WritesPlainly words stop → IsStopped words input stop
+IsStopped-by_words [] input stop some sound e no_version shows reports = absurd (some refl)
+IsStopped-by_words (word ∷ words) input stop some sound e no_version shows reports = elim e.statuses [
   | inl zero_is ↦ inl (zero_is, record { answered = inl (e.help zero_is); at_end = λ none. absurd (some none); sound = sound })
   | inr (inl two) ↦
       let misused : IsMisuse (word ∷ words) input.bytes stop = record {
         status = two;
         short = λ none. absurd (some none);
-        cause = inr (inr ((λ none. absurd (some none)), e.mistake two, e.no_job (λ three. omega arith), no_version, (shows, tells)));
+        cause = inr (inr ((λ none. absurd (some none)), e.mistake two, e.no_job (λ three. omega arith), no_version, (shows, reports)));
       } in
       inr (inr (inl (two, record { misused = misused; at_end = λ none. absurd (some none); sound = sound })))
   | inr (inr three) ↦ inr (inr (inr (inl (three, e.memory three))))
@@ -66,20 +66,20 @@ no_words_ask (inr same) = (cc)
 
 -- words of the first line that mean no job stop it too
 pub HasCause-by_line : (bytes : List ℕ) (stop : Stop) → length bytes ≤ most_bytes [] → HasWords bytes → EndsWords (words_of [] bytes) stop
-    → ShowsLine (first_line bytes) stop → (is_shown_whole (first_line bytes) ≡ true → TellsPlainly (words_of [] bytes) stop) → HasCause [] bytes stop
-HasCause-by_line bytes stop short text e shows tells = elim e.statuses [
+    → ShowsLine (first_line bytes) stop → (is_shown_whole (first_line bytes) ≡ true → WritesPlainly (words_of [] bytes) stop) → HasCause [] bytes stop
+HasCause-by_line bytes stop short text e shows reports = elim e.statuses [
   | inl zero_is ↦ inl (zero_is, inl (e.help zero_is))
   | inr (inl two) ↦
-      inr (inr (inl (record { status = two; short = λ none. short; cause = inr (inr ((λ none. text), e.mistake two, e.no_job (λ three. omega arith), no_words_ask, (shows, tells))) })))
+      inr (inr (inl (record { status = two; short = λ none. short; cause = inr (inr ((λ none. text), e.mistake two, e.no_job (λ three. omega arith), no_words_ask, (shows, reports))) })))
   | inr (inr three) ↦ inr (inr (inr (inl (three, e.memory three))))
 ]
 
 -- the report about a line's words, for the same line and words under other names
-pub TellsPlainly-of : {line first : List ℕ} {words taken : List (List ℕ)} (stop : Stop) → line ≡ first → words ≡ taken →
-    (is_shown_whole line ≡ true → TellsPlainly words stop) → is_shown_whole first ≡ true → TellsPlainly taken stop
-TellsPlainly-of {line} {first} {words} {taken} stop same_line same_words tells =
-    subst (λ (text : List ℕ). is_shown_whole text ≡ true → TellsPlainly taken stop) same_line
-    (subst (λ (those : List (List ℕ)). is_shown_whole line ≡ true → TellsPlainly those stop) same_words tells)
+pub WritesPlainly-of : {line first : List ℕ} {words taken : List (List ℕ)} (stop : Stop) → line ≡ first → words ≡ taken →
+    (is_shown_whole line ≡ true → WritesPlainly words stop) → is_shown_whole first ≡ true → WritesPlainly taken stop
+WritesPlainly-of {line} {first} {words} {taken} stop same_line same_words reports =
+    subst (λ (text : List ℕ). is_shown_whole text ≡ true → WritesPlainly taken stop) same_line
+    (subst (λ (those : List (List ℕ)). is_shown_whole line ≡ true → WritesPlainly those stop) same_words reports)
 
 -- a first line that isn't text stops it
 pub HasCause-by_bytes : (bytes : List ℕ) (stop : Stop) → length bytes ≤ most_bytes [] → ¬ IsUtf8 (first_line bytes)
@@ -209,21 +209,21 @@ HasCause-by_end words bytes job stop short text means (inr h) = HasCause-by_fail
 pub IsDone-by_line : (bytes rest output : List ℕ) (status : ℕ) (words : List (List ℕ)) (limits : Limits) (job : Job) → length bytes ≤ most_bytes [] → HasWords bytes
     → words ≡ words_of [] bytes → limits ≡ limits_of (words_of [] bytes) → rest ≡ input_of [] bytes → Mean words job → IsResult limits job rest output status
     → IsDone [] bytes output status
-IsDone-by_line bytes rest output status words limits job short text same within behind means h = record {
+IsDone-by_line bytes rest output status words limits job short text same within following means h = record {
   short = short;
   text = λ _. text;
   job = job;
   means = subst (λ (those : List (List ℕ)). Mean those job) same means;
-  result = subst₂ (λ (set : Limits) (input : List ℕ). IsResult set job input output status) within behind h;
+  result = subst₂ (λ (set : Limits) (input : List ℕ). IsResult set job input output status) within following h;
 }
 
 -- and one that ends without its output is stopped
 pub HasCause-by_line_end : (bytes rest : List ℕ) (words : List (List ℕ)) (limits : Limits) (job : Job) (stop : Stop) → length bytes ≤ most_bytes []
     → HasWords bytes → words ≡ words_of [] bytes → limits ≡ limits_of (words_of [] bytes) → rest ≡ input_of [] bytes → Mean words job
     → IsEnd limits job rest stop → HasCause [] bytes stop
-HasCause-by_line_end bytes rest words limits job stop short text same within behind means h =
+HasCause-by_line_end bytes rest words limits job stop short text same within following means h =
     HasCause-by_end [] bytes job stop short (λ _. text) (subst (λ (those : List (List ℕ)). Mean those job) same means)
-    (subst₂ (λ (set : Limits) (input : List ℕ). IsEnd set job input stop) within behind h)
+    (subst₂ (λ (set : Limits) (input : List ℕ). IsEnd set job input stop) within following h)
 
 -- if words are given, they are the run's
 means_given : (words : List (List ℕ)) (bytes : List ℕ) (job : Job) → words ≢ [] → Mean words job → Mean (words_of words bytes) job
@@ -284,19 +284,19 @@ statuses_after true text = status_by_length (length text == 0) (status_after tru
 -- the output of a job has the job's status
 pub HasResult-of : (limits : Limits) (job : Job) (input : List ℕ) (output : PreparedOutput) → is_of_diff output ≡ is_diff job
     → HasText (IsOutput limits job input) output → HasResult (IsResult limits job input) output
-HasResult-of limits job input output same told =
-    (told.0, told.1, record { is_output = told.2; is_status = ap (λ (of_diff : Bool). status_after of_diff told.0) same })
+HasResult-of limits job input output same reported =
+    (reported.0, reported.1, record { is_output = reported.2; is_status = ap (λ (of_diff : Bool). status_after of_diff reported.0) same })
 
 -- a run over a reader and an output that fail and refuse only for such kinds of error
 module _ (fails refuses : ErrorKind → Type 0) (words : List (List ℕ)) (input : Reading) (output faults : Writing)
     (may_fail : input.failed ≡ true → SomeKind fails) (may_refuse : output.refused ≡ true → SomeKind refuses) where
   -- a run that writes all of its output is done
-  EndsDone-told : (wanted : ℕ) (text : List ℕ) (status : ℕ) → IsToldOutput words input text wanted → input.failed ≡ false
+  EndsDone-reported : (wanted : ℕ) (text : List ℕ) (status : ℕ) → IsWrittenOutput words input text wanted → input.failed ≡ false
       → HandsOver wanted text output faults status → status ≡ wanted → EndsDone words input output faults wanted
-  EndsDone-told wanted text status is_output sound h same = record {
+  EndsDone-reported wanted text status is_output sound h same = record {
     text = text;
     is_output = is_output;
-    written = Appends-whole output text h.told (h.done same).0;
+    written = Appends-whole output text h.reported (h.done same).0;
     clean = (h.done same).1;
     sound = sound;
     accepted = (h.done same).0;
@@ -311,14 +311,14 @@ module _ (fails refuses : ErrorKind → Type 0) (words : List (List ℕ)) (input
       inr (inl (same ∙ one, inl (subst (λ (given : ℕ). EndsDone words input output faults given) one done)))
 
   -- a run that writes its output ends with that, or with the output's fault
-  Ends-told : (wanted : ℕ) (text : List ℕ) (status : ℕ) → (wanted ≡ 0) ⊎ (wanted ≡ 1) → IsHeard (most_bytes words) input → IsBehindWords words input
-      → IsToldOutput words input text wanted → input.failed ≡ false → HandsOver wanted text output faults status
+  Ends-reported : (wanted : ℕ) (text : List ℕ) (status : ℕ) → (wanted ≡ 0) ⊎ (wanted ≡ 1) → IsHeard (most_bytes words) input → IsAfterWords words input
+      → IsWrittenOutput words input text wanted → input.failed ≡ false → HandsOver wanted text output faults status
       → Ends fails refuses words input output faults status
-  Ends-told wanted text status few heard behind_words is_output sound h = record {
+  Ends-reported wanted text status few heard after_words is_output sound h = record {
     heard = heard;
-    behind_words = behind_words;
+    after_words = after_words;
     by_status = elim h.statuses [
-      | inl same ↦ by_done wanted status few same (EndsDone-told wanted text status is_output sound h same)
+      | inl same ↦ by_done wanted status few same (EndsDone-reported wanted text status is_output sound h same)
       | inr four ↦ inr (inr (inr (inr (
         four,
         inr (inl (record {
@@ -328,7 +328,7 @@ module _ (fails refuses : ErrorKind → Type 0) (words : List (List ℕ)) (input
           text = text;
           wanted = wanted;
           is_output = is_output;
-          told = h.told;
+          reported = h.reported;
           line = (h.fault four).1;
         })),
       ))))
@@ -336,47 +336,47 @@ module _ (fails refuses : ErrorKind → Type 0) (words : List (List ℕ)) (input
   }
 
   -- a run that is done ends with its output
-  pub Ends-ran : (of_diff : Bool) (text : List ℕ) (status : ℕ) → IsHeard (most_bytes words) input → IsBehindWords words input
+  pub Ends-ran : (of_diff : Bool) (text : List ℕ) (status : ℕ) → IsHeard (most_bytes words) input → IsAfterWords words input
       → HasRun words input text (status_after of_diff text) → HandsOver (status_after of_diff text) text output faults status
       → Ends fails refuses words input output faults status
-  Ends-ran of_diff text status heard behind_words ran h =
-      Ends-told (status_after of_diff text) text status (statuses_after of_diff text) heard behind_words (inl (ran.is_done, ran.at_end)) ran.sound h
+  Ends-ran of_diff text status heard after_words ran h =
+      Ends-reported (status_after of_diff text) text status (statuses_after of_diff text) heard after_words (inl (ran.is_done, ran.at_end)) ran.sound h
 
   -- a run that is stopped with status 4 ends with the fault of the reader, or of the run
-  fault_told : (stop : Stop) → HasFault words input stop → TellsFaultAlone stop.text.items output faults
+  fault_written : (stop : Stop) → HasFault words input stop → WritesFaultAlone stop.text.items output faults
       → EndsFaulty fails refuses words input output faults
-  fault_told stop (inl h) told = inl (record {
+  fault_written stop (inl h) reported = inl (record {
     failed = h.0;
     may = may_fail h.0;
-    told = subst (λ text. TellsFaultAlone text output faults) h.1 told;
+    reported = subst (λ text. WritesFaultAlone text output faults) h.1 reported;
   })
-  fault_told stop (inr h) told = inr (inr (record { sound = h.0; at_end = h.1; stop = stop; failed = h.2; told = told }))
+  fault_written stop (inr h) reported = inr (inr (record { sound = h.0; at_end = h.1; stop = stop; failed = h.2; reported = reported }))
 
   -- the one case of a run that is stopped by its own line
-  barred_by_status : (stop : Stop) → IsStopped words input stop → stop.status ≢ 0 → stop.status ≢ 3 → TellsFaultAlone stop.text.items output faults
+  barred_by_status : (stop : Stop) → IsStopped words input stop → stop.status ≢ 0 → stop.status ≢ 3 → WritesFaultAlone stop.text.items output faults
       → EndsByStatus fails refuses words input output faults stop.status
-  barred_by_status stop (inl e) some known told = absurd (some e.0)
-  barred_by_status stop (inr (inl e)) some known told =
-      inr (inl (e.0, inr (record { stop = stop; refused = e.1.refused; told = told; whole = e.1.whole; sound = e.1.sound })))
-  barred_by_status stop (inr (inr (inl e))) some known told =
-      inr (inr (inl (e.0, record { stop = stop; misused = e.1.misused; told = told; at_end = e.1.at_end; sound = e.1.sound })))
-  barred_by_status stop (inr (inr (inr (inl e)))) some known told = absurd (known e.0)
-  barred_by_status stop (inr (inr (inr (inr e)))) some known told = inr (inr (inr (inr (e.0, fault_told stop e.1 told))))
+  barred_by_status stop (inl e) some known reported = absurd (some e.0)
+  barred_by_status stop (inr (inl e)) some known reported =
+      inr (inl (e.0, inr (record { stop = stop; refused = e.1.refused; reported = reported; whole = e.1.whole; sound = e.1.sound })))
+  barred_by_status stop (inr (inr (inl e))) some known reported =
+      inr (inr (inl (e.0, record { stop = stop; misused = e.1.misused; reported = reported; at_end = e.1.at_end; sound = e.1.sound })))
+  barred_by_status stop (inr (inr (inr (inl e)))) some known reported = absurd (known e.0)
+  barred_by_status stop (inr (inr (inr (inr e)))) some known reported = inr (inr (inr (inr (e.0, fault_written stop e.1 reported))))
 
   -- a run that is stopped ends as it was stopped
-  pub Ends-stopped : (stop : Stop) (status : ℕ) → IsHeard (most_bytes words) input → IsBehindWords words input → IsStopped words input stop
-      → TellsStop stop output faults status → Ends fails refuses words input output faults status
-  Ends-stopped stop status heard behind_words s (inl t) =
+  pub Ends-stopped : (stop : Stop) (status : ℕ) → IsHeard (most_bytes words) input → IsAfterWords words input → IsStopped words input stop
+      → WritesStop stop output faults status → Ends fails refuses words input output faults status
+  Ends-stopped stop status heard after_words s (inl t) =
       let answer = answer_of words input stop s t.0 in
-      Ends-told 0 stop.text.items status (inl refl) heard behind_words (inr (refl, answer.answered, answer.at_end)) answer.sound t.1
-  Ends-stopped stop status heard behind_words s (inr (inl t)) = record {
+      Ends-reported 0 stop.text.items status (inl refl) heard after_words (inr (refl, answer.answered, answer.at_end)) answer.sound t.1
+  Ends-stopped stop status heard after_words s (inr (inl t)) = record {
     heard = heard;
-    behind_words = behind_words;
+    after_words = after_words;
     by_status = inr (inr (inr (inl (t.1, t.2))));
   }
-  Ends-stopped stop status heard behind_words s (inr (inr t)) = record {
+  Ends-stopped stop status heard after_words s (inr (inr t)) = record {
     heard = heard;
-    behind_words = behind_words;
+    after_words = after_words;
     by_status = subst (λ (given : ℕ). EndsByStatus fails refuses words input output faults given) (sym t.2) (barred_by_status stop s t.0 t.1 t.3);
   }
 
@@ -399,15 +399,15 @@ faulty_of fails refuses words input output faults e = elim e.by_status [
 pub faults-read : (fails refuses : ErrorKind → Type 0) → NoKind fails → FaultIsOfThreadsOrOutput fails refuses
 faults-read fails refuses none words input output faults e = elim (faulty_of fails refuses words input output faults e) [
   | inl read ↦ absurd (none_of fails none read.may)
-  | inr (inl told) ↦ inr told
+  | inr (inl reported) ↦ inr reported
   | inr (inr run) ↦ inl run
 ]
 
 -- and one of threads, if the output refuses nothing
-pub faults-told : (fails refuses : ErrorKind → Type 0) → NoKind fails → NoKind refuses → FaultIsOfThreads fails refuses
-faults-told fails refuses none nothing words input output faults e = elim (faults-read fails refuses none words input output faults e) [
+pub faults-reported : (fails refuses : ErrorKind → Type 0) → NoKind fails → NoKind refuses → FaultIsOfThreads fails refuses
+faults-reported fails refuses none nothing words input output faults e = elim (faults-read fails refuses none words input output faults e) [
   | inl run ↦ run
-  | inr told ↦ absurd (none_of refuses nothing told.may)
+  | inr reported ↦ absurd (none_of refuses nothing reported.may)
 ]
 
 -- a number that is read from a text is at most the limit
@@ -449,7 +449,7 @@ no_words (word ∷ words) none = absurd (omega (arith, none))
 -- the result of a run has a property that follows from another
 pub Begins-weaker : {A B : List ℕ → ℕ → Type 0} {P Q : ThreadedRun → Type 0} (begun : Begun) → ((text : List ℕ) (status : ℕ) → A text status → B text status)
     → ((threaded : ThreadedRun) → P threaded → Q threaded) → Begins A P begun → Begins B Q begun
-Begins-weaker (Ready output) outputs runs told = (told.0, told.1, outputs told.0 (status_after (is_of_diff output) told.0) told.2)
+Begins-weaker (Ready output) outputs runs reported = (reported.0, reported.1, outputs reported.0 (status_after (is_of_diff output) reported.0) reported.2)
 Begins-weaker (Threads threaded) outputs runs left = runs threaded left
 
 -- a job that is a run on threads leaves it, if its words are given

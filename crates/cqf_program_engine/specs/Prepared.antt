@@ -7,25 +7,25 @@ use Rattle.cqf_program_engine.specs.declared.prepared.PreparedOutput.{PreparedOu
 use Rattle.cqf_program_engine.specs.declared.prepared.PreparedOutput.TheVariants.{Account, Config, Deliveries, Differences, Hops, Latency, Line, Load, Object}
 use Rattle.cqf_program_engine.specs.declared.prepared.PreparedOutput.TheVariants.{Port, Run, Script, StreamLoads, Summary, Text, Variables}
 use Rattle.cqf_program_json.specs.Output.{text_of_json}
-use Rattle.cqf_program_plans.specs.Compile.Told.{text_of_config}
-use Rattle.cqf_program_summary.specs.Hops.Rounds.{IsToldText}
-use Rattle.cqf_program_runs.specs.Deliveries.Following.{AreDeliveriesTold}
+use Rattle.cqf_program_plans.specs.Compile.Written.{text_of_config}
+use Rattle.cqf_program_summary.specs.Hops.Rounds.{IsWrittenText}
+use Rattle.cqf_program_runs.specs.Deliveries.Following.{AreDeliveriesWritten}
 use Rattle.cqf_program_summary.specs.Summary.Text.{text_of_summary}
 use Rattle.cqf_program_plans.specs.Latency.Text.{text_of_latency}
-use Rattle.cqf_program_runs.specs.Line.Told.{IsLineTold}
+use Rattle.cqf_program_runs.specs.Line.Written.{IsLineWritten}
 use Rattle.cqf_program_plans.specs.Load.Streams.{text_of_streams}
-use Rattle.cqf_program_plans.specs.Load.Told.{text_of_load}
-use Rattle.cqf_program_plans.specs.Port.Told.{text_of_port}
-use Rattle.cqf_program_runs.specs.Run.Told.{IsRunTold}
+use Rattle.cqf_program_plans.specs.Load.Written.{text_of_load}
+use Rattle.cqf_program_plans.specs.Port.Written.{text_of_port}
+use Rattle.cqf_program_runs.specs.Run.Written.{IsRunWritten}
 use Rattle.cqf_program_tc.specs.Output.{text_of_env, text_of_tc}
-use Rattle.cqf_program_threads.specs.AccountTold.{text_of_account}
+use Rattle.cqf_program_threads.specs.AccountWritten.{text_of_account}
 
 -- the text is one of the output
 abbrev pub IsTextOf : PreparedOutput → List ℕ → Type 0
 IsTextOf (Text output) text = text ≡ output.items
 IsTextOf (Differences output) text = text ≡ output.items
 IsTextOf (Port output) text = text ≡ text_of_port output
-IsTextOf (Line output) text = IsLineTold output text
+IsTextOf (Line output) text = IsLineWritten output text
 IsTextOf (Config output) text = text ≡ text_of_config output
 IsTextOf (Script output) text = text ≡ text_of_tc output
 IsTextOf (Variables output) text = text ≡ text_of_env output
@@ -33,11 +33,11 @@ IsTextOf (Object output) text = text ≡ text_of_json output
 IsTextOf (Load output) text = text ≡ text_of_load output
 IsTextOf (StreamLoads output) text = text ≡ text_of_streams output
 IsTextOf (Latency output) text = text ≡ text_of_latency output
-IsTextOf (Run output) text = IsRunTold output text
+IsTextOf (Run output) text = IsRunWritten output text
 IsTextOf (Account output) text = text ≡ text_of_account output
-IsTextOf (Deliveries output) text = AreDeliveriesTold output text
+IsTextOf (Deliveries output) text = AreDeliveriesWritten output text
 IsTextOf (Summary output) text = text ≡ text_of_summary output
-IsTextOf (Hops output) text = IsToldText output text
+IsTextOf (Hops output) text = IsWrittenText output text
 
 -- the output is that of `diff`
 abbrev pub is_of_diff : PreparedOutput → Bool

@@ -10,7 +10,7 @@ use Rattle.cqf_program_engine.specs.declared.heard.ReadFailure.{ReadFailure}
 use Rattle.cqf_program_engine.specs.declared.heard.ReadFailure.TheVariants.{Memory, Fault}
 use Rattle.cqf_program_engine.specs.Prepared.{status_after}
 use Rattle.cqf_program_engine.specs.Edge.{IsHeard, Reading}
-use Rattle.cqf_output.specs.Edge.{HasTold, Writing}
+use Rattle.cqf_output.specs.Edge.{IsWritten, Writing}
 use Rattle.cqf_output.specs.Kinds.{SomeKind}
 use Rattle.cqf_output.specs.Stops.{EndsWith, IsRefused, line_of}
 use Rattle.cqf_program_scenario.specs.Scenario.{scenario_input}
@@ -37,15 +37,15 @@ use Rattle.cqf_program_summary.specs.Hops.Known.{wanted_scenario}
 use Rattle.cqf_program_summary.specs.Hops.Output.{IsHopsOutput}
 use Rattle.cqf_program_summary.specs.Hops.Legs.{Wanted}
 use Rattle.cqf_program_summary.specs.Summary.Output.{IsSummaryOutput}
-use Rattle.cqf_program_threads.specs.ThreadsOutput.{IsThreadsOutput, TellsFault}
+use Rattle.cqf_program_threads.specs.ThreadsOutput.{IsThreadsOutput, WritesFault}
 use Rattle.cqf_program_without.specs.Output.{IsPlanWithout, IsRefusalWithout}
 use Rattle.cqf_program_words.specs.Candidates.{times_of}
 use Rattle.cqf_program_words.specs.declared.words.Format.TheVariants as form
 use Rattle.cqf_program_words.specs.declared.plan_words.PlanOptions.{PlanOptions}
 use Rattle.cqf_program_words.specs.declared.words.Job.{Job}
 use Rattle.cqf_program_words.specs.declared.words.Job.TheVariants.{Check, Compile, Deliveries, Diff, Hops, Latency, Line, Load, Offers, Plan, Port, Report, Run, Summary}
-use Rattle.cqf_program_words.specs.Shown.{ShowsBehind, ShowsLine, ShowsWords, are_printable, is_shown_whole, no_command}
-use Rattle.cqf_program_words.specs.Words.{AreMistaken, AskForHelp, Mean, TellsMistake, ask_for_large, limits_of}
+use Rattle.cqf_program_words.specs.Shown.{ShowsAfter, ShowsLine, ShowsWords, are_printable, is_shown_whole, no_command}
+use Rattle.cqf_program_words.specs.Words.{AreMistaken, AskForHelp, Mean, WritesMistake, ask_for_large, limits_of}
 use Rattle.cqf_program_engine.specs.declared.runs.TheConstants.{VERSION}
 
 -- the job's numbers are within their limits
@@ -144,7 +144,7 @@ IsRefusal limits (Diff quiet) input stop = IsRefused (diff_of_input limits quiet
 
 -- a run on threads fails, with the line of its fault; its input isn't refused. No other job fails
 abbrev pub IsFailure : Limits → Job → List ℕ → Stop → Type 0
-IsFailure limits (Run cycles true) input stop = (stop.status ≡ 4) × TellsFault cycles (scenario_input limits cycles input) stop.text.items
+IsFailure limits (Run cycles true) input stop = (stop.status ≡ 4) × WritesFault cycles (scenario_input limits cycles input) stop.text.items
 IsFailure limits job input stop = ⊥
 
 -- how a job ends without its output
@@ -159,8 +159,8 @@ is_space byte = byte == 32
 abbrev pub first_line : List ℕ → List ℕ
 first_line bytes = before_first is_line_feed bytes
 
-abbrev pub behind_first_line : List ℕ → List ℕ
-behind_first_line bytes = after_first is_line_feed bytes
+abbrev pub after_first_line : List ℕ → List ℕ
+after_first_line bytes = after_first is_line_feed bytes
 
 -- the most octets of a first line that has words
 abbrev pub most_line : ℕ
@@ -179,7 +179,7 @@ words_of (word ∷ words) bytes = word ∷ words
 
 -- the input of the job: all bytes that were read or, if the first line has the words, those that follow it
 abbrev pub input_of : List (List ℕ) → List ℕ → List ℕ
-input_of [] bytes = behind_first_line bytes
+input_of [] bytes = after_first_line bytes
 input_of (word ∷ words) bytes = bytes
 
 -- the most bytes that the program reads, by the given words: more if these contain `--large`. Words of the input's
@@ -213,15 +213,15 @@ AskForVersion words = (words ≡ codes "--version" ∷ []) ⊎ (words ≡ codes 
 
 -- if the words are all printable and clap accepts them, a mistake in them is reported by a line of the program's own,
 -- which says what is expected
-abbrev pub TellsPlainly : List (List ℕ) → Stop → Type 0
-TellsPlainly words stop = are_printable words ≡ true → TellsMistake words stop
+abbrev pub WritesPlainly : List (List ℕ) → Stop → Type 0
+WritesPlainly words stop = are_printable words ≡ true → WritesMistake words stop
 
 -- how a mistake is reported: by a line of the program's own that shows the words escaped, if given words aren't all
 -- printable or a first line with the words isn't shown as it is; otherwise by a line of the program's own if clap
 -- accepts the words, and by clap's text if it doesn't
 abbrev pub ShowsMistake : List (List ℕ) → List ℕ → Stop → Type 0
-ShowsMistake [] bytes stop = ShowsLine (first_line bytes) stop × (is_shown_whole (first_line bytes) ≡ true → TellsPlainly (words_of [] bytes) stop)
-ShowsMistake (word ∷ words) bytes stop = ShowsWords (word ∷ words) stop × TellsPlainly (word ∷ words) stop
+ShowsMistake [] bytes stop = ShowsLine (first_line bytes) stop × (is_shown_whole (first_line bytes) ≡ true → WritesPlainly (words_of [] bytes) stop)
+ShowsMistake (word ∷ words) bytes stop = ShowsWords (word ∷ words) stop × WritesPlainly (word ∷ words) stop
 
 -- the words mean no job: those of the first line aren't text; this line is too long to have words; or the words are a
 -- mistake, and don't request the version. The stop has status 2
@@ -229,7 +229,7 @@ pub record IsMisuse (words : List (List ℕ)) (bytes : List ℕ) (stop : Stop) :
   pub status : stop.status ≡ 2
   pub short : words ≡ [] → length bytes ≤ most_bytes words
   pub cause : ((words ≡ []) × ¬ IsUtf8 (first_line bytes) × (stop.text.items ≡ line_of (codes "cqf: words")))
-      ⊎ (((words ≡ []) × (most_line < length (first_line bytes)) × ShowsBehind no_command stop.text.items)
+      ⊎ (((words ≡ []) × (most_line < length (first_line bytes)) × ShowsAfter no_command stop.text.items)
       ⊎ ((words ≡ [] → HasWords bytes) × AreMistaken (words_of words bytes) × ((job : Job) → ¬ Mean (words_of words bytes) job)
       × ¬ AskForVersion words × ShowsMistake words bytes stop))
 
@@ -253,8 +253,8 @@ abbrev pub IsAll : List (List ℕ) → Reading → Type 0
 IsAll words input = IsTooLong (most_bytes words) input.bytes ⊎ IsAtEnd input.after
 
 -- before anything is read, given words mean a job
-abbrev pub IsBehindWords : List (List ℕ) → Reading → Type 0
-IsBehindWords words input = words ≢ [] → ((job : Job) × Mean words job) ⊎ ((input.bytes ≡ []) × (input.failed ≡ false))
+abbrev pub IsAfterWords : List (List ℕ) → Reading → Type 0
+IsAfterWords words input = words ≢ [] → ((job : Job) × Mean words job) ⊎ ((input.bytes ≡ []) × (input.failed ≡ false))
 
 -- the stop of a read that ended early: status 4 and the line about it if the reader failed, status 3 for lack of memory
 abbrev pub EndsRead : ReadFailure → Stop → Type 0
@@ -359,45 +359,45 @@ pub record LeavesThreads (words : List (List ℕ)) (input : Reading) (threaded :
 
 -- how a run ends after its output was written: with a given status, and nothing is on the writer of faults; or the
 -- output refused some of it, and the line about that is on the writer of faults
-pub record EndsTold (wanted : ℕ) (refused : Bool) (faults : Writing) (status : ℕ) : Type 0 where
+pub record EndsWritten (wanted : ℕ) (refused : Bool) (faults : Writing) (status : ℕ) : Type 0 where
   pub statuses : (status ≡ wanted) ⊎ (status ≡ 4)
   pub done : status ≡ wanted → (refused ≡ false) × Keeps faults.before faults.after
-  pub fault : status ≡ 4 → (refused ≡ true) × HasTold faults (line_of (codes "cqf: output fault"))
+  pub fault : status ≡ 4 → (refused ≡ true) × IsWritten faults (line_of (codes "cqf: output fault"))
 
 -- the text was written: all of it, with a given status, and nothing on the writer of faults; or the output refused some
 -- of it, and the line about that is on the writer of faults
 pub record HandsOver (wanted : ℕ) (text : List ℕ) (output faults : Writing) (status : ℕ) : Type 0 where
   pub statuses : (status ≡ wanted) ⊎ (status ≡ 4)
-  pub told : HasTold output text
+  pub reported : IsWritten output text
   pub done : status ≡ wanted → (output.refused ≡ false) × Keeps faults.before faults.after
-  pub fault : status ≡ 4 → (output.refused ≡ true) × HasTold faults (line_of (codes "cqf: output fault"))
+  pub fault : status ≡ 4 → (output.refused ≡ true) × IsWritten faults (line_of (codes "cqf: output fault"))
 
 -- what the run writes on its output, and the status after it: the output of its job, or the help or the version that was
 -- requested
-abbrev pub IsToldOutput : List (List ℕ) → Reading → List ℕ → ℕ → Type 0
-IsToldOutput words input text status = (IsDone words input.bytes text status × IsAtEnd input.after)
+abbrev pub IsWrittenOutput : List (List ℕ) → Reading → List ℕ → ℕ → Type 0
+IsWrittenOutput words input text status = (IsDone words input.bytes text status × IsAtEnd input.after)
     ⊎ ((status ≡ 0) × IsQuestionAnswered words input.bytes text × (words ≡ [] → IsAtEnd input.after))
 
 -- nothing is on the output, and this text was written on the writer of faults: all of it, if that writer refused
 -- nothing
-pub record TellsFaultAlone (text : List ℕ) (output faults : Writing) : Type 0 where
+pub record WritesFaultAlone (text : List ℕ) (output faults : Writing) : Type 0 where
   pub quiet : Keeps output.before output.after
   pub accepted : output.refused ≡ false
-  pub line : HasTold faults text
+  pub line : IsWritten faults text
 
 -- the text of a stop was written: a requested one on the output, and the line of any other stop on the writer of faults
 -- only
-abbrev pub TellsStop : Stop → Writing → Writing → ℕ → Type 0
-TellsStop stop output faults status = ((stop.status ≡ 0) × HandsOver 0 stop.text.items output faults status)
-    ⊎ (((stop.status ≡ 3) × (status ≡ 3) × TellsFaultAlone (line_of (codes "cqf: out of memory")) output faults)
-    ⊎ ((stop.status ≢ 0) × (stop.status ≢ 3) × (status ≡ stop.status) × TellsFaultAlone stop.text.items output faults))
+abbrev pub WritesStop : Stop → Writing → Writing → ℕ → Type 0
+WritesStop stop output faults status = ((stop.status ≡ 0) × HandsOver 0 stop.text.items output faults status)
+    ⊎ (((stop.status ≡ 3) × (status ≡ 3) × WritesFaultAlone (line_of (codes "cqf: out of memory")) output faults)
+    ⊎ ((stop.status ≢ 0) × (stop.status ≢ 3) × (status ≡ stop.status) × WritesFaultAlone stop.text.items output faults))
 
 -- the reader failed, with one of these kinds of error; nothing is on the output, and the line about that is on the
 -- writer of faults
 pub record IsInputFault (fails : ErrorKind → Type 0) (input : Reading) (output faults : Writing) : Type 0 where
   pub failed : input.failed ≡ true
   pub may : SomeKind fails
-  pub told : TellsFaultAlone (line_of (codes "cqf: input fault")) output faults
+  pub reported : WritesFaultAlone (line_of (codes "cqf: input fault")) output faults
 
 -- the output refused a part, with one of these kinds of error; the beginning of the text was written, and the line
 -- about that is on the writer of faults
@@ -407,9 +407,9 @@ pub record IsOutputFault (refuses : ErrorKind → Type 0) (words : List (List �
   pub sound : input.failed ≡ false
   pub text : List ℕ
   pub wanted : ℕ
-  pub is_output : IsToldOutput words input text wanted
-  pub told : HasTold output text
-  pub line : HasTold faults (line_of (codes "cqf: output fault"))
+  pub is_output : IsWrittenOutput words input text wanted
+  pub reported : IsWritten output text
+  pub line : IsWritten faults (line_of (codes "cqf: output fault"))
 
 -- a run on threads failed, after its input was read to the end; nothing is on the output, and the line about that is on
 -- the writer of faults
@@ -418,12 +418,12 @@ pub record EndsByRunFault (words : List (List ℕ)) (input : Reading) (output fa
   pub at_end : IsAtEnd input.after
   pub stop : Stop
   pub failed : IsFailedRun words input.bytes stop
-  pub told : TellsFaultAlone stop.text.items output faults
+  pub reported : WritesFaultAlone stop.text.items output faults
 
 -- the run's output was written, or the requested help or version, and nothing else; the status is that of the output
 pub record EndsDone (words : List (List ℕ)) (input : Reading) (output faults : Writing) (status : ℕ) : Type 0 where
   pub text : List ℕ
-  pub is_output : IsToldOutput words input text status
+  pub is_output : IsWrittenOutput words input text status
   pub written : Appends output.before output.after text
   pub clean : Keeps faults.before faults.after
   pub sound : input.failed ≡ false
@@ -433,7 +433,7 @@ pub record EndsDone (words : List (List ℕ)) (input : Reading) (output faults :
 pub record EndsRefused (words : List (List ℕ)) (input : Reading) (output faults : Writing) : Type 0 where
   pub stop : Stop
   pub refused : IsRefusedRun words input.bytes stop
-  pub told : TellsFaultAlone stop.text.items output faults
+  pub reported : WritesFaultAlone stop.text.items output faults
   pub whole : IsAll words input
   pub sound : input.failed ≡ false
 
@@ -441,13 +441,13 @@ pub record EndsRefused (words : List (List ℕ)) (input : Reading) (output fault
 pub record EndsMisused (words : List (List ℕ)) (input : Reading) (output faults : Writing) : Type 0 where
   pub stop : Stop
   pub misused : IsMisuse words input.bytes stop
-  pub told : TellsFaultAlone stop.text.items output faults
+  pub reported : WritesFaultAlone stop.text.items output faults
   pub at_end : words ≡ [] → IsAtEnd input.after
   pub sound : input.failed ≡ false
 
 -- status 3: memory was lacking
 abbrev pub EndsForMemory : Writing → Writing → Type 0
-EndsForMemory output faults = TellsFaultAlone (line_of (codes "cqf: out of memory")) output faults
+EndsForMemory output faults = WritesFaultAlone (line_of (codes "cqf: out of memory")) output faults
 
 -- status 4: the reader failed, or the output refused a write, or a run on threads failed
 abbrev pub EndsFaulty : (ErrorKind → Type 0) → (ErrorKind → Type 0) → List (List ℕ) → Reading → Writing → Writing → Type 0
@@ -466,7 +466,7 @@ EndsByStatus fails refuses words input output faults status = ((status ≡ 0) ×
 -- these kinds of error
 pub record Ends (fails refuses : ErrorKind → Type 0) (words : List (List ℕ)) (input : Reading) (output faults : Writing) (status : ℕ) : Type 0 where
   pub heard : IsHeard (most_bytes words) input
-  pub behind_words : IsBehindWords words input
+  pub after_words : IsAfterWords words input
   pub by_status : EndsByStatus fails refuses words input output faults status
 
 -- status 4 is that of a run on threads that failed, or of an output that refused a write

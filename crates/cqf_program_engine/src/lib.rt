@@ -1,11 +1,11 @@
 //! A run of the program, from its words and its input to its output, over any reader and any writers.
 //!
-//! - [`engine`] runs it, and returns the exit status. [`tell`] ends a run before it has begun. `VERSION` is the
+//! - [`engine`] runs it, and returns the exit status. [`write`] ends a run before it has begun. `VERSION` is the
 //!   program's version.
 //! - [`run_unless_threaded`] is all of the engine except for a run on threads, which it returns as a [`ThreadedRun`].
 //!   It has no handle that may wait, so it returns if each read and each write does; [`engine_ends`] says for which
 //!   words no run on threads is left.
-//! - [`Heard`] is a reader that remembers what was read and whether a read failed. [`Told`] is a writer that remembers
+//! - [`Heard`] is a reader that remembers what was read and whether a read failed. [`CheckedSink`] is a writer that remembers
 //!   whether it refused anything. The engine runs over these, so its caller knows why a run ended.
 //! - A [`Source`] is a reader with the kinds of error with which it may fail; a [`Sink`] is a writer with the kinds
 //!   with which it may refuse. `fault_is_of_threads` gives the cause of status 4 if there are none.
@@ -17,7 +17,7 @@
 //!   written.
 //!
 //! `specs/Edge.antt` defines what was read (`Reading`), and that of `cqf_output` what was written (`Writing`,
-//! `HasTold`). `specs/Prepared.antt` defines the text of an output (`IsTextOf`). `specs/Run.antt` defines the results
+//! `IsWritten`). `specs/Prepared.antt` defines the text of an output (`IsTextOf`). `specs/Run.antt` defines the results
 //! of a run (`IsDone`, `IsRefusedRun`, `IsMisuse`, `IsFailedRun`), when a run on threads is left to be made
 //! (`LeavesThreads`), and what holds after the engine has run, by its status (`Ends`).
 //!
@@ -40,10 +40,10 @@ mod sources;
 mod texts;
 
 pub use begun::ThreadedRun;
-pub use cqf_output::{Sink, Told};
+pub use cqf_output::{CheckedSink, Sink};
 pub use heard::Heard;
 pub use inputs::{MOST_BYTES, MOST_BYTES_OF_LARGE, most_bytes, read_input};
 pub use laws::{engine_ends, fault_in_memory_is_of_threads_or_memory};
-pub use runs::{answer, engine, run_unless_threaded, tell};
+pub use runs::{answer, engine, run_unless_threaded, write};
 pub use sources::Source;
 pub use texts::Texts;

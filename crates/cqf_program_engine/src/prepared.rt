@@ -1,9 +1,9 @@
 //! An output, before it is written.
 ghost use Rattle.std.specs.Prelude.{ℕ, ◌≡◌, ◌≤◌, List};
 ghost use Rattle.cqf_program_engine.specs.Prepared.{IsTextOf, is_of_diff, status_after};
-ghost use Rattle.cqf_output.specs.Edge.{HasTold, writing};
+ghost use Rattle.cqf_output.specs.Edge.{IsWritten, writing};
 
-use cqf_output::{DONE, REFUSED, Sink, Told, write_out};
+use cqf_output::{CheckedSink, DONE, REFUSED, Sink, write_out};
 use cqf_program_json::JsonOutput;
 use cqf_program_plans::{ConfigOutput, LatencyOutput, LoadOutput, PortOutput, StreamLoadsOutput};
 use cqf_program_runs::{DeliveriesOutput, LineOutput, RunOutput};
@@ -61,27 +61,27 @@ impl PreparedOutput {
     }
 
     /// Writes the output: all of it or, if the writer refuses a part, its beginning. Allocates no memory.
-    pub fn tell<W: Sink>(self, told: &mut Told<W>)
-        ensures { (text : List ℕ) → IsTextOf self text → HasTold (writing W.contents told.old told.new) text }
+    pub fn write<W: Sink>(self, reported: &mut CheckedSink<W>)
+        ensures { (text : List ℕ) → IsTextOf self text → IsWritten (writing W.contents reported.old reported.new) text }
     {
         match self {
             PreparedOutput::Text(text) | PreparedOutput::Differences(text) => {
-                write_out(told, text.as_slice())
+                write_out(reported, text.as_slice())
             }
-            PreparedOutput::Port(output) => output.tell(told),
-            PreparedOutput::Line(output) => output.tell(told),
-            PreparedOutput::Config(output) => output.tell(told),
-            PreparedOutput::Script(output) => output.tell(told),
-            PreparedOutput::Variables(output) => output.tell(told),
-            PreparedOutput::Object(output) => output.tell(told),
-            PreparedOutput::Load(output) => output.tell(told),
-            PreparedOutput::StreamLoads(output) => output.tell(told),
-            PreparedOutput::Latency(output) => output.tell(told),
-            PreparedOutput::Run(output) => output.tell(told),
-            PreparedOutput::Account(output) => output.tell(told),
-            PreparedOutput::Deliveries(output) => output.tell(told),
-            PreparedOutput::Summary(output) => output.tell(told),
-            PreparedOutput::Hops(output) => output.tell(told),
+            PreparedOutput::Port(output) => output.write(reported),
+            PreparedOutput::Line(output) => output.write(reported),
+            PreparedOutput::Config(output) => output.write(reported),
+            PreparedOutput::Script(output) => output.write(reported),
+            PreparedOutput::Variables(output) => output.write(reported),
+            PreparedOutput::Object(output) => output.write(reported),
+            PreparedOutput::Load(output) => output.write(reported),
+            PreparedOutput::StreamLoads(output) => output.write(reported),
+            PreparedOutput::Latency(output) => output.write(reported),
+            PreparedOutput::Run(output) => output.write(reported),
+            PreparedOutput::Account(output) => output.write(reported),
+            PreparedOutput::Deliveries(output) => output.write(reported),
+            PreparedOutput::Summary(output) => output.write(reported),
+            PreparedOutput::Hops(output) => output.write(reported),
         }
     }
 }

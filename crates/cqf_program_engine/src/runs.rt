@@ -16,9 +16,9 @@ ghost use Rattle.cqf_output.specs.Stops.{EndsWith, IsRefused};
 ghost use Rattle.cqf_program_tc.specs.Output.{env_of_input};
 ghost use Rattle.cqf_program_engine.specs.Run.{IsRunOf, IsThreadedRun, LeavesThreads, MeanNoThreads};
 ghost use Rattle.cqf_program_engine.specs.Run.{version_line, IsAsking, IsVersionWord, IsWithin, IsOutput, input_of, words_of};
-ghost use Rattle.cqf_program_engine.specs.Run.{IsRefusal, IsBehindWords, Ends, EndsTold, HandsOver, HasCause, HasRun};
-ghost use Rattle.cqf_program_engine.specs.Run.{IsDone, IsResult, IsStopped, TellsPlainly, TellsStop, is_space, is_threaded, first_line, wanted_of};
-ghost use Rattle.cqf_program_engine.specs.Run.{behind_first_line, is_diff, most_bytes, search_of};
+ghost use Rattle.cqf_program_engine.specs.Run.{IsRefusal, IsAfterWords, Ends, EndsWritten, HandsOver, HasCause, HasRun};
+ghost use Rattle.cqf_program_engine.specs.Run.{IsDone, IsResult, IsStopped, WritesPlainly, WritesStop, is_space, is_threaded, first_line, wanted_of};
+ghost use Rattle.cqf_program_engine.specs.Run.{after_first_line, is_diff, most_bytes, search_of};
 ghost use Rattle.cqf_model.specs.Limits.{most_cycles};
 
 use crate::begun::{Begun, ThreadedRun};
@@ -27,7 +27,7 @@ use crate::inputs::{MOST_BYTES, most_bytes, read_input};
 use crate::prepared::PreparedOutput;
 use crate::sources::Source;
 use cqf_model::Limits;
-use cqf_output::{DONE, FAULT, NO_MEMORY, Sink, Stop, Told, USAGE, told_text, write_out};
+use cqf_output::{CheckedSink, DONE, FAULT, NO_MEMORY, Sink, Stop, USAGE, write_out, written_text};
 use cqf_program_diff::diff_output;
 use cqf_program_json::json_output;
 use cqf_program_offers::offers_output;
@@ -249,12 +249,12 @@ fn prepare(
 }
 
 /// Returns the text of an output. Returns `Memory` if an allocation fails.
-fn text_told(alloc: Global, output: PreparedOutput) -> Result<Vec<u8>, Memory>
-    ensures { IfOk result (λ told. (text : List ℕ) → IsTextOf output text → told.items ≡ text) }
+fn text_written(alloc: Global, output: PreparedOutput) -> Result<Vec<u8>, Memory>
+    ensures { IfOk result (λ reported. (text : List ℕ) → IsTextOf output text → reported.items ≡ text) }
 {
-    let mut told = Told::new(Vec::new(alloc));
-    output.tell(&mut told);
-    told_text(told)
+    let mut reported = CheckedSink::new(Vec::new(alloc));
+    output.write(&mut reported);
+    written_text(reported)
 }
 
 /// Returns the output of a job other than a run on threads, for an input that is read within given limits. `rt` is for
@@ -275,7 +275,7 @@ pub fn answer(
     ensures err { IfErr result (IsRefusal limits job.now input.now) }
 {
     let output = prepare(rt, alloc, limits, job, input)?;
-    match text_told(alloc, output) {
+    match text_written(alloc, output) {
         Ok(text) => Ok(text),
         Err(_) => Err(Stop::memory(alloc)),
     }
@@ -378,7 +378,7 @@ fn run_given<R: Source>(
     requires given { map (λ word. word.now) words.now ≢ [] }
     requires unheard { IsUnheard input.old }
     ensures heard { IsHeard (most_bytes (map (λ word. word.now) words.now)) (reading R.remaining input.old input.new) }
-    ensures behind_words { IsBehindWords (map (λ word. word.now) words.now) (reading R.remaining input.old input.new) }
+    ensures after_words { IsAfterWords (map (λ word. word.now) words.now) (reading R.remaining input.old input.new) }
     ensures ok { IfOk result (Begins (HasRun (map (λ word. word.now) words.now) (reading R.remaining input.old input.new)) (LeavesThreads (map (λ word. word.now) words.now) (reading R.remaining input.old input.new))) }
     ensures err { IfErr result (IsStopped (map (λ word. word.now) words.now) (reading R.remaining input.old input.new)) }
 {
@@ -398,7 +398,7 @@ fn run_given<R: Source>(
 /// Returns the first line of the bytes, and what follows it.
 fn split_first_line(bytes: &[u8]) -> (&[u8], &[u8])
     ensures line { result.0.now ≡ first_line bytes.now }
-    ensures rest { result.1.now ≡ behind_first_line bytes.now }
+    ensures rest { result.1.now ≡ after_first_line bytes.now }
 {
     match split_line(bytes) {
         Some(found) => found,
@@ -412,7 +412,7 @@ fn read_line(alloc: Global, line: &str, words: &[&str]) -> Result<Job, Stop>
     ensures ok { IfOk result (Mean (map (λ word. word.now) words.now)) }
     ensures err { IfErr result (EndsWords (map (λ word. word.now) words.now)) }
     ensures shows { IfErr result (ShowsLine line.now) }
-    ensures tells { IfErr result (λ stop. is_shown_whole line.now ≡ true → TellsPlainly (map (λ word. word.now) words.now) stop) }
+    ensures reports { IfErr result (λ stop. is_shown_whole line.now ≡ true → WritesPlainly (map (λ word. word.now) words.now) stop) }
 {
     match read_words(alloc, words) {
         Ok(job) => Ok(job),
@@ -469,7 +469,7 @@ fn run<R: Source>(
 ) -> Result<Begun, Stop>
     requires { IsUnheard input.old }
     ensures heard { IsHeard (most_bytes (map (λ word. word.now) words.now)) (reading R.remaining input.old input.new) }
-    ensures behind_words { IsBehindWords (map (λ word. word.now) words.now) (reading R.remaining input.old input.new) }
+    ensures after_words { IsAfterWords (map (λ word. word.now) words.now) (reading R.remaining input.old input.new) }
     ensures ok { IfOk result (Begins (HasRun (map (λ word. word.now) words.now) (reading R.remaining input.old input.new)) (LeavesThreads (map (λ word. word.now) words.now) (reading R.remaining input.old input.new))) }
     ensures err { IfErr result (IsStopped (map (λ word. word.now) words.now) (reading R.remaining input.old input.new)) }
 {
@@ -482,9 +482,13 @@ fn run<R: Source>(
 
 /// Returns the status after an output was written: the given one; or 4 if the output refused some of it. A line on the
 /// writer of faults says so.
-fn end_told<O: Sink, F: Sink>(wanted: u8, output: &Told<O>, faults: &mut Told<F>) -> u8
+fn end_written<O: Sink, F: Sink>(
+    wanted: u8,
+    output: &CheckedSink<O>,
+    faults: &mut CheckedSink<F>,
+) -> u8
     requires { wanted < 4 }
-    ensures { EndsTold wanted output.now.refused (writing F.contents faults.old faults.new) result }
+    ensures { EndsWritten wanted output.now.refused (writing F.contents faults.old faults.new) result }
 {
     if output.is_refused() {
         write_out(faults, b"cqf: output fault\n");
@@ -494,32 +498,40 @@ fn end_told<O: Sink, F: Sink>(wanted: u8, output: &Told<O>, faults: &mut Told<F>
 }
 
 /// Writes all of a text. Returns the status: 0, or 4 if the output refuses some of it.
-fn hand_over<O: Sink, F: Sink>(text: &[u8], output: &mut Told<O>, faults: &mut Told<F>) -> u8
+fn hand_over<O: Sink, F: Sink>(
+    text: &[u8],
+    output: &mut CheckedSink<O>,
+    faults: &mut CheckedSink<F>,
+) -> u8
     ensures { HandsOver 0 text.now (writing O.contents output.old output.new) (writing F.contents faults.old faults.new) result }
 {
     write_out(output, text);
-    end_told(DONE, output, faults)
+    end_written(DONE, output, faults)
 }
 
 /// Writes all of an output. Returns the status: that of the output, or 4 if the writer refuses some of it.
-fn tell_output<O: Sink, F: Sink>(
+fn write_output<O: Sink, F: Sink>(
     prepared: PreparedOutput,
-    output: &mut Told<O>,
-    faults: &mut Told<F>,
+    output: &mut CheckedSink<O>,
+    faults: &mut CheckedSink<F>,
 ) -> u8
     ensures { (text : List ℕ) → IsTextOf prepared text →
         HandsOver (status_after (is_of_diff prepared) text) text (writing O.contents output.old output.new) (writing F.contents faults.old faults.new) result }
 {
     let wanted = prepared.status();
-    prepared.tell(output);
-    end_told(wanted, output, faults)
+    prepared.write(output);
+    end_written(wanted, output, faults)
 }
 
 /// Writes the text of a stop: help or the version on the output, and anything else on the writer of faults. Returns the
 /// status.
-pub fn tell<O: Sink, F: Sink>(stop: &Stop, output: &mut Told<O>, faults: &mut Told<F>) -> u8
+pub fn write<O: Sink, F: Sink>(
+    stop: &Stop,
+    output: &mut CheckedSink<O>,
+    faults: &mut CheckedSink<F>,
+) -> u8
     requires { output.old.refused ≡ false }
-    ensures { TellsStop stop.now (writing O.contents output.old output.new) (writing F.contents faults.old faults.new) result }
+    ensures { WritesStop stop.now (writing O.contents output.old output.new) (writing F.contents faults.old faults.new) result }
 {
     if stop.status == DONE {
         return hand_over(stop.text.as_slice(), output, faults);
@@ -543,13 +555,13 @@ pub fn run_unless_threaded<R: Source, O: Sink, F: Sink>(
     alloc: Global,
     words: &[&str],
     input: &mut Heard<R>,
-    output: &mut Told<O>,
-    faults: &mut Told<F>,
+    output: &mut CheckedSink<O>,
+    faults: &mut CheckedSink<F>,
 ) -> Result<u8, ThreadedRun>
     requires unheard { IsUnheard input.old }
     requires accepted { output.old.refused ≡ false }
     ensures heard { IsHeard (most_bytes (map (λ word. word.now) words.now)) (reading R.remaining input.old input.new) }
-    ensures behind_words { IsBehindWords (map (λ word. word.now) words.now) (reading R.remaining input.old input.new) }
+    ensures after_words { IsAfterWords (map (λ word. word.now) words.now) (reading R.remaining input.old input.new) }
     ensures ended { IfOk result (Ends R.fails O.refuses (map (λ word. word.now) words.now) (reading R.remaining input.old input.new)
         (writing O.contents output.old output.new) (writing F.contents faults.old faults.new)) }
     ensures left { IfErr result (LeavesThreads (map (λ word. word.now) words.now) (reading R.remaining input.old input.new)) }
@@ -558,9 +570,9 @@ pub fn run_unless_threaded<R: Source, O: Sink, F: Sink>(
     ensures ends { MeanNoThreads (words_of (map (λ word. word.now) words.now) input.new.bytes) → IsOk result }
 {
     match run(rt, alloc, words, input) {
-        Ok(Begun::Ready(prepared)) => Ok(tell_output(prepared, output, faults)),
+        Ok(Begun::Ready(prepared)) => Ok(write_output(prepared, output, faults)),
         Ok(Begun::Threads(threaded)) => Err(threaded),
-        Err(stop) => Ok(tell(&stop, output, faults)),
+        Err(stop) => Ok(write(&stop, output, faults)),
     }
 }
 
@@ -618,8 +630,8 @@ pub fn engine<R: Source, O: Sink, F: Sink>(
     alloc: Global,
     words: &[&str],
     input: &mut Heard<R>,
-    output: &mut Told<O>,
-    faults: &mut Told<F>,
+    output: &mut CheckedSink<O>,
+    faults: &mut CheckedSink<F>,
 ) -> u8
     requires unheard { IsUnheard input.old }
     requires accepted { output.old.refused ≡ false }
@@ -631,7 +643,7 @@ pub fn engine<R: Source, O: Sink, F: Sink>(
         Err(threaded) => threaded,
     };
     match prepare_threads(rt, alloc, threaded, input_of(words, input.bytes())) {
-        Ok(prepared) => tell_output(prepared, output, faults),
-        Err(stop) => tell(&stop, output, faults),
+        Ok(prepared) => write_output(prepared, output, faults),
+        Err(stop) => write(&stop, output, faults),
     }
 }

@@ -1,1 +1,1 @@
-mod ToldLemmas
+mod ReportedLemmas

@@ -3,7 +3,7 @@
 use crate::given::CommandInput;
 use crate::places::Grouped;
 use crate::reading::{domain_at, edge_traffic, read_network, request_of};
-use crate::told::ToldLines;
+use crate::reported::ReportedLines;
 use crate::written::{KeyOwner, WrittenItem};
 use cqf_admission::{Admission, budget_on, guard_on};
 use cqf_model::{LEAST_OCTETS, LONGEST_CYCLE, Link, MOST_OCTETS, Node, Refused};
@@ -53,17 +53,17 @@ fn answer_to(admission: &mut Admission, request: &PacedRequest) -> Result<Answer
     }
 }
 
-/// Returns what a reservation costs on a link, in octets.
-fn cost_of(octets: u32) -> u32 {
-    cost(Octets(octets.min(MOST_OCTETS))).0
+/// Returns what a reservation costs on a link of a domain, in octets.
+fn cost_of(domain: &Domain, octets: u32) -> u32 {
+    cost(Octets(domain.overhead()), Octets(octets.min(MOST_OCTETS))).0
 }
 
-/// Returns the greatest reservation that costs no more than this, in octets; `None` if there is none.
-fn greatest_within(left: u32) -> Option<u32> {
+/// Returns the greatest reservation that costs no more than this in a domain, in octets; `None` if there is none.
+fn greatest_within(domain: &Domain, left: u32) -> Option<u32> {
     let (mut least, mut most) = (0u32, MOST_OCTETS);
     for _ in 0..HALVINGS {
         let middle = least.saturating_add(most).div_ceil(2);
-        if cost_of(middle) <= left {
+        if cost_of(domain, middle) <= left {
             least = middle;
         } else {
             most = middle.saturating_sub(1);
@@ -132,7 +132,7 @@ impl Granted {
         let mut admission = self.admission(alloc, &self.domain)?;
         let (mut asked, mut short) = (request.try_copy(alloc)?, short);
         for _ in 0..MOST_SHORT {
-            let Some(octets) = greatest_within(short.left) else {
+            let Some(octets) = greatest_within(&self.domain, short.left) else {
                 return Ok(None);
             };
             asked.octets = octets;
@@ -154,7 +154,8 @@ impl Granted {
     ) -> Result<Option<u32>, AllocError> {
         let (mut domain, mut short) = (self.domain.try_copy(alloc)?, short);
         for _ in 0..MOST_SHORT {
-            let Some(cycle) = cycle_with(&domain, short, cost_of(request.octets)) else {
+            let cost = cost_of(&domain, request.octets);
+            let Some(cycle) = cycle_with(&domain, short, cost) else {
                 return Ok(None);
             };
             if u64::from(cycle) <= domain.cycle_time().0 {
@@ -189,15 +190,16 @@ impl Granted {
     }
 }
 
-/// Returns a number if octets are enough for a stream's traffic in a cycle of this length, in ns.
+/// Returns a number if octets are enough for a stream's traffic in a cycle of this length, in ns, given the gate overhead.
 fn if_enough(
     number: Option<u32>,
     traffic: &Option<Traffic>,
+    overhead: u32,
     octets: u32,
     cycle: u64,
 ) -> Option<u32> {
     match traffic {
-        Some(traffic) if u128::from(octets) < traffic.needed(Nanos(cycle)) => None,
+        Some(traffic) if u128::from(octets) < traffic.needed(overhead, Nanos(cycle)) => None,
         _ => number,
     }
 }
@@ -225,19 +227,19 @@ fn remedy_of(
 ) -> Result<String, AllocError> {
     let fewer = granted.fitting_octets(alloc, request, short)?;
     let longer = granted.fitting_cycle(alloc, request, short)?;
-    let now = granted.domain.cycle_time().0;
+    let (overhead, now) = (granted.domain.overhead(), granted.domain.cycle_time().0);
     let (octets, cycle) = (fewer.unwrap_or(0), u64::from(longer.unwrap_or(0)));
     remedy(
         alloc,
-        if_enough(fewer, &traffic, octets, now),
-        if_enough(longer, &traffic, request.octets, cycle),
+        if_enough(fewer, &traffic, overhead, octets, now),
+        if_enough(longer, &traffic, overhead, request.octets, cycle),
     )
 }
 
 /// Reports a stream for which a link has too little left.
-fn tell_short(
+fn report_short(
     given: &CommandInput<'_>,
-    told: &mut ToldLines,
+    reported: &mut ReportedLines,
     granted: &Granted,
     item: &WrittenItem<'_>,
     short: Short,
@@ -255,20 +257,20 @@ fn tell_short(
     let traffic = granted.traffic.get(item.number as usize).copied().flatten();
     let remedy = remedy_of(alloc, granted, &request, traffic, short)?;
     let (cost, left, budget) = (
-        Grouped(u64::from(cost_of(request.octets))),
+        Grouped(u64::from(cost_of(domain, request.octets))),
         Grouped(u64::from(short.left)),
         Grouped(u64::from(budget_on(domain, short.link).0)),
     );
     let (place, label) = (item.place_of("octets"), item.counted(alloc)?);
-    told.tell(format!(in alloc;
+    reported.report(format!(in alloc;
         "{place}: {label} needs {cost} octets a cycle on {from}>{to}, where {left} of {budget} are left{remedy}"
     )?)
 }
 
 /// Reports each stream for which a link has too little left beside the streams that are granted before it.
-pub(crate) fn tell_short_streams(
+pub(crate) fn report_short_streams(
     given: &CommandInput<'_>,
-    told: &mut ToldLines,
+    reported: &mut ReportedLines,
 ) -> Result<(), AllocError> {
     let alloc = given.alloc;
     let Some(network) = read_network(given)? else {
@@ -287,8 +289,8 @@ pub(crate) fn tell_short_streams(
         let request = request_of(alloc, item)?;
         match answer_to(&mut admission, &request)? {
             Answer::Granted => granted.requests.push(request)?,
-            Answer::Short(short) if !told.is_counted() => {
-                tell_short(given, told, &granted, item, short)?;
+            Answer::Short(short) if !reported.is_counted() => {
+                report_short(given, reported, &granted, item, short)?;
             }
             _ => {}
         }

@@ -3,9 +3,9 @@
 use crate::given::CommandInput;
 use crate::places::Grouped;
 use crate::refusal::Refusal;
+use crate::reported::ReportedLines;
 use crate::script_faults::names_of;
 use crate::table_faults::count_of_offers;
-use crate::told::ToldLines;
 use crate::words::{question, shortened, some_of};
 use crate::written::KeyOwner;
 use std::alloc::{AllocError, Global};
@@ -29,9 +29,9 @@ fn meant_words(
 }
 
 /// Reports a bridge that the words name and the network lacks.
-pub(crate) fn tell_unknown_bridge(
+pub(crate) fn report_unknown_bridge(
     given: &CommandInput<'_>,
-    told: &mut ToldLines,
+    reported: &mut ReportedLines,
     name: &str,
 ) -> Result<(), AllocError> {
     let (alloc, network) = (given.alloc, given.network()?);
@@ -40,18 +40,18 @@ pub(crate) fn tell_unknown_bridge(
     };
     let (place, shown) = (found.place, shortened(alloc, name)?);
     if network.is_node(name) {
-        return told.tell(format!(in alloc;
+        return reported.report(format!(in alloc;
             "{place}: {shown} is a station: --bridge names a bridge"
         )?);
     }
     let meant = meant_words(alloc, name, "bridges", network.bridges.as_slice())?;
-    told.tell(format!(in alloc; "{place}: no bridge {shown}{meant}")?)
+    reported.report(format!(in alloc; "{place}: no bridge {shown}{meant}")?)
 }
 
 /// Reports a stream that the words name, and neither the plan nor an offer.
-fn tell_unknown_stream(
+fn report_unknown_stream(
     given: &CommandInput<'_>,
-    told: &mut ToldLines,
+    reported: &mut ReportedLines,
     name: &str,
 ) -> Result<(), AllocError> {
     let (alloc, names) = (given.alloc, names_of(given)?);
@@ -66,26 +66,29 @@ fn tell_unknown_stream(
     match items.first() {
         Some(first) => {
             let place = first.place();
-            told.tell(format!(in alloc; "{place}: {subject}{meant}")?)
+            reported.report(format!(in alloc; "{place}: {subject}{meant}")?)
         }
-        None => told.tell(format!(in alloc; "{subject}{meant}")?),
+        None => reported.report(format!(in alloc; "{subject}{meant}")?),
     }
 }
 
 /// Reports that there are fewer offers than the number of a frame.
-fn tell_no_frame(given: &CommandInput<'_>, told: &mut ToldLines) -> Result<(), AllocError> {
+fn report_no_frame(
+    given: &CommandInput<'_>,
+    reported: &mut ReportedLines,
+) -> Result<(), AllocError> {
     let alloc = given.alloc;
     match count_of_offers(given)? {
-        Some((place, 0)) => told.tell(format!(in alloc; "{place}: the table has no offers")?),
+        Some((place, 0)) => reported.report(format!(in alloc; "{place}: the table has no offers")?),
         Some((place, count)) => {
             let count = Grouped(count);
-            told.tell(format!(in alloc;
+            reported.report(format!(in alloc;
                 "{place}: an offer's number is that of its row, 1 to {count} in this table"
             )?)
         }
         None => {
             let cycles = Grouped(u64::from(given.cycles.unwrap_or(0)));
-            told.tell(format!(in alloc;
+            reported.report(format!(in alloc;
                 "the program makes fewer offers for {cycles} cycles: give more cycles"
             )?)
         }
@@ -93,14 +96,14 @@ fn tell_no_frame(given: &CommandInput<'_>, told: &mut ToldLines) -> Result<(), A
 }
 
 /// Reports the stream or the frame that `hops` doesn't find.
-pub(crate) fn tell_hops(
+pub(crate) fn report_hops(
     given: &CommandInput<'_>,
-    told: &mut ToldLines,
+    reported: &mut ReportedLines,
     refusal: Refusal<'_>,
 ) -> Result<(), AllocError> {
     match refusal.fault {
-        "UnknownStream" => tell_unknown_stream(given, told, refusal.value),
-        "NoFrame" => tell_no_frame(given, told),
+        "UnknownStream" => report_unknown_stream(given, reported, refusal.value),
+        "NoFrame" => report_no_frame(given, reported),
         _ => Ok(()),
     }
 }

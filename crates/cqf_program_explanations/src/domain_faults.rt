@@ -4,7 +4,7 @@ use crate::given::CommandInput;
 use crate::network::{Network, WrittenLink};
 use crate::places::{Grouped, Place};
 use crate::planning::{candidates_of, is_duplex, is_of_domain, talker_of};
-use crate::told::ToldLines;
+use crate::reported::ReportedLines;
 use crate::words::shortened;
 use crate::written::{FoundKey, KeyOwner, WrittenItem};
 use cqf_model::{LARGE, Limits};
@@ -23,9 +23,9 @@ const GAP_OCTETS: u64 = 12;
 const SHORTEST_OCTETS: u64 = 72;
 
 /// Reports each name of an array that occurred before, and keeps the places of the others.
-fn tell_taken<'p>(
+fn report_taken<'p>(
     given: &CommandInput<'_>,
-    told: &mut ToldLines,
+    reported: &mut ReportedLines,
     firsts: &mut BTreeMap<&'p str, Place<'p>>,
     key: &str,
     names: &[FoundKey<'p>],
@@ -35,11 +35,13 @@ fn tell_taken<'p>(
             continue;
         };
         if let Some(first) = firsts.get(name) {
-            if told.is_counted() {
+            if reported.is_counted() {
                 continue;
             }
             let (place, shown) = (found.place, shortened(given.alloc, name)?);
-            told.tell(format!(in given.alloc; "{place}: {key}: {shown} is already at {first}")?)?;
+            reported.report(format!(in given.alloc;
+                "{place}: {key}: {shown} is already at {first}"
+            )?)?;
         } else {
             firsts.insert(name, found.place)?;
         }
@@ -48,48 +50,54 @@ fn tell_taken<'p>(
 }
 
 /// Reports each name that occurred before, bridges before stations.
-pub(crate) fn tell_name_taken(
+pub(crate) fn report_name_taken(
     given: &CommandInput<'_>,
-    told: &mut ToldLines,
+    reported: &mut ReportedLines,
 ) -> Result<(), AllocError> {
     let (bridges, stations) = (
         given.written.names("bridges")?,
         given.written.names("stations")?,
     );
     let mut firsts = BTreeMap::new(given.alloc);
-    tell_taken(given, told, &mut firsts, "bridges", bridges.as_slice())?;
-    tell_taken(given, told, &mut firsts, "stations", stations.as_slice())
+    report_taken(given, reported, &mut firsts, "bridges", bridges.as_slice())?;
+    report_taken(
+        given,
+        reported,
+        &mut firsts,
+        "stations",
+        stations.as_slice(),
+    )
 }
 
 /// Reports an access link that doesn't lead to a bridge.
-fn tell_talkers_end(
+fn report_talkers_end(
     given: &CommandInput<'_>,
-    told: &mut ToldLines,
+    reported: &mut ReportedLines,
     network: &Network<'_>,
     link: &WrittenLink<'_>,
 ) -> Result<(), AllocError> {
     if network.is_bridge(link.from) || !network.is_node(link.from) || network.is_bridge(link.to) {
         return Ok(());
     }
-    if told.is_counted() {
+    if reported.is_counted() {
         return Ok(());
     }
     let shown = shortened(given.alloc, link.to)?;
     let words = format!(in given.alloc;
         "to: {shown} is a station: a link from a station leads to a bridge"
     )?;
-    tell_of_link(given, told, link, "to", words.as_str())
+    report_of_link(given, reported, link, "to", words.as_str())
 }
 
 /// Reports an end of a link that isn't a node.
-fn tell_no_node(
+fn report_no_node(
     given: &CommandInput<'_>,
-    told: &mut ToldLines,
+    reported: &mut ReportedLines,
     network: &Network<'_>,
     link: &WrittenLink<'_>,
     (key, name): (&str, &str),
 ) -> Result<(), AllocError> {
-    if network.is_node(name) || told.is_counted() {
+    if network.is_node(name) || reported.is_counted() {
         return Ok(());
     }
     let (shown, question) = (
@@ -97,29 +105,29 @@ fn tell_no_node(
         network.node_question(given.alloc, name)?,
     );
     let words = format!(in given.alloc; "{key}: no bridge or station {shown}{question}")?;
-    tell_of_link(given, told, link, key, words.as_str())
+    report_of_link(given, reported, link, key, words.as_str())
 }
 
 /// Reports what is wrong with the ends of a link.
-fn tell_ends(
+fn report_ends(
     given: &CommandInput<'_>,
-    told: &mut ToldLines,
+    reported: &mut ReportedLines,
     network: &Network<'_>,
     link: &WrittenLink<'_>,
 ) -> Result<(), AllocError> {
-    tell_no_node(given, told, network, link, ("from", link.from))?;
+    report_no_node(given, reported, network, link, ("from", link.from))?;
     if !network.is_node(link.to) {
-        return tell_no_node(given, told, network, link, ("to", link.to));
+        return report_no_node(given, reported, network, link, ("to", link.to));
     }
     if link.from != link.to {
-        return tell_talkers_end(given, told, network, link);
+        return report_talkers_end(given, reported, network, link);
     }
-    if told.is_counted() {
+    if reported.is_counted() {
         return Ok(());
     }
-    tell_of_link(
+    report_of_link(
         given,
-        told,
+        reported,
         link,
         "to",
         "to: a link's from and to are different nodes",
@@ -127,19 +135,19 @@ fn tell_ends(
 }
 
 /// Reports each end of a link that isn't a node which may be there.
-pub(crate) fn tell_unknown_names(
+pub(crate) fn report_unknown_names(
     given: &CommandInput<'_>,
-    told: &mut ToldLines,
+    reported: &mut ReportedLines,
 ) -> Result<(), AllocError> {
     let network = given.network()?;
     for link in &network.links {
-        tell_ends(given, told, &network, link)?;
+        report_ends(given, reported, &network, link)?;
     }
     Ok(())
 }
 
 /// Returns the name of a link that may be two: its number and its ends, in both directions.
-fn both_ways(given: &CommandInput<'_>, link: &WrittenLink<'_>) -> Result<String, AllocError> {
+fn both_directions(given: &CommandInput<'_>, link: &WrittenLink<'_>) -> Result<String, AllocError> {
     let label = link.item.label(given.alloc)?;
     if !is_duplex(link) {
         return Ok(label);
@@ -152,20 +160,20 @@ fn both_ways(given: &CommandInput<'_>, link: &WrittenLink<'_>) -> Result<String,
 }
 
 /// Reports a link whose ends, in one direction or the other, an earlier link has.
-fn tell_twice(
+fn report_twice(
     given: &CommandInput<'_>,
-    told: &mut ToldLines,
+    reported: &mut ReportedLines,
     first: &WrittenLink<'_>,
     link: &WrittenLink<'_>,
     ends: (&str, &str),
 ) -> Result<(), AllocError> {
-    if told.is_counted() {
+    if reported.is_counted() {
         return Ok(());
     }
-    let (place, label) = (link.item.place(), both_ways(given, link)?);
+    let (place, label) = (link.item.place(), both_directions(given, link)?);
     let (number, first_place) = (first.item.number, first.item.place());
     if !is_duplex(link) && !is_duplex(first) {
-        return told.tell(format!(in given.alloc;
+        return reported.report(format!(in given.alloc;
             "{place}: {label}: link {number} at {first_place} already has these ends"
         )?);
     }
@@ -173,61 +181,61 @@ fn tell_twice(
         shortened(given.alloc, ends.0)?,
         shortened(given.alloc, ends.1)?,
     );
-    let earlier = both_ways(given, first)?;
-    told.tell(format!(in given.alloc;
+    let earlier = both_directions(given, first)?;
+    reported.report(format!(in given.alloc;
         "{place}: {label}: {from}>{to} is already one of {earlier} at {first_place}"
     )?)
 }
 
 /// Reports a link whose ends an earlier one has, in one direction or the other; keeps the places of the others.
-fn tell_if_twice<'p>(
+fn report_if_twice<'p>(
     given: &CommandInput<'_>,
-    told: &mut ToldLines,
+    reported: &mut ReportedLines,
     firsts: &mut BTreeMap<(&'p str, &'p str), WrittenLink<'p>>,
     link: &WrittenLink<'p>,
     ends: (&'p str, &'p str),
 ) -> Result<(), AllocError> {
     if let Some(first) = firsts.get(&ends) {
-        return tell_twice(given, told, first, link, ends);
+        return report_twice(given, reported, first, link, ends);
     }
     firsts.insert(ends, *link)?;
     Ok(())
 }
 
 /// Reports each link whose ends are those of an earlier one; a link may be two, one in each direction.
-pub(crate) fn tell_links_twice(
+pub(crate) fn report_links_twice(
     given: &CommandInput<'_>,
-    told: &mut ToldLines,
+    reported: &mut ReportedLines,
 ) -> Result<(), AllocError> {
     let network = given.network()?;
     let mut firsts: BTreeMap<(&str, &str), WrittenLink<'_>> = BTreeMap::new(given.alloc);
     for link in &network.links {
-        tell_if_twice(given, told, &mut firsts, link, (link.from, link.to))?;
+        report_if_twice(given, reported, &mut firsts, link, (link.from, link.to))?;
         if is_duplex(link) {
-            tell_if_twice(given, told, &mut firsts, link, (link.to, link.from))?;
+            report_if_twice(given, reported, &mut firsts, link, (link.to, link.from))?;
         }
     }
     Ok(())
 }
 
 /// Reports each link that has `other` and leaves no station.
-pub(crate) fn tell_misplaced_others(
+pub(crate) fn report_misplaced_others(
     given: &CommandInput<'_>,
-    told: &mut ToldLines,
+    reported: &mut ReportedLines,
 ) -> Result<(), AllocError> {
     let network = given.network()?;
     for link in &network.links {
         if link.item.get("other").is_none() || talker_of(&network, link).is_some() {
             continue;
         }
-        if told.is_counted() {
+        if reported.is_counted() {
             continue;
         }
         let other = Grouped(link.item.number("other"));
         let words = format!(in given.alloc;
             "other = {other}: only a link from a station has this key"
         )?;
-        tell_of_link(given, told, link, "other", words.as_str())?;
+        report_of_link(given, reported, link, "other", words.as_str())?;
     }
     Ok(())
 }
@@ -251,27 +259,27 @@ fn times_of(network: &Network<'_>, link: &WrittenLink<'_>) -> Option<LinkTimes> 
 }
 
 /// Reports what is wrong with a link, at one of its keys.
-fn tell_of_link(
+fn report_of_link(
     given: &CommandInput<'_>,
-    told: &mut ToldLines,
+    reported: &mut ReportedLines,
     link: &WrittenLink<'_>,
     key: &str,
     words: &str,
 ) -> Result<(), AllocError> {
     let (place, label) = (link.item.place_of(key), link.item.label(given.alloc)?);
-    told.tell(format!(in given.alloc; "{place}: {label}: {words}")?)
+    reported.report(format!(in given.alloc; "{place}: {label}: {words}")?)
 }
 
 /// Reports a guard band that isn't shorter than a cycle time.
-pub(crate) fn tell_guard_at(
+pub(crate) fn report_guard_at(
     given: &CommandInput<'_>,
-    told: &mut ToldLines,
+    reported: &mut ReportedLines,
     cycle: u64,
 ) -> Result<(), AllocError> {
     if let Some(found) = given.written.top("guard") {
         let (place, cycle) = (found.place, Grouped(cycle));
         let guard = Grouped(given.written.number("guard"));
-        told.tell(format!(in given.alloc;
+        reported.report(format!(in given.alloc;
             "{place}: the guard band of {guard} ns isn't shorter than the cycle time, {cycle} ns"
         )?)?;
     }
@@ -279,22 +287,25 @@ pub(crate) fn tell_guard_at(
 }
 
 /// Reports a guard band that isn't shorter than any cycle time, by the greatest of these.
-pub(crate) fn tell_guard(given: &CommandInput<'_>, told: &mut ToldLines) -> Result<(), AllocError> {
-    tell_guard_at(given, told, greatest_cycle(given)?)
+pub(crate) fn report_guard(
+    given: &CommandInput<'_>,
+    reported: &mut ReportedLines,
+) -> Result<(), AllocError> {
+    report_guard_at(given, reported, greatest_cycle(given)?)
 }
 
 /// Reports each link whose own guard band isn't shorter than any cycle time, by the greatest of these.
-pub(crate) fn tell_link_guards(
+pub(crate) fn report_link_guards(
     given: &CommandInput<'_>,
-    told: &mut ToldLines,
+    reported: &mut ReportedLines,
 ) -> Result<(), AllocError> {
-    tell_link_guards_at(given, told, greatest_cycle(given)?)
+    report_link_guards_at(given, reported, greatest_cycle(given)?)
 }
 
 /// Reports each link whose own guard band isn't shorter than a cycle time.
-pub(crate) fn tell_link_guards_at(
+pub(crate) fn report_link_guards_at(
     given: &CommandInput<'_>,
-    told: &mut ToldLines,
+    reported: &mut ReportedLines,
     cycle: u64,
 ) -> Result<(), AllocError> {
     let network = given.network()?;
@@ -303,12 +314,12 @@ pub(crate) fn tell_link_guards_at(
         let Some(guard) = own.map(u64::from).filter(|guard| *guard >= cycle) else {
             continue;
         };
-        if !told.is_counted() {
+        if !reported.is_counted() {
             let (guard, cycle) = (Grouped(guard), Grouped(cycle));
             let words = format!(in given.alloc;
                 "the guard band of {guard} ns isn't shorter than the cycle time, {cycle} ns"
             )?;
-            tell_of_link(given, told, link, "guard", words.as_str())?;
+            report_of_link(given, reported, link, "guard", words.as_str())?;
         }
     }
     Ok(())
@@ -329,9 +340,9 @@ fn delay_words(alloc: Global, delay: u64, sync: u64, guard: u64) -> Result<Strin
 }
 
 /// Reports each link whose greatest delay, plus how far clocks may differ, isn't shorter than its guard band.
-pub(crate) fn tell_delays(
+pub(crate) fn report_delays(
     given: &CommandInput<'_>,
-    told: &mut ToldLines,
+    reported: &mut ReportedLines,
 ) -> Result<(), AllocError> {
     let (network, guard, sync) = (
         given.network()?,
@@ -342,23 +353,26 @@ pub(crate) fn tell_delays(
         let Some(times) = times_of(&network, link) else {
             continue;
         };
-        if times.has_long_delay(sync, guard) && !told.is_counted() {
+        if times.has_long_delay(sync, guard) && !reported.is_counted() {
             let (delay, own) = (u64::from(times.delay), u64::from(times.guard_within(guard)));
             let words = delay_words(given.alloc, delay, u64::from(sync), own)?;
-            tell_of_link(given, told, link, "delay", words.as_str())?;
+            report_of_link(given, reported, link, "delay", words.as_str())?;
         }
     }
     Ok(())
 }
 
 /// Reports each link on which the gap after a frame is longer than the guard band.
-pub(crate) fn tell_gaps(given: &CommandInput<'_>, told: &mut ToldLines) -> Result<(), AllocError> {
+pub(crate) fn report_gaps(
+    given: &CommandInput<'_>,
+    reported: &mut ReportedLines,
+) -> Result<(), AllocError> {
     let (network, guard) = (given.network()?, given.written.short("guard"));
     for link in &network.links {
         let Some(times) = times_of(&network, link) else {
             continue;
         };
-        if times.has_long_gap(guard) && !told.is_counted() {
+        if times.has_long_gap(guard) && !reported.is_counted() {
             let (rate, gap, own) = (
                 link.item.number("rate"),
                 Grouped(time_of(GAP_OCTETS, times.rate)),
@@ -367,27 +381,30 @@ pub(crate) fn tell_gaps(given: &CommandInput<'_>, told: &mut ToldLines) -> Resul
             let words = format!(in given.alloc;
                 "the gap of 12 octets takes {gap} ns at {rate} Mb/s, more than the guard band, {own} ns"
             )?;
-            tell_of_link(given, told, link, "rate", words.as_str())?;
+            report_of_link(given, reported, link, "rate", words.as_str())?;
         }
     }
     Ok(())
 }
 
 /// Reports each link on which a shortest frame takes less, with the least delay, than clocks may differ.
-pub(crate) fn tell_syncs(given: &CommandInput<'_>, told: &mut ToldLines) -> Result<(), AllocError> {
+pub(crate) fn report_syncs(
+    given: &CommandInput<'_>,
+    reported: &mut ReportedLines,
+) -> Result<(), AllocError> {
     let (network, sync) = (given.network()?, given.written.short("sync"));
     for link in &network.links {
         let Some(times) = times_of(&network, link) else {
             continue;
         };
-        if times.has_long_sync(sync) && !told.is_counted() {
+        if times.has_long_sync(sync) && !reported.is_counted() {
             let (shortest, least) = (time_of(SHORTEST_OCTETS, times.rate), u64::from(times.least));
             let most = Grouped(shortest.saturating_add(least));
             let (shortest, least) = (Grouped(shortest), Grouped(least));
             let words = format!(in given.alloc;
                 "sync = {sync}: the shortest frame takes {shortest} ns and the least delay is {least} ns, so sync can be at most {most} ns"
             )?;
-            tell_of_link(given, told, link, "delay", words.as_str())?;
+            report_of_link(given, reported, link, "delay", words.as_str())?;
         }
     }
     Ok(())
@@ -439,9 +456,9 @@ fn count_of_access(network: &Network<'_>) -> u64 {
 }
 
 /// Reports too many access links.
-fn tell_many_access_links(
+fn report_many_access_links(
     given: &CommandInput<'_>,
-    told: &mut ToldLines,
+    reported: &mut ReportedLines,
 ) -> Result<(), AllocError> {
     let count = count_of_access(&given.network()?);
     let most = access_links_within(given.limits);
@@ -449,7 +466,7 @@ fn tell_many_access_links(
         Some(found) if count > most => {
             let (place, count, most) = (found.place, Grouped(count), Grouped(most));
             let larger = given.larger(access_links_within(LARGE))?;
-            told.tell(format!(in given.alloc;
+            reported.report(format!(in given.alloc;
                 "{place}: {count} access links: a network has at most {most}{larger}"
             )?)
         }
@@ -458,9 +475,9 @@ fn tell_many_access_links(
 }
 
 /// Reports the keys with too many elements.
-pub(crate) fn tell_too_many(
+pub(crate) fn report_too_many(
     given: &CommandInput<'_>,
-    told: &mut ToldLines,
+    reported: &mut ReportedLines,
 ) -> Result<(), AllocError> {
     for key in &COUNTED {
         let (count, most) = (count_of(given, key)?, most_of(given.limits, key) as u64);
@@ -468,11 +485,11 @@ pub(crate) fn tell_too_many(
             if let Some(found) = given.written.top(key) {
                 let (place, count, most) = (found.place, Grouped(count), Grouped(most));
                 let larger = given.larger(most_of(LARGE, key) as u64)?;
-                told.tell(format!(in given.alloc;
+                reported.report(format!(in given.alloc;
                     "{place}: {count} {key}: a network has at most {most}{larger}"
                 )?)?;
             }
         }
     }
-    tell_many_access_links(given, told)
+    report_many_access_links(given, reported)
 }

@@ -2,28 +2,29 @@
 ghost use Rattle.std.specs.Prelude.{IfOk};
 ghost use Rattle.cqf_program_explanations.specs.Explanations.{IsExplanation};
 
-use crate::budgets::tell_short_streams;
-use crate::command_faults::{tell_hops, tell_unknown_bridge};
+use crate::budgets::report_short_streams;
+use crate::command_faults::{report_hops, report_unknown_bridge};
 use crate::domain_faults::{
-    tell_delays, tell_gaps, tell_guard, tell_link_guards, tell_links_twice, tell_misplaced_others,
-    tell_name_taken, tell_syncs, tell_too_many, tell_unknown_names,
+    report_delays, report_gaps, report_guard, report_link_guards, report_links_twice,
+    report_misplaced_others, report_name_taken, report_syncs, report_too_many,
+    report_unknown_names,
 };
-use crate::file_faults::{tell_key_twice, tell_long_lines, tell_unknown_keys};
+use crate::file_faults::{report_key_twice, report_long_lines, report_unknown_keys};
 use crate::given::{CommandInput, given_of};
-use crate::network_faults::tell_network;
+use crate::network_faults::report_network;
 use crate::pairs::{FileLine, command_about, file_line};
-use crate::part_faults::tell_parts;
-use crate::plan_faults::{tell_below_traffic, tell_plan};
+use crate::part_faults::report_parts;
+use crate::plan_faults::{report_below_traffic, report_plan};
 use crate::refusal::{Refusal, refusal_of};
+use crate::reported::ReportedLines;
 use crate::script_faults::{
-    tell_bad_lines, tell_too_many_lines, tell_unknown_offer, tell_unknown_streams,
+    report_bad_lines, report_too_many_lines, report_unknown_offer, report_unknown_streams,
 };
 use crate::stream_faults::{
-    tell_form_faults, tell_gates_twice, tell_names_twice, tell_streams_beyond,
+    report_form_faults, report_gates_twice, report_names_twice, report_streams_beyond,
 };
-use crate::table_faults::{InputTable, tell_table};
-use crate::told::ToldLines;
-use crate::toml_faults::{tell_bad_value, tell_missing, tell_not_toml};
+use crate::table_faults::{InputTable, report_table};
+use crate::toml_faults::{report_bad_value, report_missing, report_not_toml};
 use cqf_model::Limits;
 use std::alloc::{AllocError, Global};
 
@@ -35,77 +36,77 @@ pub struct NamedFile<'a> {
 }
 
 /// Reports why a domain or the streams are refused.
-fn tell_text(
+fn report_text(
     given: &CommandInput<'_>,
-    told: &mut ToldLines,
+    reported: &mut ReportedLines,
     refusal: Refusal<'_>,
 ) -> Result<(), AllocError> {
     match refusal.fault {
-        "NotToml" => tell_not_toml(given, told),
-        "Missing" => tell_missing(given, told, refusal.part, refusal.value),
-        "BadValue" => tell_bad_value(given, told, refusal.part, refusal.value),
-        "NameTaken" => tell_name_taken(given, told),
-        "UnknownName" => tell_unknown_names(given, told),
-        "LinkTwice" => tell_links_twice(given, told),
-        "GateTwice" => tell_gates_twice(given, told),
-        "NoAccessLink" => tell_misplaced_others(given, told),
-        "GuardTooLong" => tell_guard(given, told),
-        "LinkGuardTooLong" => tell_link_guards(given, told),
-        "DelayTooLong" => tell_delays(given, told),
-        "GapTooLong" => tell_gaps(given, told),
-        "TooMany" => tell_too_many(given, told),
-        "SyncTooLong" => tell_syncs(given, told),
+        "NotToml" => report_not_toml(given, reported),
+        "Missing" => report_missing(given, reported, refusal.part, refusal.value),
+        "BadValue" => report_bad_value(given, reported, refusal.part, refusal.value),
+        "NameTaken" => report_name_taken(given, reported),
+        "UnknownName" => report_unknown_names(given, reported),
+        "LinkTwice" => report_links_twice(given, reported),
+        "GateTwice" => report_gates_twice(given, reported),
+        "NoAccessLink" => report_misplaced_others(given, reported),
+        "GuardTooLong" => report_guard(given, reported),
+        "LinkGuardTooLong" => report_link_guards(given, reported),
+        "DelayTooLong" => report_delays(given, reported),
+        "GapTooLong" => report_gaps(given, reported),
+        "TooMany" => report_too_many(given, reported),
+        "SyncTooLong" => report_syncs(given, reported),
         _ => Ok(()),
     }
 }
 
 /// Reports why files aren't a plan.
-fn tell_file_fault(
+fn report_file_fault(
     given: &CommandInput<'_>,
-    told: &mut ToldLines,
+    reported: &mut ReportedLines,
     refusal: Refusal<'_>,
 ) -> Result<(), AllocError> {
     match refusal.fault {
-        "UnknownKey" => tell_unknown_keys(given, told),
-        "KeyTwice" => tell_key_twice(given, told, refusal.value),
-        "LineTooLong" => tell_long_lines(given, told),
+        "UnknownKey" => report_unknown_keys(given, reported),
+        "KeyTwice" => report_key_twice(given, reported, refusal.value),
+        "LineTooLong" => report_long_lines(given, reported),
         _ => Ok(()),
     }
 }
 
 /// Reports why a script is refused.
-fn tell_script(
+fn report_script(
     given: &CommandInput<'_>,
-    told: &mut ToldLines,
+    reported: &mut ReportedLines,
     refusal: Refusal<'_>,
 ) -> Result<(), AllocError> {
     match refusal.fault {
-        "BadLine" => tell_bad_lines(given, told),
-        "UnknownStream" => tell_unknown_streams(given, told),
-        "TooMany" => tell_too_many_lines(given, told),
+        "BadLine" => report_bad_lines(given, reported),
+        "UnknownStream" => report_unknown_streams(given, reported),
+        "TooMany" => report_too_many_lines(given, reported),
         _ => Ok(()),
     }
 }
 
 /// Reports why a stream is refused.
-fn tell_stream(
+fn report_stream(
     given: &CommandInput<'_>,
-    told: &mut ToldLines,
+    reported: &mut ReportedLines,
     refusal: Refusal<'_>,
 ) -> Result<(), AllocError> {
     match refusal.fault {
-        "BelowTraffic" => tell_below_traffic(given, told, refusal),
-        "NameHeld" => tell_names_twice(given, told),
-        "TooManyStreams" => tell_streams_beyond(given, told),
-        "BudgetShort" => tell_short_streams(given, told),
-        fault => tell_form_faults(given, told, fault),
+        "BelowTraffic" => report_below_traffic(given, reported, refusal),
+        "NameHeld" => report_names_twice(given, reported),
+        "TooManyStreams" => report_streams_beyond(given, reported),
+        "BudgetShort" => report_short_streams(given, reported),
+        fault => report_form_faults(given, reported, fault),
     }
 }
 
 /// Reports the stream of a frame that is dropped because no stream has its name, as in `frame 1 of x, offered to a at 0: dropped, unknown`.
-fn tell_check(
+fn report_check(
     given: &CommandInput<'_>,
-    told: &mut ToldLines,
+    reported: &mut ReportedLines,
     refusal: Refusal<'_>,
 ) -> Result<(), AllocError> {
     if !refusal.value.ends_with(": dropped, unknown") {
@@ -113,7 +114,7 @@ fn tell_check(
     }
     match refusal.value.split_once(" of ") {
         Some((number, rest)) => match rest.split_once(", offered to ") {
-            Some((name, _)) => tell_unknown_offer(given, told, number, name),
+            Some((name, _)) => report_unknown_offer(given, reported, number, name),
             None => Ok(()),
         },
         None => Ok(()),
@@ -121,24 +122,24 @@ fn tell_check(
 }
 
 /// Reports why an input is refused.
-fn tell_refusal(
+fn report_refusal(
     given: &CommandInput<'_>,
-    told: &mut ToldLines,
+    reported: &mut ReportedLines,
     refusal: Refusal<'_>,
 ) -> Result<(), AllocError> {
     match refusal.part {
-        "domain" | "streams" => tell_text(given, told, refusal),
-        "plant" => tell_file_fault(given, told, refusal),
-        "plan" => tell_plan(given, told, refusal),
-        "network" => tell_network(given, told, refusal),
-        "script" => tell_script(given, told, refusal),
-        "check" => tell_check(given, told, refusal),
-        "compile" => tell_unknown_bridge(given, told, refusal.value),
-        "hops" => tell_hops(given, told, refusal),
-        "parts" => tell_parts(given, told),
-        part if part.starts_with("stream ") => tell_stream(given, told, refusal),
+        "domain" | "streams" => report_text(given, reported, refusal),
+        "plant" => report_file_fault(given, reported, refusal),
+        "plan" => report_plan(given, reported, refusal),
+        "network" => report_network(given, reported, refusal),
+        "script" => report_script(given, reported, refusal),
+        "check" => report_check(given, reported, refusal),
+        "compile" => report_unknown_bridge(given, reported, refusal.value),
+        "hops" => report_hops(given, reported, refusal),
+        "parts" => report_parts(given, reported),
+        part if part.starts_with("stream ") => report_stream(given, reported, refusal),
         part => match InputTable::of(part) {
-            Some(table) => tell_table(given, told, table, refusal.fault),
+            Some(table) => report_table(given, reported, table, refusal.fault),
             None => Ok(()),
         },
     }
@@ -156,7 +157,7 @@ fn explained(
 ) -> Result<Vec<u8>, AllocError>
     ensures { IfOk result (λ text. IsExplanation text.items) }
 {
-    let mut told = ToldLines::new(alloc);
+    let mut reported = ReportedLines::new(alloc);
     if let Some(refusal) = refusal_of(line) {
         if !sources.is_empty() {
             let given = given_of(
@@ -168,10 +169,10 @@ fn explained(
                 sources,
                 refusal.fault,
             )?;
-            tell_refusal(&given, &mut told, refusal)?;
+            report_refusal(&given, &mut reported, refusal)?;
         }
     }
-    told.text("  ")
+    reported.text("  ")
 }
 
 /// Returns the text that follows the line of a refusal. It has a line for each thing with this fault, at most 20 of them, in the order of the

@@ -5,7 +5,7 @@ use crate::lines::Lines;
 use crate::outline::KeyLine;
 use crate::parts::is_toml;
 use crate::places::{Grouped, Place};
-use crate::told::ToldLines;
+use crate::reported::ReportedLines;
 use crate::toml_faults::known_keys;
 use crate::words::{nearest, shortened};
 use crate::written::{KeyOwner, NetworkFile, WrittenItem};
@@ -133,21 +133,21 @@ fn put_item<'p>(
 }
 
 /// Reports a key that no command knows.
-fn tell_unknown_key(
+fn report_unknown_key(
     given: &CommandInput<'_>,
-    told: &mut ToldLines,
+    reported: &mut ReportedLines,
     unknown: &UnknownKey<'_>,
 ) -> Result<(), AllocError> {
     let place = unknown.place;
     match &unknown.owner {
         UnknownOwner::Top => {
             let words = unknown_words(given.alloc, KeyOwner::Top, unknown.key)?;
-            told.tell(format!(in given.alloc; "{place}: {words}")?)
+            reported.report(format!(in given.alloc; "{place}: {words}")?)
         }
         UnknownOwner::Item(item) => {
             let words = unknown_words(given.alloc, item.kind, unknown.key)?;
             let label = item.label(given.alloc)?;
-            told.tell(format!(in given.alloc; "{place}: {label}: {words}")?)
+            reported.report(format!(in given.alloc; "{place}: {label}: {words}")?)
         }
     }
 }
@@ -174,26 +174,26 @@ fn unknown_keys<'p>(
 }
 
 /// Reports each key that no command knows, in files whose keys are checked, in the order of the texts.
-pub(crate) fn tell_unknown_keys(
+pub(crate) fn report_unknown_keys(
     given: &CommandInput<'_>,
-    told: &mut ToldLines,
+    reported: &mut ReportedLines,
 ) -> Result<(), AllocError> {
     let links = given.written.all_items(KeyOwner::Link)?;
     let streams = given.written.all_items(KeyOwner::Stream)?;
     let mut unknown = unknown_keys(given, links.as_slice(), streams.as_slice())?;
     unknown.sort_by_key(|key| (key.file_number, key.place.line.unwrap_or(0)))?;
     for key in &unknown {
-        if !told.is_counted() {
-            tell_unknown_key(given, told, key)?;
+        if !reported.is_counted() {
+            report_unknown_key(given, reported, key)?;
         }
     }
     Ok(())
 }
 
 /// Reports each file that has a key of the top level which an earlier file has.
-pub(crate) fn tell_key_twice(
+pub(crate) fn report_key_twice(
     given: &CommandInput<'_>,
-    told: &mut ToldLines,
+    reported: &mut ReportedLines,
     key: &str,
 ) -> Result<(), AllocError> {
     let mut first = None;
@@ -204,7 +204,7 @@ pub(crate) fn tell_key_twice(
         let place = file.place_of(key);
         match first {
             Some(first) => {
-                told.tell(format!(in given.alloc; "{place}: {key} is already at {first}")?)?;
+                reported.report(format!(in given.alloc; "{place}: {key} is already at {first}")?)?;
             }
             None => first = Some(place),
         }
@@ -213,14 +213,14 @@ pub(crate) fn tell_key_twice(
 }
 
 /// Reports each line of a file that is longer than allowed.
-fn tell_lines(
+fn report_lines(
     given: &CommandInput<'_>,
-    told: &mut ToldLines,
+    reported: &mut ReportedLines,
     file: &NetworkFile<'_>,
 ) -> Result<(), AllocError> {
     let counts = is_toml(file.part.file);
     for (number, line) in Lines::of(file.part.text, file.part.before) {
-        if first_long_line(counts, line).is_none() || told.is_counted() {
+        if first_long_line(counts, line).is_none() || reported.is_counted() {
             continue;
         }
         let place = file.at(Some(number));
@@ -231,19 +231,19 @@ fn tell_lines(
             let most = MOST_PARTS;
             format!(in given.alloc; "a key has at most {most} dotted parts")?
         };
-        told.tell(format!(in given.alloc; "{place}: {words}")?)?;
+        reported.report(format!(in given.alloc; "{place}: {words}")?)?;
     }
     Ok(())
 }
 
 /// Reports each line that is longer than allowed.
-pub(crate) fn tell_long_lines(
+pub(crate) fn report_long_lines(
     given: &CommandInput<'_>,
-    told: &mut ToldLines,
+    reported: &mut ReportedLines,
 ) -> Result<(), AllocError> {
     for file in &given.written.files {
         if file.part.is_checked() {
-            tell_lines(given, told, file)?;
+            report_lines(given, reported, file)?;
         }
     }
     Ok(())

@@ -53,6 +53,8 @@ pub(crate) fn form_of_top(key: &str) -> Option<&'static str> {
         "guard" => "a guard band is a whole number, 1 to 10,000,000 ns",
         "sync" =>
             "sync is the greatest difference of two clocks: a whole number, 0 to 10,000,000 ns",
+        "gate-overhead" =>
+            "gate-overhead is how many octets of a frame gates don't count: a whole number, 0 to 22",
         "bridges" => "bridges is an array of one name or more",
         "stations" => "stations is an array of names",
         "links" => "links is an array of tables: write [[links]] above each",
@@ -140,7 +142,7 @@ pub(crate) fn is_name(value: &Value) -> bool {
 }
 
 /// Returns a value as it may be written.
-pub(crate) fn told_value(alloc: Global, value: &Value) -> Result<String, AllocError> {
+pub(crate) fn reported_value(alloc: Global, value: &Value) -> Result<String, AllocError> {
     if let Some(number) = value.as_integer() {
         return format!(in alloc; "{number}");
     }
@@ -164,7 +166,7 @@ pub(crate) fn told_value(alloc: Global, value: &Value) -> Result<String, AllocEr
 pub(crate) fn written(alloc: Global, found: &FoundKey<'_>) -> Result<String, AllocError> {
     let text = before_comment(found.text).trim_ascii();
     if text.is_empty() {
-        told_value(alloc, found.value)
+        reported_value(alloc, found.value)
     } else {
         shown(alloc, text)
     }

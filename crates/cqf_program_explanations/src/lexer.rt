@@ -28,7 +28,7 @@ pub(crate) struct Lexer {
 }
 
 /// Returns what follows a byte that is in no text.
-fn behind_free(byte: u8) -> Inside {
+fn after_free(byte: u8) -> Inside {
     match byte {
         b'#' => Inside::Comment,
         b'"' | b'\'' => Inside::Opened(byte),
@@ -37,7 +37,7 @@ fn behind_free(byte: u8) -> Inside {
 }
 
 /// Returns what follows a byte of a text on one line.
-fn behind_text(quote: u8, byte: u8) -> Inside {
+fn after_text(quote: u8, byte: u8) -> Inside {
     if byte == quote {
         Inside::Free
     } else if byte == b'\\' && quote == b'"' {
@@ -48,7 +48,7 @@ fn behind_text(quote: u8, byte: u8) -> Inside {
 }
 
 /// Returns what follows a byte of a text of several lines, after `quotes` of its quotes.
-fn behind_long(quote: u8, quotes: u8, byte: u8) -> Inside {
+fn after_long(quote: u8, quotes: u8, byte: u8) -> Inside {
     if byte == quote {
         if quotes < 2 {
             Inside::Long(quote, quotes + 1)
@@ -64,22 +64,22 @@ fn behind_long(quote: u8, quotes: u8, byte: u8) -> Inside {
 
 impl Inside {
     /// Returns what follows a byte.
-    fn behind(self, byte: u8) -> Inside {
+    fn after(self, byte: u8) -> Inside {
         match self {
-            Inside::Free => behind_free(byte),
+            Inside::Free => after_free(byte),
             Inside::Comment => Inside::Comment,
             Inside::Opened(quote) if byte == quote => Inside::OpenedTwice(quote),
             Inside::OpenedTwice(quote) if byte == quote => Inside::Long(quote, 0),
-            Inside::OpenedTwice(_) => behind_free(byte),
-            Inside::Opened(quote) | Inside::Text(quote) => behind_text(quote, byte),
+            Inside::OpenedTwice(_) => after_free(byte),
+            Inside::Opened(quote) | Inside::Text(quote) => after_text(quote, byte),
             Inside::Escape => Inside::Text(b'"'),
-            Inside::Long(quote, quotes) => behind_long(quote, quotes, byte),
+            Inside::Long(quote, quotes) => after_long(quote, quotes, byte),
             Inside::LongEscape => Inside::Long(b'"', 0),
         }
     }
 
     /// Returns what follows the end of a line.
-    fn behind_line(self) -> Inside {
+    fn after_line(self) -> Inside {
         match self {
             Inside::Long(quote, _) => Inside::Long(quote, 0),
             Inside::LongEscape => Inside::Long(b'"', 0),
@@ -98,8 +98,8 @@ impl Lexer {
     }
 
     /// Returns the state after a byte.
-    pub(crate) fn behind(self, byte: u8) -> Lexer {
-        let inside = self.inside.behind(byte);
+    pub(crate) fn after(self, byte: u8) -> Lexer {
+        let inside = self.inside.after(byte);
         let depth = match byte {
             b'[' | b'{' if inside == Inside::Free => self.depth.saturating_add(1),
             b']' | b'}' if inside == Inside::Free => self.depth.saturating_sub(1),
@@ -109,9 +109,9 @@ impl Lexer {
     }
 
     /// Returns the state after the end of a line.
-    pub(crate) fn behind_line(self) -> Lexer {
+    pub(crate) fn after_line(self) -> Lexer {
         Lexer {
-            inside: self.inside.behind_line(),
+            inside: self.inside.after_line(),
             depth: self.depth,
         }
     }
@@ -146,7 +146,7 @@ impl Lexer {
 pub(crate) fn before_comment(line: &[u8]) -> &[u8] {
     let mut lexer = Lexer::new();
     for (place, byte) in line.iter().enumerate() {
-        lexer = lexer.behind(*byte);
+        lexer = lexer.after(*byte);
         if lexer.is_comment() {
             return line.get(..place).unwrap_or(line);
         }

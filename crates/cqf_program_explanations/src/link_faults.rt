@@ -3,7 +3,7 @@
 use crate::given::CommandInput;
 use crate::network::Network;
 use crate::planning::is_duplex;
-use crate::told::ToldLines;
+use crate::reported::ReportedLines;
 use std::alloc::{AllocError, Global};
 
 /// How many links a line names.
@@ -76,9 +76,9 @@ fn no_link_words(
 }
 
 /// Reports a link that the network doesn't have, with those that lead from its first node.
-pub(crate) fn tell_no_link(
+pub(crate) fn report_no_link(
     given: &CommandInput<'_>,
-    told: &mut ToldLines,
+    reported: &mut ReportedLines,
     link: &str,
 ) -> Result<(), AllocError> {
     let Some((from, to)) = link.split_once('>') else {
@@ -86,5 +86,5 @@ pub(crate) fn tell_no_link(
     };
     let network = given.network()?;
     let words = no_link_words(given.alloc, &network, from, to)?;
-    told.tell(words)
+    reported.report(words)
 }

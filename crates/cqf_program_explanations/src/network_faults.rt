@@ -3,13 +3,13 @@
 use crate::given::CommandInput;
 use crate::hints::plan_hint;
 use crate::network::{Network, WrittenLink};
-use crate::plan_faults::tell_no_talkers;
+use crate::plan_faults::report_no_talkers;
 use crate::planning::{nanos_question, talker_of};
 use crate::refusal::Refusal;
-use crate::told::ToldLines;
+use crate::reported::ReportedLines;
 use crate::words::shortened;
 use crate::written::{KeyOwner, WrittenItem};
-use cqf_program_files::{lacks_octets, lacks_turns, lacks_way};
+use cqf_program_files::{lacks_active_cycles, lacks_octets, lacks_path};
 use std::alloc::{AllocError, Global};
 use toml::Value;
 
@@ -133,9 +133,9 @@ fn other_edge_words(
 }
 
 /// Reports the stream of a name that can't enter the network as its `from`, `to` and paths say.
-pub(crate) fn tell_entering(
+pub(crate) fn report_entering(
     given: &CommandInput<'_>,
-    told: &mut ToldLines,
+    reported: &mut ReportedLines,
     stream: &str,
     fault: &str,
 ) -> Result<(), AllocError> {
@@ -155,7 +155,7 @@ pub(crate) fn tell_entering(
             }
         };
         let (place, label) = (item.place_of(key), item.label(alloc)?);
-        return told.tell(format!(in alloc; "{place}: {label}: {words}")?);
+        return reported.report(format!(in alloc; "{place}: {label}: {words}")?);
     }
     Ok(())
 }
@@ -163,35 +163,38 @@ pub(crate) fn tell_entering(
 /// Returns what `plan` would add to a stream, in words; an empty text if nothing is open.
 fn open_words(item: &WrittenItem<'_>) -> &'static str {
     match item.value.as_table() {
-        Some(table) if lacks_way(table) => "has no path",
+        Some(table) if lacks_path(table) => "has no path",
         Some(table) if lacks_octets(table) => "has no octets",
-        Some(table) if lacks_turns(table) => "is in step, but has no every and phase",
+        Some(table) if lacks_active_cycles(table) => "is in step, but has no every and phase",
         _ => "",
     }
 }
 
 /// Reports each stream that has an open part.
-fn tell_open(given: &CommandInput<'_>, told: &mut ToldLines) -> Result<(), AllocError> {
+fn report_open(given: &CommandInput<'_>, reported: &mut ReportedLines) -> Result<(), AllocError> {
     let hint = plan_hint(given)?;
     for item in &given.written.items(KeyOwner::Stream)? {
         let words = open_words(item);
-        if words.is_empty() || told.is_counted() {
+        if words.is_empty() || reported.is_counted() {
             continue;
         }
         let (place, label) = (item.place(), item.label(given.alloc)?);
-        told.tell(format!(in given.alloc; "{place}: {label} {words}{hint}")?)?;
+        reported.report(format!(in given.alloc; "{place}: {label} {words}{hint}")?)?;
     }
     Ok(())
 }
 
 /// Reports a cycle time that is open.
-fn tell_open_cycle(given: &CommandInput<'_>, told: &mut ToldLines) -> Result<(), AllocError> {
+fn report_open_cycle(
+    given: &CommandInput<'_>,
+    reported: &mut ReportedLines,
+) -> Result<(), AllocError> {
     let hint = plan_hint(given)?;
     let Some(found) = given.written.top("cycle") else {
         return Ok(());
     };
     let place = found.place;
-    told.tell(format!(in given.alloc; "{place}: cycle has several cycle times{hint}")?)
+    reported.report(format!(in given.alloc; "{place}: cycle has several cycle times{hint}")?)
 }
 
 /// Returns what a stream takes of its access link, in tenths of a Mb/s: its frames with their preambles and gaps.
@@ -257,9 +260,9 @@ fn use_words(
 }
 
 /// Reports what the streams of a station take of its access links.
-fn tell_full(
+fn report_full(
     given: &CommandInput<'_>,
-    told: &mut ToldLines,
+    reported: &mut ReportedLines,
     station: &str,
 ) -> Result<(), AllocError> {
     let (alloc, network) = (given.alloc, given.network()?);
@@ -276,7 +279,7 @@ fn tell_full(
             link.item.number("rate"),
             in_tenths(alloc, all)?,
         );
-        told.tell(format!(in alloc;
+        reported.report(format!(in alloc;
             "{place}: link {number}, {station}>{edge}: its streams take {all} Mb/s of {rate}: {words}"
         )?)?;
     }
@@ -284,16 +287,16 @@ fn tell_full(
 }
 
 /// Reports why a network is refused.
-pub(crate) fn tell_network(
+pub(crate) fn report_network(
     given: &CommandInput<'_>,
-    told: &mut ToldLines,
+    reported: &mut ReportedLines,
     refusal: Refusal<'_>,
 ) -> Result<(), AllocError> {
     match refusal.fault {
-        "OpenCycle" => tell_open_cycle(given, told),
-        "Open" => tell_open(given, told),
-        "AccessFull" => tell_full(given, told, refusal.value),
-        "NoTalker" => tell_no_talkers(given, told),
-        fault => tell_entering(given, told, refusal.value, fault),
+        "OpenCycle" => report_open_cycle(given, reported),
+        "Open" => report_open(given, reported),
+        "AccessFull" => report_full(given, reported, refusal.value),
+        "NoTalker" => report_no_talkers(given, reported),
+        fault => report_entering(given, reported, refusal.value, fault),
     }
 }

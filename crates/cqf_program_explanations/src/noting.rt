@@ -8,8 +8,8 @@ use crate::parts::takes_domain;
 use crate::places::{Grouped, Place};
 use crate::planning::listeners_of;
 use crate::refusal::refusal_of;
+use crate::reported::ReportedLines;
 use crate::stream_faults::{WrittenStream, streams_of};
-use crate::told::ToldLines;
 use crate::words::{shortened, some_of};
 use crate::written::{KeyOwner, WrittenItem};
 use cqf_model::Limits;
@@ -60,7 +60,7 @@ fn greatest_at(item: &WrittenItem<'_>, key: &str) -> u64 {
 /// Notes the first value at a key, if one is above 0 and all are below the bound.
 fn note_nanos(
     given: &CommandInput<'_>,
-    told: &mut ToldLines,
+    reported: &mut ReportedLines,
     nanos: NanosKey,
 ) -> Result<(), AllocError> {
     let (mut most, mut first): (u64, Option<WrittenItem<'_>>) = (0, None);
@@ -84,13 +84,13 @@ fn note_nanos(
         Grouped(nanos.below),
     );
     let (place, label) = (item.place_of(key), item.label(given.alloc)?);
-    told.tell(format!(in given.alloc;
+    reported.report(format!(in given.alloc;
         "{place}: {label}: {key} = {value}: each {key} is below {below} ns; is it in microseconds?"
     )?)
 }
 
 /// Notes the bridges that have no link.
-fn note_bridges(given: &CommandInput<'_>, told: &mut ToldLines) -> Result<(), AllocError> {
+fn note_bridges(given: &CommandInput<'_>, reported: &mut ReportedLines) -> Result<(), AllocError> {
     let mut linked: BTreeSet<&str> = BTreeSet::new(given.alloc);
     let network = given.network()?;
     for link in &network.links {
@@ -110,7 +110,7 @@ fn note_bridges(given: &CommandInput<'_>, told: &mut ToldLines) -> Result<(), Al
         return Ok(());
     };
     let (count, names) = (apart.len(), some_of(given.alloc, apart.as_slice())?);
-    told.tell(if count == 1 {
+    reported.report(if count == 1 {
         format!(in given.alloc; "{place}: the bridge {names} has no link")?
     } else {
         format!(in given.alloc; "{place}: {count} bridges have no link: {names}")?
@@ -129,17 +129,17 @@ fn hears_itself(
 }
 
 /// Notes each stream whose talker is one of its listeners.
-fn note_talkers(given: &CommandInput<'_>, told: &mut ToldLines) -> Result<(), AllocError> {
+fn note_talkers(given: &CommandInput<'_>, reported: &mut ReportedLines) -> Result<(), AllocError> {
     for asked in &streams_of(given)? {
         let Some(talker) = asked.item.text("from") else {
             continue;
         };
-        if !hears_itself(given.alloc, asked, talker)? || told.is_counted() {
+        if !hears_itself(given.alloc, asked, talker)? || reported.is_counted() {
             continue;
         }
         let (place, label) = (asked.item.place_of("from"), asked.item.label(given.alloc)?);
         let talker = shortened(given.alloc, talker)?;
-        told.tell(format!(in given.alloc;
+        reported.report(format!(in given.alloc;
             "{place}: {label}: {talker} is both the talker and a listener"
         )?)?;
     }
@@ -175,14 +175,14 @@ pub fn notes(
 ) -> Result<Vec<u8>, AllocError>
     ensures { IfOk result (λ text. AreNotes text.items) }
 {
-    let mut told = ToldLines::new(alloc);
+    let mut reported = ReportedLines::new(alloc);
     if may_have_notes(line) && takes_domain(command) && !sources.is_empty() {
         let given = given_of(alloc, command, None, &[], limits, sources, "note")?;
-        note_bridges(&given, &mut told)?;
-        note_talkers(&given, &mut told)?;
+        note_bridges(&given, &mut reported)?;
+        note_talkers(&given, &mut reported)?;
         for nanos in &NANOS_KEYS {
-            note_nanos(&given, &mut told, *nanos)?;
+            note_nanos(&given, &mut reported, *nanos)?;
         }
     }
-    told.text("note: ")
+    reported.text("note: ")
 }

@@ -67,7 +67,7 @@ fn before<'a>(text: &'a [u8], ends: &[u8]) -> &'a [u8] {
 }
 
 /// Returns what follows the first byte that is this one, if there is one.
-fn behind(text: &[u8], end: u8) -> Option<&[u8]> {
+fn after(text: &[u8], end: u8) -> Option<&[u8]> {
     let place = text.iter().position(|byte| *byte == end)?;
     text.get(place.saturating_add(1)..)
 }
@@ -121,11 +121,11 @@ impl<'a> Scan<'a> {
     /// Takes the head of an array's element, such as `links]]`.
     fn take_array(&mut self, line: u64, head: &'a [u8]) -> Result<(), AllocError> {
         let key = first_part(head);
-        if key == b"links".as_slice() && behind(head, b'.').is_none() {
+        if key == b"links".as_slice() && after(head, b'.').is_none() {
             let element = self.element(line);
             self.outline.links.push(element)?;
             self.section = Section::Link;
-        } else if key == b"streams".as_slice() && behind(head, b'.').is_none() {
+        } else if key == b"streams".as_slice() && after(head, b'.').is_none() {
             let element = self.element(line);
             self.outline.streams.push(element)?;
             self.section = Section::Stream;
@@ -138,7 +138,7 @@ impl<'a> Scan<'a> {
     /// Takes the head of another table: a key of the top level, or one of the last link or stream.
     fn take_table(&mut self, line: u64, head: &'a [u8]) -> Result<(), AllocError> {
         let key = first_part(head);
-        let within = behind(head, b'.').map(|rest| KeyLine {
+        let within = after(head, b'.').map(|rest| KeyLine {
             key: first_part(rest.trim_ascii()),
             line,
             text: &[],
@@ -175,7 +175,7 @@ impl<'a> Scan<'a> {
         if matches!(self.section, Section::Top) {
             self.listed = listed;
         }
-        let text = behind(text, b'=').unwrap_or(&[]);
+        let text = after(text, b'=').unwrap_or(&[]);
         self.put_key(KeyLine { key, line, text })
     }
 
@@ -193,7 +193,7 @@ impl<'a> Scan<'a> {
     /// Takes a byte of an array of the top level: its line, if an element begins there.
     fn take_byte(&mut self, line: u64, byte: u8) -> Result<(), AllocError> {
         let outermost = self.lexer.depth() == 1;
-        self.lexer = self.lexer.behind(byte);
+        self.lexer = self.lexer.after(byte);
         let table = outermost && byte == b'{' && self.lexer.is_free();
         let text = outermost && self.lexer.opens();
         match self.listed {
@@ -220,7 +220,7 @@ impl<'a> Scan<'a> {
         for byte in text {
             self.take_byte(line, *byte)?;
         }
-        self.lexer = self.lexer.behind_line();
+        self.lexer = self.lexer.after_line();
         Ok(())
     }
 }

@@ -3,7 +3,7 @@
 use crate::given::CommandInput;
 use crate::parts::put_parts;
 use crate::places::called;
-use crate::told::ToldLines;
+use crate::reported::ReportedLines;
 use std::alloc::AllocError;
 
 /// How many files are named.
@@ -49,9 +49,14 @@ fn names_of(given: &CommandInput<'_>) -> Result<String, AllocError> {
 }
 
 /// Reports what the command takes, and which files were given.
-pub(crate) fn tell_parts(given: &CommandInput<'_>, told: &mut ToldLines) -> Result<(), AllocError> {
+pub(crate) fn report_parts(
+    given: &CommandInput<'_>,
+    reported: &mut ReportedLines,
+) -> Result<(), AllocError> {
     let (command, takes) = (given.command, taken_by(given.command));
     let (count, names) = (given.sources.len(), names_of(given)?);
     let noun = if count == 1 { "file was" } else { "files were" };
-    told.tell(format!(in given.alloc; "{command} takes {takes}; {count} {noun} given: {names}")?)
+    reported.report(format!(in given.alloc;
+        "{command} takes {takes}; {count} {noun} given: {names}"
+    )?)
 }

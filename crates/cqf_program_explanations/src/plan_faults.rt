@@ -1,11 +1,11 @@
 //! Streams of a network file that aren't placed, or may be late.
 
-use crate::domain_faults::{tell_guard_at, tell_link_guards_at};
+use crate::domain_faults::{report_guard_at, report_link_guards_at};
 use crate::given::CommandInput;
-use crate::link_faults::tell_no_link;
+use crate::link_faults::report_no_link;
 use crate::network::Network;
 use crate::network_faults::{
-    access_link_of, ends_of_talker, is_talker, links_words, tell_entering,
+    access_link_of, ends_of_talker, is_talker, links_words, report_entering,
 };
 use crate::places::Grouped;
 use crate::planning::{
@@ -13,8 +13,8 @@ use crate::planning::{
 };
 use crate::reading::{edge_traffic, read_network};
 use crate::refusal::Refusal;
-use crate::stream_faults::{is_of_form, tell_beyond, tell_form_faults, tell_names_twice};
-use crate::told::ToldLines;
+use crate::reported::ReportedLines;
+use crate::stream_faults::{is_of_form, report_beyond, report_form_faults, report_names_twice};
 use crate::words::{question, shortened};
 use crate::written::{KeyOwner, WrittenItem};
 use cqf_model::LARGE;
@@ -31,8 +31,8 @@ struct Unplaced<'a> {
 
 /// Returns the cycle time of a line about several, and what follows `; at CYCLE `.
 fn at_cycle<'a>(refusal: Refusal<'a>) -> Option<(&'a str, &'a str)> {
-    let (_, behind) = refusal.value.split_once("; at ")?;
-    behind.split_once(' ')
+    let (_, after) = refusal.value.split_once("; at ")?;
+    after.split_once(' ')
 }
 
 /// Returns the cycle time of a line about several, in ns.
@@ -45,11 +45,11 @@ fn cycle_of(refusal: Refusal<'_>) -> u64 {
 
 /// Returns the stream that a line is about.
 fn unplaced_of<'a>(refusal: Refusal<'a>) -> Option<Unplaced<'a>> {
-    let (stream, told) = match at_cycle(refusal) {
+    let (stream, reported) = match at_cycle(refusal) {
         Some((_, text)) => text.split_once(": ")?,
         None => (refusal.fault.strip_suffix(":")?, refusal.value),
     };
-    let (fault, value) = told.split_once(' ').unwrap_or((told, ""));
+    let (fault, value) = reported.split_once(' ').unwrap_or((reported, ""));
     Some(Unplaced {
         stream,
         fault,
@@ -93,38 +93,38 @@ fn no_talker(alloc: Global, network: &Network<'_>, talker: &str) -> Result<Strin
 }
 
 /// Reports each stream whose `from` names no talker.
-pub(crate) fn tell_no_talkers(
+pub(crate) fn report_no_talkers(
     given: &CommandInput<'_>,
-    told: &mut ToldLines,
+    reported: &mut ReportedLines,
 ) -> Result<(), AllocError> {
     let network = given.network()?;
     for item in &given.written.items(KeyOwner::Stream)? {
         let Some(talker) = item.text("from") else {
             continue;
         };
-        if is_talker(&network, talker) || told.is_counted() {
+        if is_talker(&network, talker) || reported.is_counted() {
             continue;
         }
         let (place, label) = (item.place_of("from"), item.label(given.alloc)?);
         let why = no_talker(given.alloc, &network, talker)?;
-        told.tell(format!(in given.alloc; "{place}: {label}: from: {why}")?)?;
+        reported.report(format!(in given.alloc; "{place}: {label}: from: {why}")?)?;
     }
     Ok(())
 }
 
 /// Reports each stream whose `from` names no talker; if there is none, the stream of a name, whose talker's access links are left out.
-fn tell_talkers_out(
+fn report_talkers_out(
     given: &CommandInput<'_>,
-    told: &mut ToldLines,
+    reported: &mut ReportedLines,
     stream: &str,
 ) -> Result<(), AllocError> {
-    tell_no_talkers(given, told)?;
+    report_no_talkers(given, reported)?;
     for item in &given.written.items(KeyOwner::Stream)? {
-        if item.text("name") == Some(stream) && told.is_empty() {
+        if item.text("name") == Some(stream) && reported.is_empty() {
             let (place, label) = (item.place_of("from"), item.label(given.alloc)?);
             let talker = ends_of_talker(item.text("from").unwrap_or("")).0;
             let shown = shortened(given.alloc, talker)?;
-            told.tell(format!(in given.alloc;
+            reported.report(format!(in given.alloc;
                 "{place}: {label}: from: every access link of {shown} is left out by --without"
             )?)?;
         }
@@ -155,25 +155,28 @@ fn no_listener(alloc: Global, network: &Network<'_>, name: &str) -> Result<Strin
 }
 
 /// Reports each listener that isn't a station.
-fn tell_no_listeners(given: &CommandInput<'_>, told: &mut ToldLines) -> Result<(), AllocError> {
+fn report_no_listeners(
+    given: &CommandInput<'_>,
+    reported: &mut ReportedLines,
+) -> Result<(), AllocError> {
     let network = given.network()?;
     for item in &given.written.items(KeyOwner::Stream)? {
         for name in &listeners_of(given.alloc, item)? {
-            if network.is_node(name) && !network.is_bridge(name) || told.is_counted() {
+            if network.is_node(name) && !network.is_bridge(name) || reported.is_counted() {
                 continue;
             }
             let (place, label) = (item.place_of("to"), item.label(given.alloc)?);
             let why = no_listener(given.alloc, &network, name)?;
-            told.tell(format!(in given.alloc; "{place}: {label}: to: {why}")?)?;
+            reported.report(format!(in given.alloc; "{place}: {label}: to: {why}")?)?;
         }
     }
     Ok(())
 }
 
 /// Reports a deadline that is over before a frame is whole at its edge bridge.
-fn tell_too_soon(
+fn report_too_soon(
     given: &CommandInput<'_>,
-    told: &mut ToldLines,
+    reported: &mut ReportedLines,
     item: &WrittenItem<'_>,
 ) -> Result<(), AllocError> {
     let network = given.network()?;
@@ -186,7 +189,8 @@ fn tell_too_soon(
     let Some(times) = link.times else {
         return Ok(());
     };
-    let (taken, deadline) = (time_on(times, longest_frame(item)), item.number("deadline"));
+    let longest = longest_frame(item, given.written.number("gate-overhead"));
+    let (taken, deadline) = (time_on(times, longest), item.number("deadline"));
     let waits = if taken < deadline {
         " and also waits there"
     } else {
@@ -194,15 +198,15 @@ fn tell_too_soon(
     };
     let (taken, deadline) = (Grouped(taken), Grouped(deadline));
     let question = nanos_question(given.alloc, item, "deadline")?;
-    told.tell(format!(in given.alloc;
+    reported.report(format!(in given.alloc;
         "{place}: {label}: a frame takes {taken} ns on the access link {from}>{to}{waits}, but its deadline is {deadline} ns{question}"
     )?)
 }
 
 /// Reports a stream whose traffic needs more than the stream may reserve, or reserves.
-fn tell_needs(
+fn report_needs(
     given: &CommandInput<'_>,
-    told: &mut ToldLines,
+    reported: &mut ReportedLines,
     item: &WrittenItem<'_>,
     unplaced: Unplaced<'_>,
 ) -> Result<(), AllocError> {
@@ -211,20 +215,20 @@ fn tell_needs(
     let question = nanos_question(given.alloc, item, "interval")?;
     if unplaced.fault == "TooLittle" {
         let (place, octets) = (item.place_of("octets"), Grouped(item.number("octets")));
-        return told.tell(format!(in given.alloc;
+        return reported.report(format!(in given.alloc;
             "{place}: {label} reserves {octets} octets a cycle, but its traffic needs {needed}{question}"
         )?);
     }
     let place = item.place_of("interval");
-    told.tell(format!(in given.alloc;
+    reported.report(format!(in given.alloc;
         "{place}: {label}: its traffic needs {needed} octets a cycle, but a reservation is at most 1,000,000: use a shorter cycle, or several streams{question}"
     )?)
 }
 
 /// Reports the stream of a line `stream 3: BelowTraffic OCTETS NEEDED`, which reserves less than its traffic needs.
-pub(crate) fn tell_below_traffic(
+pub(crate) fn report_below_traffic(
     given: &CommandInput<'_>,
-    told: &mut ToldLines,
+    reported: &mut ReportedLines,
     refusal: Refusal<'_>,
 ) -> Result<(), AllocError> {
     let number = number_in(refusal.part.strip_prefix("stream "));
@@ -234,7 +238,7 @@ pub(crate) fn tell_below_traffic(
         if item.number.saturating_add(1) == number {
             let (place, label) = (item.place_of("octets"), item.counted(given.alloc)?);
             let question = nanos_question(given.alloc, item, "interval")?;
-            return told.tell(format!(in given.alloc;
+            return reported.report(format!(in given.alloc;
                 "{place}: {label}: octets = {octets}: its traffic needs {needed} octets a cycle at its edge bridge{question}"
             )?);
         }
@@ -243,9 +247,9 @@ pub(crate) fn tell_below_traffic(
 }
 
 /// Reports a stream for which a link has too little left, by the words of its line: `LISTENER COST LINK LEFT`.
-fn tell_full(
+fn report_full(
     given: &CommandInput<'_>,
-    told: &mut ToldLines,
+    reported: &mut ReportedLines,
     item: &WrittenItem<'_>,
     value: &str,
 ) -> Result<(), AllocError> {
@@ -256,15 +260,15 @@ fn tell_full(
     let left = Grouped(number_in(words.next()));
     let (place, label) = (item.place_of("to"), item.label(given.alloc)?);
     let question = nanos_question(given.alloc, item, "interval")?;
-    told.tell(format!(in given.alloc;
+    reported.report(format!(in given.alloc;
         "{place}: {label} needs {cost} octets a cycle on a path to {listener}, but {link} on the shortest path has only {left} left{question}"
     )?)
 }
 
 /// Reports a stream for which a link of its branches has too little left, by the words of its line: `LINK LEFT`.
-fn tell_short(
+fn report_short(
     given: &CommandInput<'_>,
-    told: &mut ToldLines,
+    reported: &mut ReportedLines,
     item: &WrittenItem<'_>,
     value: &str,
 ) -> Result<(), AllocError> {
@@ -273,19 +277,19 @@ fn tell_short(
     let (place, label) = (item.place(), item.label(given.alloc)?);
     let question = nanos_question(given.alloc, item, "interval")?;
     if is_in_step(item) && item.get("every").is_none() {
-        return told.tell(format!(in given.alloc;
+        return reported.report(format!(in given.alloc;
             "{place}: {label} has no phase in which each of its links has room; in the best phase {link} has {left} octets a cycle left{question}"
         )?);
     }
-    told.tell(format!(in given.alloc;
+    reported.report(format!(in given.alloc;
         "{place}: {label} needs more octets a cycle than the {left} left on {link} of its path{question}"
     )?)
 }
 
 /// Reports a stream that may be late, by the words of its line: `LISTENER MOST DEADLINE`.
-fn tell_late(
+fn report_late(
     given: &CommandInput<'_>,
-    told: &mut ToldLines,
+    reported: &mut ReportedLines,
     item: &WrittenItem<'_>,
     value: &str,
 ) -> Result<(), AllocError> {
@@ -296,57 +300,57 @@ fn tell_late(
     let (most, deadline) = (Grouped(most), Grouped(deadline));
     let (place, label) = (item.place_of("deadline"), item.label(given.alloc)?);
     let question = nanos_question(given.alloc, item, "deadline")?;
-    told.tell(format!(in given.alloc;
+    reported.report(format!(in given.alloc;
         "{place}: {label}: a frame takes up to {most} ns from its edge bridge to {listener}; its deadline leaves {deadline} ns for that, {over} ns too few{question}"
     )?)
 }
 
 /// Reports a listener to which no links lead.
-fn tell_no_way(
+fn report_no_way(
     given: &CommandInput<'_>,
-    told: &mut ToldLines,
+    reported: &mut ReportedLines,
     item: &WrittenItem<'_>,
     listener: &str,
 ) -> Result<(), AllocError> {
     let (place, label) = (item.place_of("to"), item.label(given.alloc)?);
-    told.tell(format!(in given.alloc;
+    reported.report(format!(in given.alloc;
         "{place}: {label}: no path of at most 16 links leads from its edge bridge to {listener}"
     )?)
 }
 
 /// Reports a stream whose found paths have too many links together.
-fn tell_wide(
+fn report_wide(
     given: &CommandInput<'_>,
-    told: &mut ToldLines,
+    reported: &mut ReportedLines,
     item: &WrittenItem<'_>,
 ) -> Result<(), AllocError> {
     let (place, label) = (item.place_of("to"), item.label(given.alloc)?);
     let most = Grouped(given.limits.hops_within() as u64);
     let larger = given.larger(LARGE.hops_within() as u64)?;
-    told.tell(format!(in given.alloc;
+    reported.report(format!(in given.alloc;
         "{place}: {label}: its paths have more than {most} links together{larger}: give some listeners a stream of their own"
     )?)
 }
 
 /// Reports each stream whose given paths have too many links together; or the one of this name, whose found paths do.
-fn tell_many_hops(
+fn report_many_hops(
     given: &CommandInput<'_>,
-    told: &mut ToldLines,
+    reported: &mut ReportedLines,
     stream: &str,
 ) -> Result<(), AllocError> {
     for item in &given.written.items(KeyOwner::Stream)? {
         if item.text("name") == Some(stream) && item.get("to").is_some() {
-            return tell_wide(given, told, item);
+            return report_wide(given, reported, item);
         }
     }
-    tell_form_faults(given, told, "TooManyHops")
+    report_form_faults(given, reported, "TooManyHops")
 }
 
 /// Returns the cycle time that was tried, in ns: that of the line, or else the first candidate.
 fn cycle_tried(given: &CommandInput<'_>, refusal: Refusal<'_>) -> Result<u64, AllocError> {
-    let told = cycle_of(refusal);
-    if told > 0 {
-        return Ok(told);
+    let reported = cycle_of(refusal);
+    if reported > 0 {
+        return Ok(reported);
     }
     let candidates = candidates_of(given)?;
     Ok(candidates.first().copied().unwrap_or(0))
@@ -397,16 +401,16 @@ fn step_words(
 }
 
 /// Reports a stream whose talker can't be in step on a cycle time, in ns.
-fn tell_out_of_step(
+fn report_out_of_step(
     given: &CommandInput<'_>,
-    told: &mut ToldLines,
+    reported: &mut ReportedLines,
     item: &WrittenItem<'_>,
     cycle: u64,
 ) -> Result<(), AllocError> {
     match step_words(given, item, cycle)? {
         Some((key, words)) => {
             let (place, label) = (item.place_of(key), item.label(given.alloc)?);
-            told.tell(format!(in given.alloc; "{place}: {label}: {words}")?)
+            reported.report(format!(in given.alloc; "{place}: {label}: {words}")?)
         }
         None => Ok(()),
     }
@@ -445,67 +449,67 @@ fn latest_words(alloc: Global, latest: u64, sync: u64, cycle: u64) -> Result<Str
 }
 
 /// Reports why a stream of a name isn't placed.
-fn tell_unplaced(
+fn report_unplaced(
     given: &CommandInput<'_>,
-    told: &mut ToldLines,
+    reported: &mut ReportedLines,
     item: &WrittenItem<'_>,
     unplaced: Unplaced<'_>,
     cycle: u64,
 ) -> Result<(), AllocError> {
     match unplaced.fault {
-        "NoWay" => tell_no_way(given, told, item, unplaced.value),
-        "TooSoon" => tell_too_soon(given, told, item),
-        "TooMuch" | "TooLittle" => tell_needs(given, told, item, unplaced),
-        "BadInStep" => tell_out_of_step(given, told, item, cycle),
-        "BudgetShort" => tell_short(given, told, item, unplaced.value),
-        "Full" => tell_full(given, told, item, unplaced.value),
-        "Late" => tell_late(given, told, item, unplaced.value),
-        "TooManyStreams" => tell_beyond(given, told, item),
+        "NoWay" => report_no_way(given, reported, item, unplaced.value),
+        "TooSoon" => report_too_soon(given, reported, item),
+        "TooMuch" | "TooLittle" => report_needs(given, reported, item, unplaced),
+        "BadInStep" => report_out_of_step(given, reported, item, cycle),
+        "BudgetShort" => report_short(given, reported, item, unplaced.value),
+        "Full" => report_full(given, reported, item, unplaced.value),
+        "Late" => report_late(given, reported, item, unplaced.value),
+        "TooManyStreams" => report_beyond(given, reported, item),
         _ => Ok(()),
     }
 }
 
 /// Reports each guard band that isn't shorter than a cycle time, the domain's first.
-fn tell_guards_at(
+fn report_guards_at(
     given: &CommandInput<'_>,
-    told: &mut ToldLines,
+    reported: &mut ReportedLines,
     cycle: u64,
 ) -> Result<(), AllocError> {
     if given.written.number("guard") >= cycle {
-        tell_guard_at(given, told, cycle)?;
+        report_guard_at(given, reported, cycle)?;
     }
-    tell_link_guards_at(given, told, cycle)
+    report_link_guards_at(given, reported, cycle)
 }
 
 /// Reports why a network file has no plan: each stream that is wrong in this way at any cycle time, or the one that isn't placed.
-pub(crate) fn tell_plan(
+pub(crate) fn report_plan(
     given: &CommandInput<'_>,
-    told: &mut ToldLines,
+    reported: &mut ReportedLines,
     refusal: Refusal<'_>,
 ) -> Result<(), AllocError> {
     if refusal.fault == "NoLink" {
-        return tell_no_link(given, told, refusal.value);
+        return report_no_link(given, reported, refusal.value);
     }
     let Some(unplaced) = unplaced_of(refusal) else {
-        return tell_guards_at(given, told, cycle_of(refusal));
+        return report_guards_at(given, reported, cycle_of(refusal));
     };
     match unplaced.fault {
-        "NoTalker" => return tell_talkers_out(given, told, unplaced.stream),
+        "NoTalker" => return report_talkers_out(given, reported, unplaced.stream),
         "TwoAccessLinks" | "OtherEdge" | "OtherListeners" => {
-            return tell_entering(given, told, unplaced.stream, unplaced.fault);
+            return report_entering(given, reported, unplaced.stream, unplaced.fault);
         }
-        "NoListener" => return tell_no_listeners(given, told),
-        "NameHeld" => return tell_names_twice(given, told),
-        "TooManyHops" => return tell_many_hops(given, told, unplaced.stream),
+        "NoListener" => return report_no_listeners(given, reported),
+        "NameHeld" => return report_names_twice(given, reported),
+        "TooManyHops" => return report_many_hops(given, reported, unplaced.stream),
         _ => {}
     }
     if is_of_form(unplaced.fault) {
-        return tell_form_faults(given, told, unplaced.fault);
+        return report_form_faults(given, reported, unplaced.fault);
     }
     for item in &given.written.items(KeyOwner::Stream)? {
         if item.text("name") == Some(unplaced.stream) {
             let cycle = cycle_tried(given, refusal)?;
-            return tell_unplaced(given, told, item, unplaced, cycle);
+            return report_unplaced(given, reported, item, unplaced, cycle);
         }
     }
     Ok(())

@@ -88,13 +88,15 @@ pub(crate) fn is_in_step(item: &WrittenItem<'_>) -> bool {
         .unwrap_or(false)
 }
 
-/// Returns how many octets a stream's frame may have.
-pub(crate) fn longest_frame(item: &WrittenItem<'_>) -> u64 {
+/// Returns how many octets a stream's frame may have, given the gate overhead.
+pub(crate) fn longest_frame(item: &WrittenItem<'_>, overhead: u64) -> u64 {
     let size = item.number("size");
     if size > 0 {
         size
     } else {
-        item.number("octets").min(LONGEST_FRAME)
+        item.number("octets")
+            .saturating_add(overhead)
+            .min(LONGEST_FRAME)
     }
 }
 

@@ -11,8 +11,8 @@ pub(crate) struct Refusal<'a> {
 /// Returns the refusal of a line such as `cqf: domain: BadValue rate`, with its line feed.
 pub(crate) fn refusal_of(line: &[u8]) -> Option<Refusal<'_>> {
     let text = std::str::from_utf8(line).ok()?;
-    let told = text.strip_prefix("cqf: ")?.strip_suffix("\n")?;
-    let (part, fault) = told.split_once(": ").unwrap_or((told, ""));
+    let reported = text.strip_prefix("cqf: ")?.strip_suffix("\n")?;
+    let (part, fault) = reported.split_once(": ").unwrap_or((reported, ""));
     let (fault, value) = fault.split_once(' ').unwrap_or((fault, ""));
     Some(Refusal { part, fault, value })
 }

@@ -4,8 +4,8 @@ use crate::given::CommandInput;
 use crate::lines::Lines;
 use crate::parts::InputPart;
 use crate::places::{Grouped, Place};
+use crate::reported::ReportedLines;
 use crate::table_faults::place_of_offer;
-use crate::told::ToldLines;
 use crate::words::{question, shown};
 use crate::written::KeyOwner;
 use cqf_admission::{MOST_CALLS, is_order, is_seal_line};
@@ -14,7 +14,7 @@ use std::alloc::{AllocError, Global};
 use std::collections::BTreeSet;
 
 /// The last cycle that a line may state.
-const LAST_TOLD: u64 = 4_294_967_295;
+const LAST_REPORTED: u64 = 4_294_967_295;
 
 /// The forms of a line.
 const LINE_FORM: &str = "a line is N admit NAME, N withdraw NAME or seal";
@@ -71,7 +71,7 @@ fn cycle_of(line: &ScriptLine<'_>) -> Option<u64> {
         return None;
     }
     let number = line.text.strip_prefix(b"@")?;
-    read_decimal(number, 0, LAST_TOLD)
+    read_decimal(number, 0, LAST_REPORTED)
 }
 
 impl ScriptCounts {
@@ -85,7 +85,7 @@ impl ScriptCounts {
     }
 
     /// Returns the counts after a line.
-    fn behind(self, line: &ScriptLine<'_>) -> ScriptCounts {
+    fn after(self, line: &ScriptLine<'_>) -> ScriptCounts {
         if is_seal_line(line.text) {
             ScriptCounts {
                 seals: self.seals.saturating_add(1),
@@ -110,9 +110,9 @@ impl ScriptCounts {
 
 /// Returns whether a byte occurs twice in a row.
 fn has_twice(text: &[u8], byte: u8) -> bool {
-    let behind = text.iter().skip(1);
+    let after = text.iter().skip(1);
     text.iter()
-        .zip(behind)
+        .zip(after)
         .any(|(a, b)| *a == byte && *b == byte)
 }
 
@@ -228,26 +228,26 @@ fn wrong_of(
 }
 
 /// Reports each line without a form that a line may have.
-pub(crate) fn tell_bad_lines(
+pub(crate) fn report_bad_lines(
     given: &CommandInput<'_>,
-    told: &mut ToldLines,
+    reported: &mut ReportedLines,
 ) -> Result<(), AllocError> {
     let Some(part) = given.input.rest.first() else {
         return Ok(());
     };
     let mut counts = ScriptCounts::none();
     for line in &lines_of(given, *part)? {
-        if !is_good(line, counts) && !told.is_counted() {
+        if !is_good(line, counts) && !reported.is_counted() {
             let why = wrong_of(given.alloc, line, counts)?;
             let (place, text) = (line.place, shown(given.alloc, line.text)?);
-            let told_line = if line.text.trim_ascii().is_empty() {
+            let reported_line = if line.text.trim_ascii().is_empty() {
                 format!(in given.alloc; "{place}: {why}")?
             } else {
                 format!(in given.alloc; "{place}: {text}: {why}")?
             };
-            told.tell(told_line)?;
+            reported.report(reported_line)?;
         }
-        counts = counts.behind(line);
+        counts = counts.after(line);
     }
     Ok(())
 }
@@ -270,9 +270,9 @@ pub(crate) fn names_of<'p>(given: &'p CommandInput<'_>) -> Result<Vec<&'p str>, 
 }
 
 /// Reports each line that admits a stream which the plan lacks, except calls of cycles that aren't run.
-pub(crate) fn tell_unknown_streams(
+pub(crate) fn report_unknown_streams(
     given: &CommandInput<'_>,
-    told: &mut ToldLines,
+    reported: &mut ReportedLines,
 ) -> Result<(), AllocError> {
     let Some(part) = given.input.rest.first() else {
         return Ok(());
@@ -288,22 +288,22 @@ pub(crate) fn tell_unknown_streams(
     );
     for line in &lines_of(given, *part)? {
         let is_left_out = line.is_call && counts.cycle >= cycles;
-        counts = counts.behind(line);
+        counts = counts.after(line);
         let Some(name) = admitted(line) else {
             continue;
         };
-        if !is_left_out && !known.contains(name) && !told.is_counted() {
+        if !is_left_out && !known.contains(name) && !reported.is_counted() {
             let (place, question) = (line.place, question(given.alloc, name, names.as_slice())?);
-            told.tell(format!(in given.alloc; "{place}: no stream {name}{question}")?)?;
+            reported.report(format!(in given.alloc; "{place}: no stream {name}{question}")?)?;
         }
     }
     Ok(())
 }
 
 /// Reports an offer's name that no stream of the plan has.
-pub(crate) fn tell_unknown_offer(
+pub(crate) fn report_unknown_offer(
     given: &CommandInput<'_>,
-    told: &mut ToldLines,
+    reported: &mut ReportedLines,
     number: &str,
     name: &str,
 ) -> Result<(), AllocError> {
@@ -316,13 +316,13 @@ pub(crate) fn tell_unknown_offer(
         Some(place) => format!(in given.alloc; "{place}: no stream {name} in the plan{question}")?,
         None => format!(in given.alloc; "no stream {name} in the plan{question}")?,
     };
-    told.tell(line)
+    reported.report(line)
 }
 
 /// Reports the first line after which the script has too many lines.
-pub(crate) fn tell_too_many_lines(
+pub(crate) fn report_too_many_lines(
     given: &CommandInput<'_>,
-    told: &mut ToldLines,
+    reported: &mut ReportedLines,
 ) -> Result<(), AllocError> {
     let Some(part) = given.input.rest.first() else {
         return Ok(());
@@ -330,7 +330,7 @@ pub(crate) fn tell_too_many_lines(
     let cycles = given.cycles.map_or(u64::MAX, u64::from);
     let (mut counts, mut first) = (ScriptCounts::none(), None);
     for line in &lines_of(given, *part)? {
-        counts = counts.behind(line);
+        counts = counts.after(line);
         if first.is_none() && (counts.seals > cycles || counts.calls > MOST_CALLS as u64) {
             first = Some(line.place);
         }
@@ -350,5 +350,5 @@ pub(crate) fn tell_too_many_lines(
             "{place}: {seals} lines are seal, but only {cycles} cycles are run"
         )?
     };
-    told.tell(line)
+    reported.report(line)
 }

@@ -5,10 +5,10 @@ use crate::given::CommandInput;
 use crate::network::Network;
 use crate::places::{Grouped, Place};
 use crate::reading::{read_domain, request_of};
-use crate::told::ToldLines;
+use crate::reported::ReportedLines;
 use crate::words::shortened;
 use crate::written::{KeyOwner, WrittenItem, number_of};
-use cqf_admission::{count_places, find_tree, judge_paced};
+use cqf_admission::{count_indices, find_tree, judge_paced};
 use cqf_model::{LARGE, MOST_EVERY, Node, Refused};
 use cqf_topology::{Domain, PacedRequest};
 use std::alloc::{AllocError, Global};
@@ -50,7 +50,7 @@ fn is_bridge(domain: &Domain, name: &str) -> bool {
 
 /// Returns why paths are no tree of a domain.
 fn refusal_of(domain: &Domain, paths: &[Vec<String>]) -> Option<Refused> {
-    if count_places(paths).is_none() {
+    if count_indices(paths).is_none() {
         return None;
     }
     find_tree(domain, paths).err()
@@ -64,7 +64,7 @@ fn refusal_of_path(domain: &Domain, paths: &[Vec<String>], number: usize) -> Opt
 impl WrittenStream<'_> {
     /// Returns why the stream is refused for its own form. If it has ends and no path, its paths aren't checked.
     fn refusal(&self, domain: &Domain) -> Option<Refused> {
-        if count_places(self.request.paths.as_slice()).is_none() {
+        if count_indices(self.request.paths.as_slice()).is_none() {
             return None;
         }
         match judge_paced(domain, &self.request) {
@@ -92,28 +92,28 @@ impl WrittenStream<'_> {
     }
 
     /// Reports something about its paths.
-    fn tell_of_paths(
+    fn report_of_paths(
         &self,
         alloc: Global,
-        told: &mut ToldLines,
+        reported: &mut ReportedLines,
         words: &str,
     ) -> Result<(), AllocError> {
         let (place, label) = (self.paths_place(), self.item.counted(alloc)?);
-        told.tell(format!(in alloc; "{place}: {label}: {words}")?)
+        reported.report(format!(in alloc; "{place}: {label}: {words}")?)
     }
 }
 
 /// Reports the cycles of a stream that aren't valid.
-fn tell_pace(
+fn report_pace(
     given: &CommandInput<'_>,
-    told: &mut ToldLines,
+    reported: &mut ReportedLines,
     asked: &WrittenStream<'_>,
 ) -> Result<(), AllocError> {
     let label = asked.item.counted(given.alloc)?;
     let (every, phase) = (asked.request.every, asked.request.phase);
     if MOST_EVERY.checked_rem(every) != Some(0) {
         let place = asked.item.place_of("every");
-        return told.tell(format!(in given.alloc;
+        return reported.report(format!(in given.alloc;
             "{place}: {label}: every = {every}: {EVERY_FORM}"
         )?);
     }
@@ -121,30 +121,30 @@ fn tell_pace(
     match asked.item.found("every") {
         Some(found) => {
             let other = found.place;
-            told.tell(format!(in given.alloc;
+            reported.report(format!(in given.alloc;
                 "{place}: {label}: phase = {phase}, and every = {every} at {other}: {PHASE_FORM}"
             )?)
         }
-        None => told.tell(format!(in given.alloc;
+        None => reported.report(format!(in given.alloc;
             "{place}: {label}: phase = {phase}, but there is no every: {PHASE_FORM}"
         )?),
     }
 }
 
 /// Reports each node of a stream's paths that isn't there.
-fn tell_unknown_nodes(
+fn report_unknown_nodes(
     given: &CommandInput<'_>,
-    told: &mut ToldLines,
+    reported: &mut ReportedLines,
     network: &Network<'_>,
     asked: &WrittenStream<'_>,
 ) -> Result<(), AllocError> {
     for path in &asked.request.paths {
         for name in path {
-            if !network.is_node(name.as_str()) && !told.is_counted() {
+            if !network.is_node(name.as_str()) && !reported.is_counted() {
                 let shown = shortened(given.alloc, name.as_str())?;
                 let question = network.node_question(given.alloc, name.as_str())?;
                 let words = format!(in given.alloc; "no bridge or station {shown}{question}")?;
-                asked.tell_of_paths(given.alloc, told, words.as_str())?;
+                asked.report_of_paths(given.alloc, reported, words.as_str())?;
             }
         }
     }
@@ -189,21 +189,21 @@ fn broken_words(
 }
 
 /// Reports each broken path of a stream.
-fn tell_broken_paths(
+fn report_broken_paths(
     given: &CommandInput<'_>,
-    told: &mut ToldLines,
+    reported: &mut ReportedLines,
     domain: &Domain,
     asked: &WrittenStream<'_>,
 ) -> Result<(), AllocError> {
     let paths = asked.request.paths.as_slice();
     if paths.is_empty() {
-        return asked.tell_of_paths(given.alloc, told, "there is no path");
+        return asked.report_of_paths(given.alloc, reported, "there is no path");
     }
     for (number, path) in paths.iter().enumerate() {
         if let Some(Refused::BrokenPath(place)) = refusal_of_path(domain, paths, number) {
-            if !told.is_counted() {
+            if !reported.is_counted() {
                 let words = broken_words(given, domain, path.as_slice(), place)?;
-                asked.tell_of_paths(given.alloc, told, words.as_str())?;
+                asked.report_of_paths(given.alloc, reported, words.as_str())?;
             }
         }
     }
@@ -211,9 +211,9 @@ fn tell_broken_paths(
 }
 
 /// Reports each path of a stream that reaches a node twice.
-fn tell_loops(
+fn report_loops(
     given: &CommandInput<'_>,
-    told: &mut ToldLines,
+    reported: &mut ReportedLines,
     domain: &Domain,
     asked: &WrittenStream<'_>,
 ) -> Result<(), AllocError> {
@@ -222,7 +222,7 @@ fn tell_loops(
         let Some(Refused::LoopingPath(place)) = refusal_of_path(domain, paths, number) else {
             continue;
         };
-        if told.is_counted() {
+        if reported.is_counted() {
             continue;
         }
         let name = name_at(path.as_slice(), place);
@@ -234,7 +234,7 @@ fn tell_loops(
         let words = format!(in given.alloc;
             "{name} is both node {first} and node {second} of the path"
         )?;
-        asked.tell_of_paths(given.alloc, told, words.as_str())?;
+        asked.report_of_paths(given.alloc, reported, words.as_str())?;
     }
     Ok(())
 }
@@ -319,9 +319,9 @@ fn first_apart(
 }
 
 /// Reports each path of a stream that makes no tree with those before it, with the first of these with which it makes none.
-fn tell_strays(
+fn report_strays(
     given: &CommandInput<'_>,
-    told: &mut ToldLines,
+    reported: &mut ReportedLines,
     domain: &Domain,
     asked: &WrittenStream<'_>,
 ) -> Result<(), AllocError> {
@@ -330,18 +330,18 @@ fn tell_strays(
         let Some(first) = first_apart(given.alloc, domain, paths, second)? else {
             continue;
         };
-        if !told.is_counted() {
+        if !reported.is_counted() {
             let words = stray_words(given.alloc, paths, first, second)?;
-            asked.tell_of_paths(given.alloc, told, words.as_str())?;
+            asked.report_of_paths(given.alloc, reported, words.as_str())?;
         }
     }
     Ok(())
 }
 
 /// Reports how many links the tree of a stream has, which are too many.
-fn tell_hops(
+fn report_hops(
     given: &CommandInput<'_>,
-    told: &mut ToldLines,
+    reported: &mut ReportedLines,
     asked: &WrittenStream<'_>,
 ) -> Result<(), AllocError> {
     let mut nodes = BTreeSet::new(given.alloc);
@@ -356,37 +356,37 @@ fn tell_hops(
     let words = format!(in given.alloc;
         "its paths have {hops} links together: a tree has at most {most}{larger}"
     )?;
-    asked.tell_of_paths(given.alloc, told, words.as_str())
+    asked.report_of_paths(given.alloc, reported, words.as_str())
 }
 
 /// Reports what is wrong with the form of a stream, for which it is refused.
-fn tell_form(
+fn report_form(
     given: &CommandInput<'_>,
-    told: &mut ToldLines,
+    reported: &mut ReportedLines,
     domain: &Domain,
     asked: &WrittenStream<'_>,
     refused: Refused,
 ) -> Result<(), AllocError> {
     let item = &asked.item;
     match refused {
-        Refused::UnknownNode(_) => tell_unknown_nodes(given, told, &given.network()?, asked),
-        Refused::BrokenPath(_) => tell_broken_paths(given, told, domain, asked),
-        Refused::LoopingPath(_) => tell_loops(given, told, domain, asked),
-        Refused::NotATree(_) => tell_strays(given, told, domain, asked),
-        _ if told.is_counted() => Ok(()),
+        Refused::UnknownNode(_) => report_unknown_nodes(given, reported, &given.network()?, asked),
+        Refused::BrokenPath(_) => report_broken_paths(given, reported, domain, asked),
+        Refused::LoopingPath(_) => report_loops(given, reported, domain, asked),
+        Refused::NotATree(_) => report_strays(given, reported, domain, asked),
+        _ if reported.is_counted() => Ok(()),
         Refused::BadName => {
             let (place, label) = (item.place_of("name"), item.counted(given.alloc)?);
-            told.tell(format!(in given.alloc; "{place}: {label}: {NAME_FORM}")?)
+            reported.report(format!(in given.alloc; "{place}: {label}: {NAME_FORM}")?)
         }
         Refused::BadOctets => {
             let (place, label) = (item.place_of("octets"), item.counted(given.alloc)?);
             let octets = asked.request.octets;
-            told.tell(format!(in given.alloc;
+            reported.report(format!(in given.alloc;
                 "{place}: {label}: octets = {octets}: a reservation is 64 to 1,000,000 octets a cycle"
             )?)
         }
-        Refused::BadPace => tell_pace(given, told, asked),
-        _ => tell_hops(given, told, asked),
+        Refused::BadPace => report_pace(given, reported, asked),
+        _ => report_hops(given, reported, asked),
     }
 }
 
@@ -399,9 +399,9 @@ fn gate_of(item: &WrittenItem<'_>) -> u64 {
 }
 
 /// Reports a stream with the gate of an earlier one.
-fn tell_gate_twice(
+fn report_gate_twice(
     given: &CommandInput<'_>,
-    told: &mut ToldLines,
+    reported: &mut ReportedLines,
     item: &WrittenItem<'_>,
     first: &WrittenItem<'_>,
 ) -> Result<(), AllocError> {
@@ -416,21 +416,21 @@ fn tell_gate_twice(
     } else {
         "without x-gate its gate is"
     };
-    told.tell(format!(in given.alloc;
+    reported.report(format!(in given.alloc;
         "{place}: {label}: {own} {gate}: stream {number} at {first} already has this gate"
     )?)
 }
 
 /// Reports each stream with the gate of an earlier one.
-pub(crate) fn tell_gates_twice(
+pub(crate) fn report_gates_twice(
     given: &CommandInput<'_>,
-    told: &mut ToldLines,
+    reported: &mut ReportedLines,
 ) -> Result<(), AllocError> {
     let mut firsts: BTreeMap<u64, WrittenItem<'_>> = BTreeMap::new(given.alloc);
     for item in &given.written.items(KeyOwner::Stream)? {
         if let Some(first) = firsts.get(&gate_of(item)) {
-            if !told.is_counted() {
-                tell_gate_twice(given, told, item, first)?;
+            if !reported.is_counted() {
+                report_gate_twice(given, reported, item, first)?;
             }
         } else {
             firsts.insert(gate_of(item), *item)?;
@@ -455,9 +455,9 @@ pub(crate) fn is_of_form(fault: &str) -> bool {
 }
 
 /// Reports each stream that is refused for a fault of its own form.
-pub(crate) fn tell_form_faults(
+pub(crate) fn report_form_faults(
     given: &CommandInput<'_>,
-    told: &mut ToldLines,
+    reported: &mut ReportedLines,
     fault: &str,
 ) -> Result<(), AllocError> {
     let Some(domain) = read_domain(given)? else {
@@ -469,16 +469,16 @@ pub(crate) fn tell_form_faults(
         };
         let line = format!(in given.alloc; "{refused}")?;
         if line.as_str().split(' ').next() == Some(fault) {
-            tell_form(given, told, &domain, asked, refused)?;
+            report_form(given, reported, &domain, asked, refused)?;
         }
     }
     Ok(())
 }
 
 /// Reports each stream whose name an earlier one has.
-pub(crate) fn tell_names_twice(
+pub(crate) fn report_names_twice(
     given: &CommandInput<'_>,
-    told: &mut ToldLines,
+    reported: &mut ReportedLines,
 ) -> Result<(), AllocError> {
     let mut firsts: BTreeMap<&str, WrittenItem<'_>> = BTreeMap::new(given.alloc);
     for item in &given.written.items(KeyOwner::Stream)? {
@@ -487,12 +487,12 @@ pub(crate) fn tell_names_twice(
             firsts.insert(name, *item)?;
             continue;
         };
-        if told.is_counted() {
+        if reported.is_counted() {
             continue;
         }
         let (place, label) = (item.place_of("name"), item.counted(given.alloc)?);
         let (number, first) = (first.number.saturating_add(1), first.place_of("name"));
-        told.tell(format!(in given.alloc;
+        reported.report(format!(in given.alloc;
             "{place}: {label}: stream {number} at {first} already has this name"
         )?)?;
     }
@@ -500,28 +500,28 @@ pub(crate) fn tell_names_twice(
 }
 
 /// Reports a stream beyond the most that are held at once.
-pub(crate) fn tell_beyond(
+pub(crate) fn report_beyond(
     given: &CommandInput<'_>,
-    told: &mut ToldLines,
+    reported: &mut ReportedLines,
     item: &WrittenItem<'_>,
 ) -> Result<(), AllocError> {
     let (place, label) = (item.place(), item.counted(given.alloc)?);
     let most = Grouped(given.limits.streams_within() as u64);
     let larger = given.larger(LARGE.streams_within() as u64)?;
-    told.tell(format!(in given.alloc;
+    reported.report(format!(in given.alloc;
         "{place}: {label}: at most {most} streams can be held at once{larger}"
     )?)
 }
 
 /// Reports each stream beyond the most that are held at once.
-pub(crate) fn tell_streams_beyond(
+pub(crate) fn report_streams_beyond(
     given: &CommandInput<'_>,
-    told: &mut ToldLines,
+    reported: &mut ReportedLines,
 ) -> Result<(), AllocError> {
     let items = given.written.items(KeyOwner::Stream)?;
     for item in items.iter().skip(given.limits.streams_within()) {
-        if !told.is_counted() {
-            tell_beyond(given, told, item)?;
+        if !reported.is_counted() {
+            report_beyond(given, reported, item)?;
         }
     }
     Ok(())

@@ -7,8 +7,8 @@ use crate::network::Network;
 use crate::parts::InputPart;
 use crate::places::{Grouped, Place};
 use crate::reading::read_domain;
+use crate::reported::ReportedLines;
 use crate::stream_faults::leads;
-use crate::told::ToldLines;
 use crate::words::shown;
 use cqf_model::LARGE;
 use cqf_program_files::begins_as_offers;
@@ -190,9 +190,9 @@ fn header_words(text: &[u8], table: InputTable) -> &'static str {
 }
 
 /// Reports a header that isn't the expected one.
-fn tell_header(
+fn report_header(
     given: &CommandInput<'_>,
-    told: &mut ToldLines,
+    reported: &mut ReportedLines,
     table: InputTable,
     part: InputPart<'_>,
 ) -> Result<(), AllocError> {
@@ -203,13 +203,13 @@ fn tell_header(
             file: part.file,
             line: None,
         };
-        return told.tell(format!(in given.alloc;
+        return reported.report(format!(in given.alloc;
             "{place}: the table is empty: its header is {header}"
         )?);
     };
     let (place, text) = (first.place, shown(given.alloc, first.text)?);
     let words = header_words(first.text, table);
-    told.tell(format!(in given.alloc; "{place}: {text}: the header is {header}{words}")?)
+    reported.report(format!(in given.alloc; "{place}: {text}: the header is {header}{words}")?)
 }
 
 /// What is wrong with a row.
@@ -341,9 +341,9 @@ fn wrong_words(
 }
 
 /// Reports each row with a wrong field.
-fn tell_rows(
+fn report_rows(
     given: &CommandInput<'_>,
-    told: &mut ToldLines,
+    reported: &mut ReportedLines,
     table: InputTable,
     part: InputPart<'_>,
 ) -> Result<(), AllocError> {
@@ -354,10 +354,10 @@ fn tell_rows(
         let Some(wrong) = wrong else {
             continue;
         };
-        if !told.is_counted() {
+        if !reported.is_counted() {
             let (place, text) = (record.place, record.text);
             let words = wrong_words(given.alloc, &network, table, text, wrong)?;
-            told.tell(format!(in given.alloc; "{place}: {words}")?)?;
+            reported.report(format!(in given.alloc; "{place}: {words}")?)?;
         }
     }
     Ok(())
@@ -406,17 +406,17 @@ fn instant_of(record: &Record<'_>) -> u64 {
 }
 
 /// Reports each row whose instant is before that of the row before it.
-fn tell_order(
+fn report_order(
     given: &CommandInput<'_>,
-    told: &mut ToldLines,
+    reported: &mut ReportedLines,
     part: InputPart<'_>,
 ) -> Result<(), AllocError> {
     let mut before: u64 = 0;
     for record in records_of(given.alloc, part)?.iter().skip(1) {
         let instant = instant_of(record);
-        if instant < before && !told.is_counted() {
+        if instant < before && !reported.is_counted() {
             let (place, at, earlier) = (record.place, Grouped(instant), Grouped(before));
-            told.tell(format!(in given.alloc;
+            reported.report(format!(in given.alloc;
                 "{place}: {at} ns is before {earlier} ns in the row above; sort -s -t, -k1,1n puts rows in order"
             )?)?;
         }
@@ -426,9 +426,9 @@ fn tell_order(
 }
 
 /// Reports that a table has too many rows.
-fn tell_count(
+fn report_count(
     given: &CommandInput<'_>,
-    told: &mut ToldLines,
+    reported: &mut ReportedLines,
     part: InputPart<'_>,
 ) -> Result<(), AllocError> {
     let place = Place {
@@ -438,13 +438,15 @@ fn tell_count(
     let rows = (records_of(given.alloc, part)?.len() as u64).saturating_sub(1);
     let most = Grouped(u64::from(given.limits.rows_within()));
     let (rows, larger) = (Grouped(rows), given.larger(u64::from(LARGE.rows_within()))?);
-    told.tell(format!(in given.alloc; "{place}: {rows} rows: a table has at most {most}{larger}")?)
+    reported.report(format!(in given.alloc;
+        "{place}: {rows} rows: a table has at most {most}{larger}"
+    )?)
 }
 
 /// Reports why a table is refused.
-pub(crate) fn tell_table(
+pub(crate) fn report_table(
     given: &CommandInput<'_>,
-    told: &mut ToldLines,
+    reported: &mut ReportedLines,
     table: InputTable,
     fault: &str,
 ) -> Result<(), AllocError> {
@@ -453,10 +455,10 @@ pub(crate) fn tell_table(
         return Ok(());
     };
     match fault {
-        "BadHeader" => tell_header(given, told, table, *part),
-        "BadRow" => tell_rows(given, told, table, *part),
-        "OutOfOrder" => tell_order(given, told, *part),
-        "TooMany" => tell_count(given, told, *part),
+        "BadHeader" => report_header(given, reported, table, *part),
+        "BadRow" => report_rows(given, reported, table, *part),
+        "OutOfOrder" => report_order(given, reported, *part),
+        "TooMany" => report_count(given, reported, *part),
         _ => Ok(()),
     }
 }

@@ -1,7 +1,7 @@
 //! Texts that aren't TOML, keys that are missing, and values of another form.
 
 use crate::forms::{
-    CYCLES_FORM, NAME_FORM, form_of_top, form_within, is_name, told_value, written,
+    CYCLES_FORM, NAME_FORM, form_of_top, form_within, is_name, reported_value, written,
 };
 use crate::given::CommandInput;
 use crate::hints::{is_open, plan_hint};
@@ -9,7 +9,7 @@ use crate::outline::{Element, KeyLine, Outline};
 use crate::places::Place;
 use crate::planning::is_planning;
 use crate::reading::{has_bad_value, is_bad_at_top, lacks};
-use crate::told::ToldLines;
+use crate::reported::ReportedLines;
 use crate::words::{nearest, shown};
 use crate::written::{KeyOwner, NetworkFile, WrittenItem};
 use cqf_program_files::{LINK, STREAM, TOP};
@@ -104,15 +104,15 @@ fn twice_in<'p>(outline: &'p Outline<'p>, line: u64) -> Option<(&'p [u8], u64)> 
 }
 
 /// Reports why a file's text isn't TOML.
-fn tell_no_toml(
+fn report_no_toml(
     given: &CommandInput<'_>,
-    told: &mut ToldLines,
+    reported: &mut ReportedLines,
     file: &NetworkFile<'_>,
     error: &toml::de::Error,
 ) -> Result<(), AllocError> {
     if let Some(other) = other_text(file.part.text) {
         let place = file.at(None);
-        return told.tell(format!(in given.alloc;
+        return reported.report(format!(in given.alloc;
             "{place}: this looks like {other}: the network file comes first"
         )?);
     }
@@ -132,28 +132,28 @@ fn tell_no_toml(
         }
         _ => format!(in given.alloc; "{place}:{column}: {message}")?,
     };
-    told.tell(line)
+    reported.report(line)
 }
 
 /// Reports each file of the plan that isn't TOML.
-pub(crate) fn tell_not_toml(
+pub(crate) fn report_not_toml(
     given: &CommandInput<'_>,
-    told: &mut ToldLines,
+    reported: &mut ReportedLines,
 ) -> Result<(), AllocError> {
     for file in &given.written.files {
         match toml::table_from_slice(given.alloc, file.part.text) {
             Ok(_) => {}
             Err(error) if error.is_memory() => return Err(AllocError),
-            Err(error) => tell_no_toml(given, told, file, &error)?,
+            Err(error) => report_no_toml(given, reported, file, &error)?,
         }
     }
     Ok(())
 }
 
 /// Reports a key of the top level that is in a link or a stream.
-fn tell_misplaced(
+fn report_misplaced(
     given: &CommandInput<'_>,
-    told: &mut ToldLines,
+    reported: &mut ReportedLines,
     kind: KeyOwner,
     key: &str,
 ) -> Result<bool, AllocError> {
@@ -161,11 +161,11 @@ fn tell_misplaced(
     for item in &given.written.items(kind)? {
         if item.get(key).is_some() {
             found = true;
-            if told.is_counted() {
+            if reported.is_counted() {
                 continue;
             }
             let (place, label) = (item.place_of(key), item.label(given.alloc)?);
-            told.tell(format!(in given.alloc;
+            reported.report(format!(in given.alloc;
                 "{place}: {key} is in {label}: keys of the network come before the first [[..]]"
             )?)?;
         }
@@ -174,9 +174,9 @@ fn tell_misplaced(
 }
 
 /// Reports a key of the top level that may be meant instead of one that is missing there.
-fn tell_near_top(
+fn report_near_top(
     given: &CommandInput<'_>,
-    told: &mut ToldLines,
+    reported: &mut ReportedLines,
     key: &str,
 ) -> Result<bool, AllocError> {
     let mut found = false;
@@ -185,11 +185,13 @@ fn tell_near_top(
             let written = shown(given.alloc, line.key)?;
             let is_known = TOP.contains(&written.as_str());
             if !is_known && nearest(given.alloc, written.as_str(), &[key])?.is_some() {
-                if told.is_counted() {
+                if reported.is_counted() {
                     continue;
                 }
                 let place = file.at(Some(line.line));
-                told.tell(format!(in given.alloc; "{place}: {written}: did you mean {key}?")?)?;
+                reported.report(format!(in given.alloc;
+                    "{place}: {written}: did you mean {key}?"
+                )?)?;
                 found = true;
             }
         }
@@ -198,15 +200,15 @@ fn tell_near_top(
 }
 
 /// Reports a key that the top level lacks.
-fn tell_missing_top(
+fn report_missing_top(
     given: &CommandInput<'_>,
-    told: &mut ToldLines,
+    reported: &mut ReportedLines,
     key: &str,
 ) -> Result<(), AllocError> {
     // a link may have a guard band of its own
-    let in_links = key != GUARD && tell_misplaced(given, told, KeyOwner::Link, key)?;
-    let in_streams = tell_misplaced(given, told, KeyOwner::Stream, key)?;
-    let near = tell_near_top(given, told, key)?;
+    let in_links = key != GUARD && report_misplaced(given, reported, KeyOwner::Link, key)?;
+    let in_streams = report_misplaced(given, reported, KeyOwner::Stream, key)?;
+    let near = report_near_top(given, reported, key)?;
     if in_links || in_streams || near {
         return Ok(());
     }
@@ -214,11 +216,11 @@ fn tell_missing_top(
     if let Some(file) = given.written.files_of(key).first() {
         let place = file.at(None);
         if file.part.text.trim_ascii_start().is_empty() {
-            return told.tell(format!(in given.alloc;
+            return reported.report(format!(in given.alloc;
                 "{place}: no {key}: the file is empty; the command that was to write it may have failed"
             )?);
         }
-        told.tell(format!(in given.alloc; "{place}: no {key} at the top: {words}")?)?;
+        reported.report(format!(in given.alloc; "{place}: no {key} at the top: {words}")?)?;
     }
     Ok(())
 }
@@ -251,9 +253,9 @@ fn hint_of_missing(given: &CommandInput<'_>, key: &str) -> Result<String, AllocE
 }
 
 /// Reports each link or stream that lacks a key.
-fn tell_missing_within(
+fn report_missing_within(
     given: &CommandInput<'_>,
-    told: &mut ToldLines,
+    reported: &mut ReportedLines,
     kind: KeyOwner,
     key: &str,
 ) -> Result<(), AllocError> {
@@ -263,7 +265,7 @@ fn tell_missing_within(
         key
     };
     for item in &given.written.items(kind)? {
-        if !lacks(given, item, key)? || told.is_counted() {
+        if !lacks(given, item, key)? || reported.is_counted() {
             continue;
         }
         let label = item.label(given.alloc)?;
@@ -277,21 +279,21 @@ fn tell_missing_within(
                 format!(in given.alloc; "{place}: {label} has no {owed}{hint}")?
             }
         };
-        told.tell(line)?;
+        reported.report(line)?;
     }
     Ok(())
 }
 
 /// Reports each place at which a part lacks a required key.
-pub(crate) fn tell_missing(
+pub(crate) fn report_missing(
     given: &CommandInput<'_>,
-    told: &mut ToldLines,
+    reported: &mut ReportedLines,
     part: &str,
     key: &str,
 ) -> Result<(), AllocError> {
     match kind_of(part, key) {
-        KeyOwner::Top => tell_missing_top(given, told, key),
-        kind => tell_missing_within(given, told, kind, key),
+        KeyOwner::Top => report_missing_top(given, reported, key),
+        kind => report_missing_within(given, reported, kind, key),
     }
 }
 
@@ -326,9 +328,9 @@ fn unit_question(given: &CommandInput<'_>, key: &str, value: &Value) -> Result<S
 }
 
 /// Reports a value of the top level that doesn't have its form.
-fn tell_bad_top(
+fn report_bad_top(
     given: &CommandInput<'_>,
-    told: &mut ToldLines,
+    reported: &mut ReportedLines,
     key: &str,
 ) -> Result<(), AllocError> {
     let words = form_at_top(given, key);
@@ -341,28 +343,28 @@ fn tell_bad_top(
         }
         let (place, question) = (found.place, unit_question(given, key, found.value)?);
         let written = written(given.alloc, &found)?;
-        told.tell(format!(in given.alloc; "{place}: {key} = {written}: {words}{question}")?)?;
+        reported.report(format!(in given.alloc; "{place}: {key} = {written}: {words}{question}")?)?;
     }
     Ok(())
 }
 
 /// Reports each element of an array of names that isn't a name; or that there is no bridge.
-fn tell_bad_names(
+fn report_bad_names(
     given: &CommandInput<'_>,
-    told: &mut ToldLines,
+    reported: &mut ReportedLines,
     key: &str,
 ) -> Result<(), AllocError> {
     let names = given.written.names(key)?;
     for name in &names {
-        if !is_name(name.value) && !told.is_counted() {
-            let (place, value) = (name.place, told_value(given.alloc, name.value)?);
-            told.tell(format!(in given.alloc; "{place}: {key}: {value}: {NAME_FORM}")?)?;
+        if !is_name(name.value) && !reported.is_counted() {
+            let (place, value) = (name.place, reported_value(given.alloc, name.value)?);
+            reported.report(format!(in given.alloc; "{place}: {key}: {value}: {NAME_FORM}")?)?;
         }
     }
     match given.written.top(key) {
         Some(found) if names.is_empty() && key == "bridges" && found.value.is_array() => {
             let place = found.place;
-            told.tell(format!(in given.alloc;
+            reported.report(format!(in given.alloc;
                 "{place}: bridges = []: a network has at least one bridge"
             )?)
         }
@@ -371,9 +373,9 @@ fn tell_bad_names(
 }
 
 /// Reports each element of an array of tables that isn't a table.
-fn tell_bad_tables(
+fn report_bad_tables(
     given: &CommandInput<'_>,
-    told: &mut ToldLines,
+    reported: &mut ReportedLines,
     key: &str,
 ) -> Result<(), AllocError> {
     let kind = if key == "links" {
@@ -382,10 +384,10 @@ fn tell_bad_tables(
         KeyOwner::Stream
     };
     for item in &given.written.items(kind)? {
-        if !item.value.is_table() && !told.is_counted() {
+        if !item.value.is_table() && !reported.is_counted() {
             let (place, label) = (item.place(), item.label(given.alloc)?);
-            let value = told_value(given.alloc, item.value)?;
-            told.tell(format!(in given.alloc;
+            let value = reported_value(given.alloc, item.value)?;
+            reported.report(format!(in given.alloc;
                 "{place}: {label} = {value}: each of {key} is a table"
             )?)?;
         }
@@ -394,43 +396,45 @@ fn tell_bad_tables(
 }
 
 /// Reports each link or stream in which the value at a key doesn't have its form.
-fn tell_bad_within(
+fn report_bad_within(
     given: &CommandInput<'_>,
-    told: &mut ToldLines,
+    reported: &mut ReportedLines,
     kind: KeyOwner,
     key: &str,
 ) -> Result<(), AllocError> {
     for item in &given.written.items(kind)? {
-        if !has_bad_value(given, item, key)? || told.is_counted() {
+        if !has_bad_value(given, item, key)? || reported.is_counted() {
             continue;
         }
         let words = form_within(given.limits, item, key).unwrap_or("");
         if let Some(found) = item.found(key) {
             let (place, label): (Place<'_>, String) = (found.place, item.label(given.alloc)?);
             let written = written(given.alloc, &found)?;
-            told.tell(format!(in given.alloc; "{place}: {label}: {key} = {written}: {words}")?)?;
+            reported.report(format!(in given.alloc;
+                "{place}: {label}: {key} = {written}: {words}"
+            )?)?;
         }
     }
     Ok(())
 }
 
 /// Reports the values at a key that don't have their form.
-pub(crate) fn tell_bad_value(
+pub(crate) fn report_bad_value(
     given: &CommandInput<'_>,
-    told: &mut ToldLines,
+    reported: &mut ReportedLines,
     part: &str,
     key: &str,
 ) -> Result<(), AllocError> {
     match kind_of(part, key) {
         KeyOwner::Top => {
-            tell_bad_top(given, told, key)?;
+            report_bad_top(given, reported, key)?;
             match key {
-                "bridges" | "stations" => tell_bad_names(given, told, key),
-                "links" | "streams" => tell_bad_tables(given, told, key),
-                GUARD => tell_bad_within(given, told, KeyOwner::Link, key),
+                "bridges" | "stations" => report_bad_names(given, reported, key),
+                "links" | "streams" => report_bad_tables(given, reported, key),
+                GUARD => report_bad_within(given, reported, KeyOwner::Link, key),
                 _ => Ok(()),
             }
         }
-        kind => tell_bad_within(given, told, kind, key),
+        kind => report_bad_within(given, reported, kind, key),
     }
 }

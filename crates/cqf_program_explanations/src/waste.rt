@@ -8,14 +8,14 @@ use crate::explaining::NamedFile;
 use crate::given::given_of;
 use crate::planning::is_in_step;
 use crate::reading::read_streams;
-use crate::told::ToldLines;
+use crate::reported::ReportedLines;
 use crate::written::{KeyOwner, WrittenItem};
 use cqf_edge::{EdgeFault, EdgeStreams, edge_streams};
 use cqf_model::{LEAST_OCTETS, LONGEST_CYCLE, Limits};
-use cqf_network::{NetworkDomain, NetworkFault, Pacing, Stream, WantedWay};
+use cqf_network::{NetworkDomain, NetworkFault, Pacing, Stream, WantedPath};
 use cqf_topology::DomainFault;
 use cqf_traffic::Traffic;
-use cqf_units::Nanos;
+use cqf_units::{Octets, counted};
 use std::alloc::{AllocError, Global};
 use std::fmt;
 
@@ -72,6 +72,8 @@ struct ReadPlan {
     cycle: u64,
     /// How far any two clocks may differ, in nanoseconds.
     sync: u64,
+    /// The octets of a frame that gates don't count.
+    overhead: u32,
     promised: Vec<Option<Traffic>>,
     edge: EdgeStreams,
 }
@@ -85,9 +87,10 @@ struct PlannedStream {
     /// What it reserves in one of `every` cycles.
     octets: u32,
     every: u32,
-    /// Its interval, and the octets that it sends in one.
+    /// Its interval, the octets that it sends in one, and those of them that gates count.
     interval: u64,
     sent: u64,
+    counted: u64,
     /// How late its frames may be there, and at the hand-over.
     jitter: u64,
     own_jitter: u64,
@@ -141,15 +144,16 @@ fn read_plan(alloc: Global, limits: Limits, plan: &[u8]) -> Result<Option<ReadPl
     Ok(Some(ReadPlan {
         cycle: u64::from(network.open_cycle()),
         sync: u64::from(network.sync()),
+        overhead: network.overhead(),
         promised,
         edge,
     }))
 }
 
 /// Returns how many bridges the longest path of a stream has; 0 if it has none yet.
-fn bridges_on(way: &WantedWay) -> u64 {
+fn bridges_on(path: &WantedPath) -> u64 {
     let mut most: u64 = 0;
-    if let WantedWay::Along(paths) = way {
+    if let WantedPath::Along(paths) = path {
         for path in paths {
             most = most.max((path.len() as u64).saturating_sub(1));
         }
@@ -172,6 +176,7 @@ impl ReadPlan {
         let promised = *self.promised.get(place)?;
         let (octets, traffic, promised) = (stream.octets?, stream.traffic?, promised?);
         let frames = u64::from(traffic.frames());
+        let counted = counted(Octets(self.overhead), traffic.size()).0;
         Some(PlannedStream {
             cycle: self.cycle,
             sync: self.sync,
@@ -179,13 +184,14 @@ impl ReadPlan {
             every,
             interval: traffic.interval().0,
             sent: frames.saturating_mul(u64::from(traffic.size().0)),
+            counted: frames.saturating_mul(u64::from(counted)),
             jitter: traffic.jitter().0,
             own_jitter: promised.jitter().0,
             offset: promised.offset().0,
             least,
             most,
             deadline: stream.deadline,
-            bridges: bridges_on(&stream.way),
+            bridges: bridges_on(&stream.path),
         })
     }
 }
@@ -214,7 +220,7 @@ impl PlannedStream {
         let rest = within.checked_rem(self.interval).unwrap_or(0);
         let intervals = whole.saturating_add(u64::from(rest > 0));
         intervals
-            .saturating_mul(self.sent)
+            .saturating_mul(self.counted)
             .max(u64::from(LEAST_OCTETS))
     }
 
@@ -290,17 +296,17 @@ fn cheaper_forms(
 /// Notes a stream if it reserves much more than it sends.
 fn note_stream(
     alloc: Global,
-    told: &mut ToldLines,
+    reported: &mut ReportedLines,
     item: &WrittenItem<'_>,
     planned: &PlannedStream,
 ) -> Result<(), AllocError> {
     let (reserved, sent) = (planned.reserved(), planned.sent());
-    if !reserved.is_above(MOST_TIMES, sent) || told.is_counted() {
+    if !reserved.is_above(MOST_TIMES, sent) || reported.is_counted() {
         return Ok(());
     }
     let (place, label) = (item.place_of("interval"), item.label(alloc)?);
     let forms = cheaper_forms(alloc, item, planned)?;
-    told.tell(format!(in alloc;
+    reported.report(format!(in alloc;
         "{place}: {label} reserves {reserved} for {sent} of traffic{forms}"
     )?)
 }
@@ -319,15 +325,15 @@ pub fn plan_notes(
 ) -> Result<Vec<u8>, AllocError>
     ensures { IfOk result (λ text. AreNotes text.items) }
 {
-    let mut told = ToldLines::new(alloc);
+    let mut reported = ReportedLines::new(alloc);
     if let Some(read) = read_plan(alloc, limits, plan)? {
         let given = given_of(alloc, "plan", None, &[], limits, sources, "note")?;
         // the plan has the streams of all files in their order
         for (place, item) in given.written.items(KeyOwner::Stream)?.iter().enumerate() {
             if let Some(planned) = read.stream_at(place) {
-                note_stream(alloc, &mut told, item, &planned)?;
+                note_stream(alloc, &mut reported, item, &planned)?;
             }
         }
     }
-    told.text("note: ")
+    reported.text("note: ")
 }

@@ -71,7 +71,7 @@ pub(crate) fn line_of_key<'p>(keys: &'p [KeyLine<'p>], key: &str) -> Option<&'p 
 }
 
 /// Returns what follows a key, if its line is known.
-fn text_behind<'p>(line: Option<&'p KeyLine<'p>>) -> &'p [u8] {
+fn text_after<'p>(line: Option<&'p KeyLine<'p>>) -> &'p [u8] {
     match line {
         Some(line) => line.text,
         None => &[],
@@ -116,7 +116,7 @@ impl<'a> NetworkFile<'a> {
         Some(FoundKey {
             place: self.at(line.map(|line| line.line)),
             value,
-            text: text_behind(line),
+            text: text_after(line),
         })
     }
 }
@@ -339,7 +339,7 @@ impl<'p> WrittenItem<'p> {
         Some(FoundKey {
             place: self.place_of(key),
             value,
-            text: text_behind(line_of_key(self.keys, key)),
+            text: text_after(line_of_key(self.keys, key)),
         })
     }
 

@@ -15,9 +15,9 @@ found_here f None rest y found = absurd (false≢true (sym (ap is_some found)))
 found_here f (Some x) rest y found = found
 
 -- and if nothing is found here, what is found after it
-pub found_behind : {X Y : Type 0} (f : X → Y) (here rest : Option X) → None ≡ option_map f here → option_or here rest ≡ rest
-found_behind f None rest none = refl
-found_behind f (Some x) rest none = absurd (false≢true (ap is_some none))
+pub found_after : {X Y : Type 0} (f : X → Y) (here rest : Option X) → None ≡ option_map f here → option_or here rest ≡ rest
+found_after f None rest none = refl
+found_after f (Some x) rest none = absurd (false≢true (ap is_some none))
 
 -- the texts of names and texts from an index on
 pub toml_at : {A B : Type 0} (f : A → List ℕ) (g : B → List ℕ) (names : List A) (texts : List B) (i : ℕ) (name : A) (text : B)
@@ -49,7 +49,7 @@ pub plan_ends : (names texts : List (List ℕ)) (stop : Stop) → texts_refusal 
 plan_ends names texts stop alone first several ends = record {
   statuses = ends.statuses;
   line = λ refused. elim (ends.line refused) [
-    | inl told ↦ inl (rw (alone, first, several) told)
+    | inl reported ↦ inl (rw (alone, first, several) reported)
     | inr unwritable ↦ inr (rw (alone, first, several) unwritable.0, several, unwritable.1)
   ];
   memory = ends.memory;
@@ -65,7 +65,7 @@ pub open_nowhere : (names texts front : List (List ℕ)) → front ≡ network_t
 open_nowhere names texts front is at = ap (λ found. option_and_then open_refusal found) (at ∙ ap tables_of is)
 
 -- what follows some first elements
-pub behind_first : {A : Type 0} (f : A → List ℕ) (xs : List A) (n : ℕ) → map f (take (length xs - n) (drop n xs)) ≡ drop n (map f xs)
-behind_first f xs n =
+pub after_first : {A : Type 0} (f : A → List ℕ) (xs : List A) (n : ℕ) → map f (take (length xs - n) (drop n xs)) ≡ drop n (map f xs)
+after_first f xs n =
     let whole : length (drop n xs) ≤ length xs - n = omega (arith, length-drop n xs) in
     ap (map f) (take_all (length xs - n) (drop n xs) whole) ∙ sym (drop-map f n xs)

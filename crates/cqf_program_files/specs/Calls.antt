@@ -18,21 +18,21 @@ is_silent [] = true
 is_silent (first ∷ more) = first == 35
 
 -- the last cycle that a line may state; cycles are counted up to it
-abbrev pub last_told : ℕ
-last_told = 4294967295
+abbrev pub last_written : ℕ
+last_written = 4294967295
 
 -- the cycle that a line `@N` states
-abbrev pub cycle_told : List ℕ → Option ℕ
-cycle_told [] = None
-cycle_told (first ∷ digits) = if first == 64 then decimal_in 0 last_told digits else None
+abbrev pub cycle_written : List ℕ → Option ℕ
+cycle_written [] = None
+cycle_written (first ∷ digits) = if first == 64 then decimal_in 0 last_written digits else None
 
 -- the cycle that is reached after a line that states one, which isn't before the cycle reached; after a Seal; and after any line
-abbrev pub told_behind : ℕ → Option ℕ → ℕ
-told_behind reached None = reached
-told_behind reached (Some cycle) = max reached cycle
+abbrev pub written_after : ℕ → Option ℕ → ℕ
+written_after reached None = reached
+written_after reached (Some cycle) = max reached cycle
 
-abbrev pub reached_behind : ℕ → List ℕ → ℕ
-reached_behind reached line = min last_told (if is_seal_line line then reached + 1 else told_behind reached (cycle_told line))
+abbrev pub reached_after : ℕ → List ℕ → ℕ
+reached_after reached line = min last_written (if is_seal_line line then reached + 1 else written_after reached (cycle_written line))
 
 -- how many Seals a run of `cycles` cycles has from a cycle on, up to another
 abbrev pub seals_between : ℕ → ℕ → ℕ → ℕ
@@ -40,8 +40,8 @@ seals_between cycles reached cycle = min cycle cycles - reached
 
 -- the lines of the script for a line that states a cycle: as many Seals as that takes. If the cycle is before the one reached, the line is
 -- left unchanged, and isn't a line of a script
-abbrev pub lines_told : ℕ → ℕ → List ℕ → ℕ → List (List ℕ)
-lines_told cycles reached line cycle = if nat_lt cycle reached then line ∷ [] else replicate (seals_between cycles reached cycle) (codes "seal")
+abbrev pub lines_written : ℕ → ℕ → List ℕ → ℕ → List (List ℕ)
+lines_written cycles reached line cycle = if nat_lt cycle reached then line ∷ [] else replicate (seals_between cycles reached cycle) (codes "seal")
 
 -- the lines for another line: it is left unchanged, but a call of a cycle that isn't run is left out
 abbrev pub lines_called : ℕ → ℕ → List ℕ → List (List ℕ)
@@ -49,13 +49,13 @@ lines_called cycles reached line = if nat_le cycles reached && is_some (order_of
 
 abbrev pub lines_by : ℕ → ℕ → List ℕ → Option ℕ → List (List ℕ)
 lines_by cycles reached line None = lines_called cycles reached line
-lines_by cycles reached line (Some cycle) = lines_told cycles reached line cycle
+lines_by cycles reached line (Some cycle) = lines_written cycles reached line cycle
 
 -- the lines for any line: a Seal past the last cycle is left out
 abbrev pub lines_for : ℕ → ℕ → List ℕ → List (List ℕ)
 lines_for cycles reached line =
     if is_silent line then []
-    else (if is_seal_line line then replicate (seals_between cycles reached (reached + 1)) (codes "seal") else lines_by cycles reached line (cycle_told line))
+    else (if is_seal_line line then replicate (seals_between cycles reached (reached + 1)) (codes "seal") else lines_by cycles reached line (cycle_written line))
 
 -- the lines of the script, each with the number of the file's line from which it is made
 abbrev pub numbered : ℕ → List (List ℕ) → List (ℕ × List ℕ)
@@ -64,7 +64,7 @@ numbered number lines = map (λ line. (number, line)) lines
 abbrev pub script_lines : ℕ → ℕ → ℕ → List (List ℕ) → List (ℕ × List ℕ)
 script_lines cycles number reached [] = []
 script_lines cycles number reached (line ∷ lines) =
-    numbered number (lines_for cycles reached (bare line)) ++ script_lines cycles (number + 1) (reached_behind reached (bare line)) lines
+    numbered number (lines_for cycles reached (bare line)) ++ script_lines cycles (number + 1) (reached_after reached (bare line)) lines
 
 abbrev pub script_of_calls : ℕ → List ℕ → List (ℕ × List ℕ)
 script_of_calls cycles text = script_lines cycles 1 0 (lines_of text)

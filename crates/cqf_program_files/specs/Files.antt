@@ -46,12 +46,12 @@ append_items no_items others = others
 append_items (item value more) others = item value (append_items more others)
 
 -- an array joined with a later value at the same key: two arrays are concatenated; if the later value isn't an array, it replaces the first
-abbrev pub behind_items : Items → Data → Data
-behind_items items (array more) = array (append_items items more)
-behind_items items other = other
+abbrev pub after_items : Items → Data → Data
+after_items items (array more) = array (append_items items more)
+after_items items other = other
 
 abbrev pub joined_data : Data → Data → Data
-joined_data (array items) other = behind_items items other
+joined_data (array items) other = after_items items other
 joined_data value other = value
 
 abbrev pub joined_values : Option Data → Option Data → Option Data
@@ -82,7 +82,7 @@ joint_of tables = joint_by tables top_keys
 
 -- a key that may occur once occurs in two of the tables
 abbrev pub single_keys : List (List ℕ)
-single_keys = codes "cycle" ∷ codes "guard" ∷ codes "sync" ∷ []
+single_keys = codes "cycle" ∷ codes "guard" ∷ codes "sync" ∷ codes "gate-overhead" ∷ []
 
 abbrev pub stands_twice : List Members → List ℕ → Bool
 stands_twice tables key = nat_le 2 (count_by (λ table. is_some (get_member key table)) tables)
@@ -209,7 +209,7 @@ pub record IsUnwritable (texts : List (List ℕ)) (line : List ℕ) : Type 0 whe
   pub tables : List Members
   pub are : tables_of texts ≡ Some tables
   pub dates : members_have_valid_dates (joint_of tables) ≡ false
-  pub told : line ≡ not_toml_line
+  pub reported : line ≡ not_toml_line
 
 -- an end with status 1 by a line for which something holds, or with status 3 if an allocation fails
 pub record EndsFor (Holds : List ℕ → Type 0) (stop : Stop) : Type 0 where

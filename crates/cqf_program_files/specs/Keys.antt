@@ -6,7 +6,8 @@ use Rattle.toml.specs.Data.{Items, no_items, item, Members, no_members, member, 
 
 -- the keys that commands know: of the top level, of a link and of a stream
 abbrev pub top_keys : List (List ℕ)
-top_keys = codes "cycle" ∷ codes "guard" ∷ codes "sync" ∷ codes "bridges" ∷ codes "stations" ∷ codes "links" ∷ codes "streams" ∷ []
+top_keys =
+    codes "cycle" ∷ codes "guard" ∷ codes "sync" ∷ codes "gate-overhead" ∷ codes "bridges" ∷ codes "stations" ∷ codes "links" ∷ codes "streams" ∷ []
 
 abbrev pub link_keys : List (List ℕ)
 link_keys =

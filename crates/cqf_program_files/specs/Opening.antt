@@ -19,8 +19,8 @@ abbrev pub has_open_cycle : Members → Bool
 has_open_cycle table = is_some (option_and_then as_array (get_member (codes "cycle") table))
 
 -- a stream's path is open if the stream has its ends, and no branches
-abbrev pub lacks_way : Members → Bool
-lacks_way table = not (has (codes "path") table || has (codes "paths") table) && (has (codes "from") table && has (codes "to") table)
+abbrev pub lacks_path : Members → Bool
+lacks_path table = not (has (codes "path") table || has (codes "paths") table) && (has (codes "from") table && has (codes "to") table)
 
 -- its reservation is open if it has traffic and no octets
 abbrev pub traffic_keys : List (List ℕ)
@@ -30,12 +30,12 @@ abbrev pub lacks_octets : Members → Bool
 lacks_octets table = not (has (codes "octets") table) && list_any (λ key. has key table) traffic_keys
 
 -- its cycles are open if its talker is in step, and it has no `every`
-abbrev pub lacks_turns : Members → Bool
-lacks_turns table = unwrap_or (option_and_then as_bool (get_member (codes "in-step") table)) false && not (has (codes "every") table)
+abbrev pub lacks_active_cycles : Members → Bool
+lacks_active_cycles table = unwrap_or (option_and_then as_bool (get_member (codes "in-step") table)) false && not (has (codes "every") table)
 
 -- the stream's name, if it leaves something open
 abbrev pub is_open_stream : Members → Bool
-is_open_stream table = lacks_way table || (lacks_octets table || lacks_turns table)
+is_open_stream table = lacks_path table || (lacks_octets table || lacks_active_cycles table)
 
 abbrev pub open_name_in : Members → Option (List ℕ)
 open_name_in table = if is_open_stream table then option_and_then as_str (get_member (codes "name") table) else None

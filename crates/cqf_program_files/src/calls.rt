@@ -1,7 +1,7 @@
 //! Files of calls.
 ghost use Rattle.std.specs.Prelude.{◌≡◌, ◌+◌, ◌≤◌, ◌^◌, ◌∷◌, [], IfOk, OnOk, codes, replicate};
-ghost use Rattle.cqf_program_files.specs.Calls.{HasPut, bare, cycle_told, is_silent, last_told, lines_called, lines_for, lines_told, numbered};
-ghost use Rattle.cqf_program_files.specs.Calls.{numbers_of_script, reached_behind, script_of_calls, seals_between, text_of_script, told_behind};
+ghost use Rattle.cqf_program_files.specs.Calls.{HasPut, bare, cycle_written, is_silent, last_written, lines_called, lines_for, lines_written, numbered};
+ghost use Rattle.cqf_program_files.specs.Calls.{numbers_of_script, reached_after, script_of_calls, seals_between, text_of_script, written_after};
 
 use cqf_admission::{is_order, is_seal_line};
 use cqf_text::{read_decimal, split_line};
@@ -16,7 +16,7 @@ pub struct CallsScript {
 }
 
 /// The last cycle that a line may state; cycles are counted up to it.
-const LAST_TOLD: u64 = 4_294_967_295;
+const LAST_WRITTEN: u64 = 4_294_967_295;
 
 /// Returns a line without the carriage return before its line feed.
 fn bare(line: &[u8]) -> &[u8]
@@ -40,11 +40,11 @@ fn is_silent(line: &[u8]) -> bool
 }
 
 /// Returns the cycle that a line `@N` states.
-fn cycle_told(line: &[u8]) -> Option<u64>
-    ensures { result ≡ cycle_told line.now }
+fn cycle_written(line: &[u8]) -> Option<u64>
+    ensures { result ≡ cycle_written line.now }
 {
     match line {
-        [b'@', digits @ ..] => read_decimal(digits, 0, LAST_TOLD),
+        [b'@', digits @ ..] => read_decimal(digits, 0, LAST_WRITTEN),
         _ => None,
     }
 }
@@ -58,24 +58,24 @@ fn seals_between(cycles: u64, reached: u64, cycle: u64) -> u64
 }
 
 /// Returns the cycle that is reached after a line.
-fn reached_behind(reached: u64, line: &[u8]) -> u64
-    requires { reached ≤ last_told }
-    ensures value { result ≡ reached_behind reached line.now }
-    ensures counted { result ≤ last_told }
+fn reached_after(reached: u64, line: &[u8]) -> u64
+    requires { reached ≤ last_written }
+    ensures value { result ≡ reached_after reached line.now }
+    ensures counted { result ≤ last_written }
 {
-    let behind = if is_seal_line(line) {
+    let following = if is_seal_line(line) {
         reached + 1
     } else {
-        told_behind(reached, cycle_told(line))
+        written_after(reached, cycle_written(line))
     };
-    LAST_TOLD.min(behind)
+    LAST_WRITTEN.min(following)
 }
 
 /// Returns the cycle that is reached after a line that states one, or none.
-fn told_behind(reached: u64, told: Option<u64>) -> u64
-    ensures { result ≡ told_behind reached told }
+fn written_after(reached: u64, reported: Option<u64>) -> u64
+    ensures { result ≡ written_after reached reported }
 {
-    match told {
+    match reported {
         None => reached,
         Some(cycle) => reached.max(cycle),
     }
@@ -103,69 +103,74 @@ impl CallsScript {
     }
 
     /// Appends the lines for a line that states a cycle. Returns `Memory` if an allocation fails.
-    fn put_told(&mut self, place: CallsPlace, line: &[u8], cycle: u64) -> Result<(), Memory>
-        ensures { OnOk result (HasPut self.old self.new (numbered place.number (lines_told place.cycles place.reached line.now cycle))) }
+    fn put_written(
+        &mut self,
+        position: CallsPosition,
+        line: &[u8],
+        cycle: u64,
+    ) -> Result<(), Memory>
+        ensures { OnOk result (HasPut self.old self.new (numbered position.number (lines_written position.cycles position.reached line.now cycle))) }
     {
-        if cycle < place.reached {
-            return self.put(place.number, line);
+        if cycle < position.reached {
+            return self.put(position.number, line);
         }
         self.put_seals(
-            place.number,
-            seals_between(place.cycles, place.reached, cycle),
+            position.number,
+            seals_between(position.cycles, position.reached, cycle),
         )
     }
 
     /// Appends the lines for a line that is neither a Seal nor states a cycle. Returns `Memory` if an allocation fails.
-    fn put_called(&mut self, place: CallsPlace, line: &[u8]) -> Result<(), Memory>
-        ensures { OnOk result (HasPut self.old self.new (numbered place.number (lines_called place.cycles place.reached line.now))) }
+    fn put_called(&mut self, position: CallsPosition, line: &[u8]) -> Result<(), Memory>
+        ensures { OnOk result (HasPut self.old self.new (numbered position.number (lines_called position.cycles position.reached line.now))) }
     {
-        if place.cycles <= place.reached && is_order(line) {
+        if position.cycles <= position.reached && is_order(line) {
             return Ok(());
         }
-        self.put(place.number, line)
+        self.put(position.number, line)
     }
 
     /// Appends the lines for a line. Returns `Memory` if an allocation fails.
-    fn put_for(&mut self, place: CallsPlace, line: &[u8]) -> Result<(), Memory>
-        requires { place.reached ≤ last_told }
-        ensures { OnOk result (HasPut self.old self.new (numbered place.number (lines_for place.cycles place.reached line.now))) }
+    fn put_for(&mut self, position: CallsPosition, line: &[u8]) -> Result<(), Memory>
+        requires { position.reached ≤ last_written }
+        ensures { OnOk result (HasPut self.old self.new (numbered position.number (lines_for position.cycles position.reached line.now))) }
     {
         if is_silent(line) {
             return Ok(());
         }
         if is_seal_line(line) {
-            let count = seals_between(place.cycles, place.reached, place.reached + 1);
-            return self.put_seals(place.number, count);
+            let count = seals_between(position.cycles, position.reached, position.reached + 1);
+            return self.put_seals(position.number, count);
         }
-        match cycle_told(line) {
-            None => self.put_called(place, line),
-            Some(cycle) => self.put_told(place, line, cycle),
+        match cycle_written(line) {
+            None => self.put_called(position, line),
+            Some(cycle) => self.put_written(position, line, cycle),
         }
     }
 }
 
 /// The position of a line: its number, from 1, the cycle that is reached before it, and how many cycles are run.
 #[derive(Clone, Copy, Debug)]
-struct CallsPlace {
+struct CallsPosition {
     cycles: u64,
     number: u64,
     reached: u64,
 }
 
-impl CallsPlace {
+impl CallsPosition {
     /// Returns the position of the next line.
-    fn behind(self, line: &[u8]) -> CallsPlace
+    fn following(self, line: &[u8]) -> CallsPosition
         requires number { self.number ≤ 2 ^ 63 }
-        requires reached { self.reached ≤ last_told }
+        requires reached { self.reached ≤ last_written }
         ensures cycles { result.cycles ≡ self.cycles }
         ensures number { result.number ≡ self.number + 1 }
-        ensures reached { result.reached ≡ reached_behind self.reached line.now }
-        ensures counted { result.reached ≤ last_told }
+        ensures reached { result.reached ≡ reached_after self.reached line.now }
+        ensures counted { result.reached ≤ last_written }
     {
-        CallsPlace {
+        CallsPosition {
             cycles: self.cycles,
             number: self.number + 1,
-            reached: reached_behind(self.reached, line),
+            reached: reached_after(self.reached, line),
         }
     }
 }
@@ -187,17 +192,17 @@ pub fn script_of_calls(alloc: Global, cycles: u32, text: &[u8]) -> Result<CallsS
         text: Vec::new(alloc),
         numbers: Vec::new(alloc),
     };
-    let mut place = CallsPlace {
+    let mut position = CallsPosition {
         cycles: u64::from(cycles),
         number: 1,
         reached: 0,
     };
     let mut left = text;
-    while let Some((line, behind)) = split_line(left) {
+    while let Some((line, following)) = split_line(left) {
         let line = bare(line);
-        script.put_for(place, line)?;
-        place = place.behind(line);
-        left = behind;
+        script.put_for(position, line)?;
+        position = position.following(line);
+        left = following;
     }
     Ok(script)
 }

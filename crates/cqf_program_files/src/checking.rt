@@ -118,8 +118,8 @@ fn toml_texts<'t>(
         ≡ toml_texts (map (λ name. name.now) names.now) (map (λ text. text.now) texts.now)) }
 {
     let mut found = Vec::new(alloc);
-    for place in 0..names.len() {
-        put_toml(&mut found, names[place], texts[place])?;
+    for position in 0..names.len() {
+        put_toml(&mut found, names[position], texts[position])?;
     }
     Ok(found)
 }

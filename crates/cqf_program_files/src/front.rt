@@ -13,7 +13,7 @@ use crate::checking::{check_alone, check_joint, check_open, stop_of};
 use crate::faults::FilesFault;
 use crate::joining::leading;
 use cqf_output::Stop;
-use cqf_program_words::{Job, composed_behind, composed_between, is_network, is_undivided};
+use cqf_program_words::{Job, composed_after, composed_between, is_network, is_undivided};
 use cqf_units::Memory;
 use std::alloc::Global;
 
@@ -151,7 +151,7 @@ fn gathered(
 {
     match script_at(alloc, job, names, first, rest)? {
         None => {
-            let input = composed_behind(alloc, job, names, first, rest)?;
+            let input = composed_after(alloc, job, names, first, rest)?;
             Ok(Front {
                 input,
                 numbers: None,
@@ -176,7 +176,7 @@ fn called(
 {
     let CallsScript { text, numbers } = script;
     let input = match *rest {
-        [] => composed_behind(alloc, job, names, first, rest)?,
+        [] => composed_after(alloc, job, names, first, rest)?,
         [_, ref more @ ..] => composed_between(alloc, job, names, first, text.as_slice(), more)?,
     };
     Ok(Front {

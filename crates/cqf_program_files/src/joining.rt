@@ -2,7 +2,7 @@
 ghost use Rattle.std.specs.Prelude.{◌≡◌, ◌≤◌, IfOk, OnOk, Some, is_some, length, map, option_map};
 ghost use Rattle.toml.specs.Data.{get_member};
 ghost use Rattle.toml.specs.View.{items_view, table_view, view};
-ghost use Rattle.cqf_program_files.specs.Files.{append_items, are_several, behind_items, joined_at, joined_values, key_twice};
+ghost use Rattle.cqf_program_files.specs.Files.{after_items, append_items, are_several, joined_at, joined_values, key_twice};
 ghost use Rattle.cqf_program_files.specs.Files.{leading, joint_by, joint_of, put_found, stands_twice};
 
 use crate::keys::{TOP, value_at};
@@ -51,7 +51,7 @@ fn stands_twice(tables: &[Table], key: &str) -> bool
     tables.iter().filter(|table| has(table, key)).count() >= 2
 }
 
-/// Returns the first of the keys that may occur once, `cycle`, `guard` and `sync`, that two of the tables have.
+/// Returns the first of the keys that may occur once, `cycle`, `guard`, `sync` and `gate-overhead`, that two of the tables have.
 pub(crate) fn key_twice(tables: &[Table]) -> Option<&'static str>
     ensures { option_map (λ key. key.now) result ≡ key_twice (map table_view tables.now) }
 {
@@ -64,11 +64,14 @@ pub(crate) fn key_twice(tables: &[Table]) -> Option<&'static str>
     if stands_twice(tables, "sync") {
         return Some("sync");
     }
+    if stands_twice(tables, "gate-overhead") {
+        return Some("gate-overhead");
+    }
     None
 }
 
 /// Appends copies of the values to the items. Returns `Memory` if an allocation fails.
-fn put_behind(mut items: Vec<Value>, more: &[Value]) -> Result<Vec<Value>, Memory>
+fn put_after(mut items: Vec<Value>, more: &[Value]) -> Result<Vec<Value>, Memory>
     ensures { IfOk result (λ all. items_view all.items ≡ append_items (items_view items.items) (items_view more.now)) }
 {
     for value in more {
@@ -79,12 +82,12 @@ fn put_behind(mut items: Vec<Value>, more: &[Value]) -> Result<Vec<Value>, Memor
 }
 
 /// Returns an array joined with a copy of a later value at the same key. Returns `Memory` if an allocation fails.
-fn behind_items(items: Vec<Value>, value: &Value) -> Result<Value, Memory>
-    ensures { IfOk result (λ all. view all ≡ behind_items (items_view items.items) (view value.now)) }
+fn after_items(items: Vec<Value>, value: &Value) -> Result<Value, Memory>
+    ensures { IfOk result (λ all. view all ≡ after_items (items_view items.items) (view value.now)) }
 {
     match value {
         Value::Array(more) => {
-            let all = put_behind(items, more.as_slice())?;
+            let all = put_after(items, more.as_slice())?;
             Ok(Value::Array(all))
         }
         other => {
@@ -103,7 +106,7 @@ fn joined(found: Option<Value>, value: &Value) -> Result<Value, Memory>
             let copy = value.clone()?;
             Ok(copy)
         }
-        Some(Value::Array(items)) => behind_items(items, value),
+        Some(Value::Array(items)) => after_items(items, value),
         Some(other) => Ok(other),
     }
 }

@@ -9,8 +9,15 @@ ghost use Rattle.cqf_program_files.specs.Keys.{strange_key};
 use toml::{Table, Value};
 
 /// The keys of a plan's top level that commands know.
-pub const TOP: [&str; 7] = [
-    "cycle", "guard", "sync", "bridges", "stations", "links", "streams",
+pub const TOP: [&str; 8] = [
+    "cycle",
+    "guard",
+    "sync",
+    "gate-overhead",
+    "bridges",
+    "stations",
+    "links",
+    "streams",
 ];
 
 /// Those of a link.

@@ -33,4 +33,4 @@ pub use joining::{MOST_FILES, joint_of};
 pub use keys::{LINK, OWN, STREAM, TOP};
 pub use lines::{MOST_OCTETS, MOST_PARTS, first_long_line};
 pub use numbers::renumbered;
-pub use open::{lacks_octets, lacks_turns, lacks_way};
+pub use open::{lacks_active_cycles, lacks_octets, lacks_path};

@@ -165,12 +165,12 @@ pub fn first_long_line(counts: bool, text: &[u8]) -> Option<u64>
 {
     let mut number: u64 = 1;
     let mut left = text;
-    while let Some((line, behind)) = split_line(left) {
+    while let Some((line, following)) = split_line(left) {
         if is_too_long(counts, line) {
             return Some(number);
         }
         number += 1;
-        left = behind;
+        left = following;
     }
     None
 }

@@ -1,6 +1,6 @@
 //! Line numbers of a file of calls, in the lines of its script's faults.
 ghost use Rattle.std.specs.Prelude.{◌≡◌, IfOk, option_map, string_bytes};
-ghost use Rattle.cqf_program_files.specs.Numbers.{behind, number_in_file, number_told, renumbered, told_by, unended};
+ghost use Rattle.cqf_program_files.specs.Numbers.{following, number_in_file, number_written, renumbered, unended, written_by};
 
 use cqf_text::read_decimal;
 use cqf_units::Memory;
@@ -18,8 +18,8 @@ fn unended(text: &[u8]) -> Option<&[u8]>
 }
 
 /// Returns the rest of a line, if the line begins so.
-fn behind<'l>(start: &str, line: &'l [u8]) -> Option<&'l [u8]>
-    ensures { option_map (λ rest. rest.now) result ≡ behind start.now line.now }
+fn following<'l>(start: &str, line: &'l [u8]) -> Option<&'l [u8]>
+    ensures { option_map (λ rest. rest.now) result ≡ following start.now line.now }
 {
     if line.starts_with(start.as_bytes()) {
         unended(&line[start.len()..])
@@ -32,15 +32,15 @@ fn behind<'l>(start: &str, line: &'l [u8]) -> Option<&'l [u8]>
 fn number_in_file(numbers: &[u64], number: u64) -> Option<u64>
     ensures { result ≡ number_in_file numbers.now number }
 {
-    let place = number.saturating_sub(1) as usize;
-    numbers.get(place).copied()
+    let position = number.saturating_sub(1) as usize;
+    numbers.get(position).copied()
 }
 
 /// Returns the number for a fault's line that begins so and ends with the number of a script's line.
-fn number_told(numbers: &[u64], start: &str, line: &[u8]) -> Option<u64>
-    ensures { result ≡ number_told numbers.now start.now line.now }
+fn number_written(numbers: &[u64], start: &str, line: &[u8]) -> Option<u64>
+    ensures { result ≡ number_written numbers.now start.now line.now }
 {
-    let Some(rest) = behind(start, line) else {
+    let Some(rest) = following(start, line) else {
         return None;
     };
     match read_decimal(rest, 1, u64::MAX) {
@@ -50,18 +50,18 @@ fn number_told(numbers: &[u64], start: &str, line: &[u8]) -> Option<u64>
 }
 
 /// Returns the fault's line with that number. Returns `Memory` if an allocation fails.
-fn told_by(
+fn written_by(
     alloc: Global,
     numbers: &[u64],
     start: &str,
     line: &[u8],
 ) -> Result<Option<String>, Memory>
-    ensures { IfOk result (λ told. option_map string_bytes told ≡ told_by numbers.now start.now line.now) }
+    ensures { IfOk result (λ reported. option_map string_bytes reported ≡ written_by numbers.now start.now line.now) }
 {
-    match number_told(numbers, start, line) {
+    match number_written(numbers, start, line) {
         Some(number) => {
-            let told = format!(in alloc; "{start}{number}\n")?;
-            Ok(Some(told))
+            let reported = format!(in alloc; "{start}{number}\n")?;
+            Ok(Some(reported))
         }
         None => Ok(None),
     }
@@ -73,16 +73,16 @@ fn told_by(
 /// # Errors
 /// If an allocation fails.
 pub fn renumbered(alloc: Global, numbers: &[u64], line: &[u8]) -> Result<Vec<u8>, Memory>
-    ensures { IfOk result (λ told. told.items ≡ renumbered numbers.now line.now) }
+    ensures { IfOk result (λ reported. reported.items ≡ renumbered numbers.now line.now) }
 {
-    if let Some(told) = told_by(alloc, numbers, "cqf: script: BadLine ", line)? {
-        return Ok(told.into_bytes());
+    if let Some(reported) = written_by(alloc, numbers, "cqf: script: BadLine ", line)? {
+        return Ok(reported.into_bytes());
     }
-    if let Some(told) = told_by(alloc, numbers, "cqf: script: UnknownStream ", line)? {
-        return Ok(told.into_bytes());
+    if let Some(reported) = written_by(alloc, numbers, "cqf: script: UnknownStream ", line)? {
+        return Ok(reported.into_bytes());
     }
-    if let Some(told) = told_by(alloc, numbers, "cqf: script: TooMany ", line)? {
-        return Ok(told.into_bytes());
+    if let Some(reported) = written_by(alloc, numbers, "cqf: script: TooMany ", line)? {
+        return Ok(reported.into_bytes());
     }
     Vec::from_slice(alloc, line)
 }

@@ -3,8 +3,8 @@ ghost use Rattle.std.specs.Prelude.{◌≡◌, map, option_and_then, option_map}
 ghost use Rattle.std.specs.List.{list_any};
 ghost use Rattle.toml.specs.Data.{as_table};
 ghost use Rattle.toml.specs.View.{items_view, table_view, view};
-ghost use Rattle.cqf_program_files.specs.Opening.{first_open_among, first_open_of, first_open_stream, has, has_open_cycle, lacks_octets, lacks_turns};
-ghost use Rattle.cqf_program_files.specs.Opening.{lacks_way, open_name_in};
+ghost use Rattle.cqf_program_files.specs.Opening.{first_open_among, first_open_of, first_open_stream, has, has_open_cycle, lacks_active_cycles, lacks_octets};
+ghost use Rattle.cqf_program_files.specs.Opening.{lacks_path, open_name_in};
 
 use crate::keys::value_at;
 use toml::{Table, Value};
@@ -54,8 +54,8 @@ pub(crate) fn has_open_cycle(tables: &[Table]) -> bool
 }
 
 /// Returns whether a stream's table has its talker and listeners, and no path.
-pub fn lacks_way(table: &Table) -> bool
-    ensures { result ≡ lacks_way (table_view table.now) }
+pub fn lacks_path(table: &Table) -> bool
+    ensures { result ≡ lacks_path (table_view table.now) }
 {
     if has(table, "path") || has(table, "paths") {
         return false;
@@ -74,8 +74,8 @@ pub fn lacks_octets(table: &Table) -> bool
 }
 
 /// Returns whether the talker of a stream's table is in step, and the table has no `every`.
-pub fn lacks_turns(table: &Table) -> bool
-    ensures { result ≡ lacks_turns (table_view table.now) }
+pub fn lacks_active_cycles(table: &Table) -> bool
+    ensures { result ≡ lacks_active_cycles (table_view table.now) }
 {
     match value_at(table, "in-step").and_then(Value::as_bool) {
         Some(true) => !has(table, "every"),
@@ -87,7 +87,7 @@ pub fn lacks_turns(table: &Table) -> bool
 fn open_name(table: &Table) -> Option<&str>
     ensures { option_map (λ name. name.now) result ≡ open_name_in (table_view table.now) }
 {
-    if !lacks_way(table) && !lacks_octets(table) && !lacks_turns(table) {
+    if !lacks_path(table) && !lacks_octets(table) && !lacks_active_cycles(table) {
         return None;
     }
     value_at(table, "name").and_then(Value::as_str)

@@ -10,15 +10,15 @@ use Rattle.std.proofs.lemmas.Bool.Decides.{nat_tests}
 use Rattle.std.proofs.lemmas.Fmt.{digits_decimal}
 use Rattle.std.proofs.lemmas.List.Elements.{All-append, All-cons, All-nil}
 use Rattle.std.proofs.lemmas.Nat.{mul-le}
-use Rattle.cqf_gates.specs.ReservedSpans.{closed_for, first_turn, open_in, reserved_spans, second_turn}
+use Rattle.cqf_gates.specs.ReservedSpans.{closed_for, first_active_cycle, open_in, reserved_spans, second_active_cycle}
 use Rattle.cqf_model.specs.declared.gates.StreamEntry.{StreamEntry}
 use Rattle.cqf_model.specs.declared.topology.Pace.{Pace}
 use Rattle.cqf_model.specs.Domain.{is_text}
 use Rattle.cqf_model.specs.GateList.{Entry, port_list}
 use Rattle.cqf_program_json.specs.Arrays.{number_or_null}
-use Rattle.cqf_program_json.specs.Items.{Item, Opens, Passes, behind, if_number, items_in, next, number_up_to, past, up_to}
+use Rattle.cqf_program_json.specs.Items.{Item, Opens, Passes, following, if_number, items_in, next, number_up_to, past, up_to}
 use Rattle.cqf_program_json.specs.Text.{closed_entry, gate_entry, open_entry, port_entry}
-use Rattle.cqf_program_json.proofs.Lines.{Tells, line_end}
+use Rattle.cqf_program_json.proofs.Lines.{Says, line_end}
 use Rattle.cqf_program_json.proofs.Parts.{IsWithin, both_true, decimal_plain, decimal_read, number_plain, past_end, plain_within, up_to_end, within_then}
 use Rattle.cqf_text.proofs.DecimalLemmas.{own}
 use Rattle.cqf_text.specs.Decimal.{decimal_value}
@@ -28,8 +28,8 @@ number_read : (byte n : ℕ) (rest : List ℕ) → byte < 45 → n < 2 ^ 64 → 
 number_read byte n rest low small = ap decimal_value (up_to_end byte (decimal n) rest low (decimal_plain n)) ∙ decimal_read n small
 
 -- and after another number on the line
-behind_number : (n : ℕ) (rest : List ℕ) → past 44 (decimal n ++ 44 ∷ rest) ≡ rest
-behind_number n rest = past_end 44 (decimal n) rest (omega arith) (decimal_plain n)
+after_number : (n : ℕ) (rest : List ℕ) → past 44 (decimal n ++ 44 ∷ rest) ≡ rest
+after_number n rest = past_end 44 (decimal n) rest (omega arith) (decimal_plain n)
 
 -- what is read is the only item of the line
 abbrev pub only : Option Item → List Item
@@ -39,7 +39,7 @@ only found = option_map_or (λ item. item ∷ []) found []
 
 -- an entry of a port's list, by its numbers and what follows them
 abbrev opens_by : Option ℕ → List ℕ → Option Item
-opens_by states at = next states (λ s. next (behind (codes " \"timeIntervalValue\": ") at) (λ at_interval. option_map (λ i. Opens (s, i)) (number_up_to 32 at_interval)))
+opens_by states at = next states (λ s. next (following (codes " \"timeIntervalValue\": ") at) (λ at_interval. option_map (λ i. Opens (s, i)) (number_up_to 32 at_interval)))
 
 opens_line : (states interval : ℕ) (end : List ℕ) → states < 2 ^ 64 → interval < 2 ^ 64 →
     items_in (codes "            { \"operationName\": \"SetGateStates\", \"gateStatesValue\": "
@@ -47,7 +47,7 @@ opens_line : (states interval : ℕ) (end : List ℕ) → states < 2 ^ 64 → in
 opens_line states interval end small short =
     let more : List ℕ = codes " \"timeIntervalValue\": " ++ (decimal interval ++ 32 ∷ end) in
     ap (λ (found : Option ℕ). only (option_or (opens_by found (past 44 (decimal states ++ 44 ∷ more))) None)) (number_read 44 states more (omega arith) small)
-    ∙ ap (λ (at : List ℕ). only (option_or (opens_by (Some states) at) None)) (behind_number states more)
+    ∙ ap (λ (at : List ℕ). only (option_or (opens_by (Some states) at) None)) (after_number states more)
     ∙ ap (λ (found : Option ℕ). only (option_or (option_map (λ (i : ℕ). Opens (states, i)) found) None)) (number_read 32 interval end (omega arith) short)
 
 -- a number is within a line
@@ -62,8 +62,8 @@ within_two front v mid w tail a b c d e =
 end_of_two : (front v mid w tail end : List ℕ) → (front ++ (v ++ (mid ++ (w ++ tail)))) ++ end ≡ front ++ (v ++ (mid ++ (w ++ (tail ++ end))))
 end_of_two front v mid w tail end = simp append_assoc
 
-pub port_entry_tells : (entry : Entry) → entry.0 < 2 ^ 64 → entry.1 < 2 ^ 64 → Tells (port_entry entry) (Opens entry ∷ [])
-port_entry_tells entry small short =
+pub port_entry_says : (entry : Entry) → entry.0 < 2 ^ 64 → entry.1 < 2 ^ 64 → Says (port_entry entry) (Opens entry ∷ [])
+port_entry_says entry small short =
     let front : List ℕ = codes "            { \"operationName\": \"SetGateStates\", \"gateStatesValue\": " in
     let mid : List ℕ = codes ", \"timeIntervalValue\": " in
     line_end (port_entry entry) (Opens entry ∷ []) (within_two front (decimal entry.0) mid (decimal entry.1) (codes " }") refl (number_within entry.0) refl
@@ -92,12 +92,12 @@ most_read n small =
 -- an entry in which frames may pass, by its numbers and what follows them
 abbrev at_most : ℕ → ℕ → List ℕ → Option Item
 at_most ipv interval at =
-    next (behind (codes " \"IntervalOctetMax\": ") at) (λ rest.
+    next (following (codes " \"IntervalOctetMax\": ") at) (λ rest.
     option_map (λ most. Passes (record { ipv = ipv; interval = interval; octet_max = most })) (if_number (up_to 32 rest)))
 
 abbrev at_interval : ℕ → List ℕ → Option Item
 at_interval ipv at =
-    next (behind (codes " \"timeIntervalValue\": ") at) (λ rest. next (number_up_to 44 rest) (λ interval. at_most ipv interval (past 44 rest)))
+    next (following (codes " \"timeIntervalValue\": ") at) (λ rest. next (number_up_to 44 rest) (λ interval. at_most ipv interval (past 44 rest)))
 
 passes_line : (ipv interval most : ℕ) (end : List ℕ) → ipv < 2 ^ 64 → interval < 2 ^ 64 → most < 2 ^ 64 →
     items_in (codes "            { \"operationName\": \"SetGateAndIPV\", \"StreamGateState\": \"open\", \"IPV\": "
@@ -107,10 +107,10 @@ passes_line ipv interval most end small short few =
     let last : List ℕ = codes " \"IntervalOctetMax\": " ++ (decimal most ++ 32 ∷ end) in
     let more : List ℕ = codes " \"timeIntervalValue\": " ++ (decimal interval ++ 44 ∷ last) in
     ap (λ (found : Option ℕ). only (option_or (next found (λ (v : ℕ). at_interval v (past 44 (decimal ipv ++ 44 ∷ more)))) None)) (number_read 44 ipv more (omega arith) small)
-    ∙ ap (λ (at : List ℕ). only (option_or (at_interval ipv at) None)) (behind_number ipv more)
+    ∙ ap (λ (at : List ℕ). only (option_or (at_interval ipv at) None)) (after_number ipv more)
     ∙ ap (λ (found : Option ℕ). only (option_or (next found (λ (i : ℕ). at_most ipv i (past 44 (decimal interval ++ 44 ∷ last)))) None))
     (number_read 44 interval last (omega arith) short)
-    ∙ ap (λ (at : List ℕ). only (option_or (at_most ipv interval at) None)) (behind_number interval last)
+    ∙ ap (λ (at : List ℕ). only (option_or (at_most ipv interval at) None)) (after_number interval last)
     ∙ ap (λ (text : List ℕ). only (option_or (option_map (λ (m : Option ℕ). Passes (record { ipv = ipv; interval = interval; octet_max = m })) (if_number text)) None))
     (null_by (Some most) end)
     ∙ ap (λ (found : Option (Option ℕ)). only (option_or (option_map (λ (m : Option ℕ). Passes (record { ipv = ipv; interval = interval; octet_max = m })) found) None))
@@ -129,9 +129,9 @@ end_of_three front v mid w tail x last end = simp append_assoc
 abbrev limited : ℕ → ℕ → ℕ → StreamEntry
 limited ipv interval most = record { ipv = ipv; interval = interval; octet_max = Some most }
 
-open_tells : (ipv interval most : ℕ) → ipv < 2 ^ 64 → interval < 2 ^ 64 → most < 2 ^ 64 →
-    Tells (open_entry (limited ipv interval most)) (Passes (limited ipv interval most) ∷ [])
-open_tells ipv interval most small short few =
+open_says : (ipv interval most : ℕ) → ipv < 2 ^ 64 → interval < 2 ^ 64 → most < 2 ^ 64 →
+    Says (open_entry (limited ipv interval most)) (Passes (limited ipv interval most) ∷ [])
+open_says ipv interval most small short few =
     let front : List ℕ = codes "            { \"operationName\": \"SetGateAndIPV\", \"StreamGateState\": \"open\", \"IPV\": " in
     let mid : List ℕ = codes ", \"timeIntervalValue\": " in
     let tail : List ℕ = codes ", \"IntervalOctetMax\": " in
@@ -148,8 +148,8 @@ shut_line : (interval : ℕ) (end : List ℕ) → interval < 2 ^ 64 →
 shut_line interval end short =
     ap (λ (found : Option ℕ). only (option_map (λ (i : ℕ). Passes (limited 6 i 0)) found)) (number_read 44 interval end (omega arith) short)
 
-shut_tells : (interval : ℕ) → interval < 2 ^ 64 → Tells (closed_entry interval) (Passes (limited 6 interval 0) ∷ [])
-shut_tells interval short =
+shut_says : (interval : ℕ) → interval < 2 ^ 64 → Says (closed_entry interval) (Passes (limited 6 interval 0) ∷ [])
+shut_says interval short =
     let front : List ℕ = codes "            { \"operationName\": \"SetGateAndIPV\", \"StreamGateState\": \"closed\", \"IPV\": null, \"timeIntervalValue\": " in
     let tail : List ℕ = codes ", \"IntervalOctetMax\": null }" in
     line_end (closed_entry interval) (Passes (limited 6 interval 0) ∷ [])
@@ -166,21 +166,21 @@ pub record IsReadable (entry : StreamEntry) : Type 0 where
   pub most_small : most < 2 ^ 64
   pub shut : most ≡ 0 → entry.ipv ≡ 6
 
-pub gate_entry_tells : (entry : StreamEntry) → IsReadable entry → Tells (gate_entry entry) (Passes entry ∷ [])
-gate_entry_tells entry good =
-    subst (λ (e : StreamEntry). Tells (gate_entry e) (Passes e ∷ [])) (sym good.is) (by (good.most == 0) refl)
+pub gate_entry_says : (entry : StreamEntry) → IsReadable entry → Says (gate_entry entry) (Passes entry ∷ [])
+gate_entry_says entry good =
+    subst (λ (e : StreamEntry). Says (gate_entry e) (Passes e ∷ [])) (sym good.is) (by (good.most == 0) refl)
   where
     by : (b : Bool) → (good.most == 0) ≡ b →
-        Tells (gate_entry (limited entry.ipv entry.interval good.most)) (Passes (limited entry.ipv entry.interval good.most) ∷ [])
+        Says (gate_entry (limited entry.ipv entry.interval good.most)) (Passes (limited entry.ipv entry.interval good.most) ∷ [])
     by true e =
         let none : good.most ≡ 0 = eqb-true good.most 0 e in
         let same : limited 6 entry.interval 0 ≡ limited entry.ipv entry.interval good.most =
         ap (λ z. limited z entry.interval 0) (sym (good.shut none)) ∙ ap (limited entry.ipv entry.interval) (sym none) in
-        subst (λ (x : StreamEntry). Tells (gate_entry x) (Passes x ∷ [])) same (shut_tells entry.interval good.interval_small)
+        subst (λ (x : StreamEntry). Says (gate_entry x) (Passes x ∷ [])) same (shut_says entry.interval good.interval_small)
     by false e =
-        subst (λ (b : Bool). Tells (cond b (closed_entry entry.interval) (open_entry (limited entry.ipv entry.interval good.most)))
+        subst (λ (b : Bool). Says (cond b (closed_entry entry.interval) (open_entry (limited entry.ipv entry.interval good.most)))
         (Passes (limited entry.ipv entry.interval good.most) ∷ [])) (sym e)
-        (open_tells entry.ipv entry.interval good.most good.ipv_small good.interval_small good.most_small)
+        (open_says entry.ipv entry.interval good.most good.ipv_small good.interval_small good.most_small)
 
 -- the spans of a reservation are such entries
 one_readable : (ipv interval most : ℕ) → ipv < 2 ^ 64 → interval < 2 ^ 64 → most < 2 ^ 64 → (most ≡ 0 → ipv ≡ 6) → IsReadable (limited ipv interval most)
@@ -205,26 +205,26 @@ open_readable n octets cycle small some few =
     two : 0 < 2
     two = omega arith
 
-pub spans_readable : (n octets : ℕ) (pace : Pace) (depth : ℕ) → (pace.pause + 1) * n < 2 ^ 32 → 0 < octets → octets < 2 ^ 32 →
-    All IsReadable (reserved_spans n octets pace depth)
-spans_readable n octets pace depth short some few =
-    let turn : ℕ = first_turn pace depth in
-    let inside : turn < pace.pause + 1 = mod-lt (pace.phase + depth) (omega arith) in
-    let own = open_in n octets turn in
+pub spans_readable : (n octets : ℕ) (pace : Pace) (hop_number : ℕ) → (pace.pause + 1) * n < 2 ^ 32 → 0 < octets → octets < 2 ^ 32 →
+    All IsReadable (reserved_spans n octets pace hop_number)
+spans_readable n octets pace hop_number short some few =
+    let active_cycle : ℕ = first_active_cycle pace hop_number in
+    let inside : active_cycle < pace.pause + 1 = mod-lt (pace.phase + hop_number) (omega arith) in
+    let own = open_in n octets active_cycle in
     let within : (cycles : ℕ) → cycles ≤ pace.pause → cycles * n < 2 ^ 32 = λ cycles most.
     (let at_most : cycles * n ≤ (pace.pause + 1) * n = mul-le cycles n (pace.pause + 1) n (omega (arith, most)) (omega arith) in omega (arith, at_most, short)) in
     let one : n < 2 ^ 32 = (let least : 1 * n ≤ (pace.pause + 1) * n = mul-le 1 n (pace.pause + 1) n (omega arith) (omega arith) in omega (arith, least, short)) in
-    let again : All IsReadable (second_turn n octets pace turn) = by within one turn ((pace.pause + 1) % 2 == 0) in
-    let last = closed_readable n (pace.pause - turn) (within (pace.pause - turn) (omega arith)) in
-    All-append IsReadable (closed_for n turn) (own ∷ (second_turn n octets pace turn ++ closed_for n (pace.pause - turn)))
-    (closed_readable n turn (within turn (omega (arith, inside))))
-    (All-cons IsReadable own (second_turn n octets pace turn ++ closed_for n (pace.pause - turn)) (open_readable n octets turn one some few)
-    (All-append IsReadable (second_turn n octets pace turn) (closed_for n (pace.pause - turn)) again last))
+    let again : All IsReadable (second_active_cycle n octets pace active_cycle) = by within one active_cycle ((pace.pause + 1) % 2 == 0) in
+    let last = closed_readable n (pace.pause - active_cycle) (within (pace.pause - active_cycle) (omega arith)) in
+    All-append IsReadable (closed_for n active_cycle) (own ∷ (second_active_cycle n octets pace active_cycle ++ closed_for n (pace.pause - active_cycle)))
+    (closed_readable n active_cycle (within active_cycle (omega (arith, inside))))
+    (All-cons IsReadable own (second_active_cycle n octets pace active_cycle ++ closed_for n (pace.pause - active_cycle)) (open_readable n octets active_cycle one some few)
+    (All-append IsReadable (second_active_cycle n octets pace active_cycle) (closed_for n (pace.pause - active_cycle)) again last))
   where
-    by : ((cycles : ℕ) → cycles ≤ pace.pause → cycles * n < 2 ^ 32) → n < 2 ^ 32 → (turn : ℕ) (b : Bool) →
-        All IsReadable (if b then [] else closed_for n pace.pause ++ open_in n octets (turn + (pace.pause + 1)) ∷ [])
-    by within one turn true = none_readable
-    by within one turn false =
-        All-append IsReadable (closed_for n pace.pause) (open_in n octets (turn + (pace.pause + 1)) ∷ [])
+    by : ((cycles : ℕ) → cycles ≤ pace.pause → cycles * n < 2 ^ 32) → n < 2 ^ 32 → (active_cycle : ℕ) (b : Bool) →
+        All IsReadable (if b then [] else closed_for n pace.pause ++ open_in n octets (active_cycle + (pace.pause + 1)) ∷ [])
+    by within one active_cycle true = none_readable
+    by within one active_cycle false =
+        All-append IsReadable (closed_for n pace.pause) (open_in n octets (active_cycle + (pace.pause + 1)) ∷ [])
         (closed_readable n pace.pause (within pace.pause (omega arith)))
-        (All-cons IsReadable (open_in n octets (turn + (pace.pause + 1))) [] (open_readable n octets (turn + (pace.pause + 1)) one some few) none_readable)
+        (All-cons IsReadable (open_in n octets (active_cycle + (pace.pause + 1))) [] (open_readable n octets (active_cycle + (pace.pause + 1)) one some few) none_readable)

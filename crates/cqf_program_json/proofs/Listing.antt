@@ -21,12 +21,12 @@ not_zero : (n : ℕ) → (suc n == 0) ≡ false
 not_zero n = grind (arith, nat_tests)
 
 -- one element after others
-listed_behind : (first : Bool) (texts : List (List ℕ)) (text : List ℕ) →
+listed_after : (first : Bool) (texts : List (List ℕ)) (text : List ℕ) →
     listed first (texts ++ text ∷ []) ≡ listed first texts ++ (front_text (first && is_nil texts) ++ text)
-listed_behind first [] text =
+listed_after first [] text =
     ap (λ (z : List ℕ). front_text first ++ z) (append-nil text) ∙ ap (λ (b : Bool). front_text b ++ text) (also_true first)
-listed_behind first (x ∷ texts) text =
-    ap (λ (z : List ℕ). front_text first ++ (x ++ z)) (listed_behind false texts text)
+listed_after first (x ∷ texts) text =
+    ap (λ (z : List ℕ). front_text first ++ (x ++ z)) (listed_after false texts text)
     ∙ ap (λ (b : Bool). front_text first ++ (x ++ (listed false texts ++ (front_text b ++ text)))) (never_true first)
     ∙ ap (λ (z : List ℕ). front_text first ++ z) (sym (append_assoc x (listed false texts) (front_text (first && false) ++ text)))
     ∙ sym (append_assoc (front_text first) (x ++ listed false texts) (front_text (first && false) ++ text))
@@ -45,7 +45,7 @@ module _ {A : Type 0} (f : A → List ℕ) where
   pub listed_next : (xs : List A) (x : A) →
       listed true (map f (xs ++ x ∷ [])) ≡ listed true (map f xs) ++ (front_text (is_nil xs) ++ f x)
   listed_next xs x =
-      ap (listed true) (map-append f xs (x ∷ [])) ∙ listed_behind true (map f xs) (f x)
+      ap (listed true) (map-append f xs (x ∷ [])) ∙ listed_after true (map f xs) (f x)
       ∙ ap (λ (b : Bool). listed true (map f xs) ++ (front_text b ++ f x)) (nil_map xs)
 
   nil_at : (xs : List A) (k : ℕ) → k < length xs → is_nil (take k xs) ≡ (k == 0)

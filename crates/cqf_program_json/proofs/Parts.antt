@@ -146,10 +146,10 @@ interface_plain (first ∷ rest) named =
     let front = both_true (is_alphanumeric first) (nat_le (length rest) 14) parts.0 in
     and_from (is_plain first) (list_all is_plain rest) (letter_plain first front.0) (all_plain is_interface_byte interface_byte_plain rest parts.1)
 
-named_at : (names : List (List ℕ)) → All (λ (name : List ℕ). IsTrue (is_name name)) names → (place : ℕ) → IsPlain (get_or names place [])
-named_at names named place = elim (cases_lt place (length names)) [
-  | inl inside ↦ name_plain (get_or names place []) (named place [] inside)
-  | inr past ↦ ap (list_all is_plain) (get_or_past names place [] past)
+named_at : (names : List (List ℕ)) → All (λ (name : List ℕ). IsTrue (is_name name)) names → (index : ℕ) → IsPlain (get_or names index [])
+named_at names named index = elim (cases_lt index (length names)) [
+  | inl inside ↦ name_plain (get_or names index []) (named index [] inside)
+  | inr past ↦ ap (list_all is_plain) (get_or_past names index [] past)
 ]
 
 -- the names of nodes and links

@@ -9,7 +9,7 @@ use Rattle.cqf_addressing.specs.declared.streams.StreamAddress.{StreamAddress}
 use Rattle.cqf_addressing.specs.Interface.{is_interface}
 use Rattle.cqf_addressing.specs.Links.{far_interface, near_interface}
 use Rattle.cqf_addressing.specs.Streams.{gate_index}
-use Rattle.cqf_admission.specs.Turns.{IsGoodPace}
+use Rattle.cqf_admission.specs.ActiveCycles.{IsGoodPace}
 use Rattle.cqf_compile.specs.BridgeGates.{gate_at}
 use Rattle.cqf_model.specs.declared.gates.StreamEntry.{StreamEntry}
 use Rattle.cqf_model.specs.declared.topology.Row.{Row}
@@ -38,10 +38,10 @@ pub data Item : Type 0 where
 -- ---- the parts of a line
 
 -- the rest of a line after a prefix, if the line begins with this prefix
-abbrev pub behind : List ℕ → List ℕ → Option (List ℕ)
-behind [] line = Some line
-behind (x ∷ front) [] = None
-behind (x ∷ front) (y ∷ line) = if x == y then behind front line else None
+abbrev pub following : List ℕ → List ℕ → Option (List ℕ)
+following [] line = Some line
+following (x ∷ front) [] = None
+following (x ∷ front) (y ∷ line) = if x == y then following front line else None
 
 -- the part of a line before the first occurrence of a byte, and the part after it
 abbrev pub up_to : ℕ → List ℕ → List ℕ
@@ -67,40 +67,40 @@ if_number text = if is_text text (codes "null") then Some None else option_map S
 -- ---- the items
 
 abbrev pub bridge_item : List ℕ → Option Item
-bridge_item line = option_map (λ name. AtBridge (up_to 34 name)) (behind (codes "      \"bridge\": \"") line)
+bridge_item line = option_map (λ name. AtBridge (up_to 34 name)) (following (codes "      \"bridge\": \"") line)
 
 abbrev pub port_item : List ℕ → Option Item
-port_item line = option_map (λ name. AtPort (up_to 34 name)) (behind (codes "          \"link\": \"") line)
+port_item line = option_map (λ name. AtPort (up_to 34 name)) (following (codes "          \"link\": \"") line)
 
 abbrev pub stream_item : List ℕ → Option Item
-stream_item line = option_map (λ name. AtStream (up_to 34 name)) (behind (codes "          \"stream\": \"") line)
+stream_item line = option_map (λ name. AtStream (up_to 34 name)) (following (codes "          \"stream\": \"") line)
 
 abbrev pub gate_item : List ℕ → Option Item
 gate_item line =
-    next (behind (codes "          \"StreamGateInstance\": ") line) (λ index.
+    next (following (codes "          \"StreamGateInstance\": ") line) (λ index.
     option_map AtGate (number_up_to 44 index))
 
 -- an entry of a port's list: the states are read up to a comma, and the interval up to a blank
 abbrev pub opens_item : List ℕ → Option Item
 opens_item line =
-    next (behind (codes "            { \"operationName\": \"SetGateStates\", \"gateStatesValue\": ") line) (λ at_states.
+    next (following (codes "            { \"operationName\": \"SetGateStates\", \"gateStatesValue\": ") line) (λ at_states.
     next (number_up_to 44 at_states) (λ states.
-    next (behind (codes " \"timeIntervalValue\": ") (past 44 at_states)) (λ at_interval.
+    next (following (codes " \"timeIntervalValue\": ") (past 44 at_states)) (λ at_interval.
     option_map (λ interval. Opens (states, interval)) (number_up_to 32 at_interval))))
 
 -- an entry of a gate's list in which frames may pass, and an entry in which none may
 abbrev pub passes_item : List ℕ → Option Item
 passes_item line =
-    next (behind (codes "            { \"operationName\": \"SetGateAndIPV\", \"StreamGateState\": \"open\", \"IPV\": ") line) (λ at_ipv.
+    next (following (codes "            { \"operationName\": \"SetGateAndIPV\", \"StreamGateState\": \"open\", \"IPV\": ") line) (λ at_ipv.
     next (number_up_to 44 at_ipv) (λ ipv.
-    next (behind (codes " \"timeIntervalValue\": ") (past 44 at_ipv)) (λ at_interval.
+    next (following (codes " \"timeIntervalValue\": ") (past 44 at_ipv)) (λ at_interval.
     next (number_up_to 44 at_interval) (λ interval.
-    next (behind (codes " \"IntervalOctetMax\": ") (past 44 at_interval)) (λ at_most.
+    next (following (codes " \"IntervalOctetMax\": ") (past 44 at_interval)) (λ at_most.
     option_map (λ most. Passes (record { ipv = ipv; interval = interval; octet_max = most })) (if_number (up_to 32 at_most)))))))
 
 abbrev pub shut_item : List ℕ → Option Item
 shut_item line =
-    next (behind (codes "            { \"operationName\": \"SetGateAndIPV\", \"StreamGateState\": \"closed\", \"IPV\": null, \"timeIntervalValue\": ") line)
+    next (following (codes "            { \"operationName\": \"SetGateAndIPV\", \"StreamGateState\": \"closed\", \"IPV\": null, \"timeIntervalValue\": ") line)
     (λ at_interval.
     option_map (λ interval. Passes (record { ipv = 6; interval = interval; octet_max = Some 0 })) (number_up_to 44 at_interval))
 

@@ -6,7 +6,7 @@ use Rattle.cqf_addressing.specs.declared.streams.StreamAddress.{StreamAddress}
 use Rattle.cqf_addressing.specs.Faults.{interfaces_line, stream_addresses_line}
 use Rattle.cqf_addressing.specs.Links.{interfaces_of_text}
 use Rattle.cqf_addressing.specs.Streams.{addresses_of_text}
-use Rattle.cqf_admission.specs.Turns.{AreOfGoodPaces}
+use Rattle.cqf_admission.specs.ActiveCycles.{AreOfGoodPaces}
 use Rattle.cqf_model.specs.declared.limits.Limits.{Limits}
 use Rattle.cqf_model.specs.declared.topology.Row.{Row}
 use Rattle.cqf_model.specs.Domain.{Domain}
@@ -53,6 +53,6 @@ json_of_input limits edge_gates input =
     json_of limits edge_gates found.0 found.1 parts.0 parts.1))
 
 -- the object can be written: the rows' paces are good, and it is known which of them leave each bridge
-pub record IsReadyObject (d : Domain) (rows : List Row) (places : List (List ℕ)) : Type 0 where
+pub record IsReadyObject (d : Domain) (rows : List Row) (indices : List (List ℕ)) : Type 0 where
   pub paced : AreOfGoodPaces rows
-  pub by_bridge : AreByBridge d rows places
+  pub by_bridge : AreByBridge d rows indices

@@ -7,7 +7,7 @@ use Rattle.cqf_addressing.specs.declared.streams.StreamAddress.{StreamAddress}
 use Rattle.cqf_addressing.specs.Links.{far_interface, near_interface}
 use Rattle.cqf_addressing.specs.Mac.{mac_text}
 use Rattle.cqf_addressing.specs.Streams.{gate_index, mac_of_stream, vlan_of_stream}
-use Rattle.cqf_compile.specs.BridgeGates.{gate_at, way_to}
+use Rattle.cqf_compile.specs.BridgeGates.{gate_at, ingress_at}
 use Rattle.cqf_gates.specs.StreamText.{is_shut}
 use Rattle.cqf_model.specs.declared.gates.StreamEntry.{StreamEntry}
 use Rattle.cqf_model.specs.declared.topology.Row.{Row}
@@ -101,19 +101,19 @@ gate_round_text entries =
     ++ codes "          \"PSFPAdminBaseTime\": { \"seconds\": 0, \"nanoseconds\": 0 }\n        }"))
 
 -- the link and the interface over which the stream arrives at the bridge; `null` if it arrives from its talker
-abbrev pub way_name : Domain → Option ℕ → List ℕ
-way_name d None = codes "null"
-way_name d (Some link) = quoted (name_of_link d link)
+abbrev pub ingress_name : Domain → Option ℕ → List ℕ
+ingress_name d None = codes "null"
+ingress_name d (Some link) = quoted (name_of_link d link)
 
-abbrev pub way_interface : List LinkInterfaces → Option ℕ → List ℕ
-way_interface links None = codes "null"
-way_interface links (Some link) = name_or_null (far_interface links link)
+abbrev pub ingress_interface : List LinkInterfaces → Option ℕ → List ℕ
+ingress_interface links None = codes "null"
+ingress_interface links (Some link) = name_or_null (far_interface links link)
 
 abbrev pub stream_head : Domain → List LinkInterfaces → Row → Option ℕ → List ℕ
-stream_head d links row way =
+stream_head d links row ingress =
     codes "        {\n          \"stream\": \""
     ++ (row.name
-    ++ (codes "\",\n          \"from\": " ++ (way_name d way ++ (codes ",\n          \"interface\": " ++ (way_interface links way ++ codes ",\n")))))
+    ++ (codes "\",\n          \"from\": " ++ (ingress_name d ingress ++ (codes ",\n          \"interface\": " ++ (ingress_interface links ingress ++ codes ",\n")))))
 
 -- how its frames are identified, if the streams' text says so: by their destination address and their VLAN (null stream identification)
 abbrev pub mac_or_null : Option (List ℕ) → List ℕ
@@ -148,7 +148,7 @@ gate_text gate entries = filter_text gate ++ (gate_head gate ++ (gate_list_text 
 
 abbrev pub stream_text : Domain → List StreamAddress → List LinkInterfaces → ℕ → Row → List ℕ
 stream_text d addresses links bridge row =
-    stream_head d links row (way_to d bridge row) ++ (address_text addresses row.no ++ gate_text (gate_index addresses row.no) (gate_at d row bridge))
+    stream_head d links row (ingress_at d bridge row) ++ (address_text addresses row.no ++ gate_text (gate_index addresses row.no) (gate_at d row bridge))
 
 -- the streams that leave a bridge, in order
 abbrev pub streams_text : Domain → List StreamAddress → List LinkInterfaces → List Row → ℕ → List ℕ

@@ -1,9 +1,9 @@
 //! The bridges of a domain, one after the other.
 ghost use Rattle.std.specs.Prelude.{◌≡◌};
-ghost use Rattle.cqf_admission.specs.Turns.{AreOfGoodPaces};
+ghost use Rattle.cqf_admission.specs.ActiveCycles.{AreOfGoodPaces};
 ghost use Rattle.cqf_output.specs.Writer.{Puts};
 ghost use Rattle.cqf_program_json.specs.Text.{bridge_text, bridges_text, json_text};
-ghost use Rattle.cqf_program_tc.specs.Rows.{AreByBridge, places_at, places_in};
+ghost use Rattle.cqf_program_tc.specs.Rows.{AreByBridge, indices_at, indices_in};
 
 use crate::arrays::{put_end, put_front};
 use crate::ports::put_ports;
@@ -19,10 +19,10 @@ fn put_bridge_object<W: Sink>(
     wired: Wired<'_>,
     bridge: u16,
     rows: &[Row],
-    places: &[usize],
+    indices: &[usize],
 )
     requires paced { AreOfGoodPaces rows.now }
-    requires at { places.now ≡ places_at wired.domain.now rows.now bridge }
+    requires at { indices.now ≡ indices_at wired.domain.now rows.now bridge }
     ensures { Puts W.contents writer.old writer.new
         (bridge_text wired.entry.domain.now wired.entry.addresses.now wired.entry.links.now rows.now bridge) }
 {
@@ -31,7 +31,7 @@ fn put_bridge_object<W: Sink>(
     writer.put(b"\",\n      \"ports\": ");
     put_ports(writer, wired, bridge);
     writer.put(b",\n      \"streams\": ");
-    put_streams(writer, wired, bridge, rows, places);
+    put_streams(writer, wired, bridge, rows, indices);
     writer.put(b"\n    }");
 }
 
@@ -40,16 +40,16 @@ fn put_bridges<W: Sink>(
     writer: &mut Writer<'_, W>,
     wired: Wired<'_>,
     rows: &[Row],
-    places: &[Vec<usize>],
+    indices: &[Vec<usize>],
 )
     requires paced { AreOfGoodPaces rows.now }
-    requires by_bridge { AreByBridge wired.domain.now rows.now (places_in places.now) }
+    requires by_bridge { AreByBridge wired.domain.now rows.now (indices_in indices.now) }
     ensures { Puts W.contents writer.old writer.new
         (bridges_text wired.entry.domain.now wired.entry.addresses.now wired.entry.links.now rows.now) }
 {
     writer.put(b"[");
     for bridge in 0..wired.domain.bridges() {
-        let here = places[usize::from(bridge)].as_slice();
+        let here = indices[usize::from(bridge)].as_slice();
         put_front(writer, bridge == 0);
         put_bridge_object(writer, wired, bridge, rows, here);
     }
@@ -61,10 +61,10 @@ pub(crate) fn put_object<W: Sink>(
     writer: &mut Writer<'_, W>,
     wired: Wired<'_>,
     rows: &[Row],
-    places: &[Vec<usize>],
+    indices: &[Vec<usize>],
 )
     requires paced { AreOfGoodPaces rows.now }
-    requires by_bridge { AreByBridge wired.domain.now rows.now (places_in places.now) }
+    requires by_bridge { AreByBridge wired.domain.now rows.now (indices_in indices.now) }
     ensures { Puts W.contents writer.old writer.new
         (json_text wired.entry.domain.now wired.entry.addresses.now wired.entry.links.now rows.now) }
 {
@@ -73,6 +73,6 @@ pub(crate) fn put_object<W: Sink>(
     writer.put(b",\n  \"guard\": ");
     writer.put_number(wired.domain.guard().0);
     writer.put(b",\n  \"bridges\": ");
-    put_bridges(writer, wired, rows, places);
+    put_bridges(writer, wired, rows, indices);
     writer.put(b"\n}\n");
 }

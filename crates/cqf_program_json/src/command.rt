@@ -1,7 +1,7 @@
 //! The command `compile --format json`: the object for a domain and its streams.
 ghost use Rattle.std.specs.Prelude.{◌≡◌, Ok, IfOk, IfErr, map};
 ghost use Rattle.cqf_admission.specs.Asking.{asked_paced};
-ghost use Rattle.cqf_admission.specs.Turns.{AreOfGoodPaces};
+ghost use Rattle.cqf_admission.specs.ActiveCycles.{AreOfGoodPaces};
 ghost use Rattle.cqf_output.specs.Stops.{IsRefused};
 ghost use Rattle.cqf_program_plans.specs.Compile.Gated.{gated_rows};
 ghost use Rattle.cqf_program_json.specs.Output.{addressing_of, json_of, json_of_input, text_of_json};
@@ -12,7 +12,7 @@ use cqf_model::{Limits, Row};
 use cqf_output::{Buffer, Stop};
 use cqf_program_plans::{gated_rows, read_plan, rows_of_cycle_0};
 use cqf_program_scenario::two_parts;
-use cqf_program_tc::places_by_bridge;
+use cqf_program_tc::indices_by_bridge;
 use cqf_topology::{Domain, PacedRequest};
 use cqf_units::Memory;
 use std::alloc::Global;
@@ -46,12 +46,12 @@ fn object_ready(
     ensures { IfOk result (λ output. output ≡ record { domain = domain; rows = gated_rows edge_gates rows.items; addresses = addresses.items; links = links.items }) }
 {
     let gated = gated_rows(alloc, edge_gates, rows)?;
-    let places = places_by_bridge(alloc, &domain, gated.as_slice())?;
+    let indices = indices_by_bridge(alloc, &domain, gated.as_slice())?;
     let buffer = Buffer::new(alloc)?;
     Ok(JsonOutput {
         domain,
         rows: gated,
-        places,
+        indices,
         addresses,
         links,
         buffer,

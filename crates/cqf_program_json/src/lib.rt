@@ -27,8 +27,8 @@ mod laws;
 mod outputs;
 mod ports;
 mod streams;
-mod told;
 mod wired;
+mod written;
 
 pub use command::json_output;
 pub use laws::json_holds_the_lists;

@@ -12,7 +12,7 @@ use std::marker::Model;
 pub struct JsonOutput {
     pub(crate) domain: Domain,
     pub(crate) rows: Vec<Row>,
-    pub(crate) places: Vec<Vec<usize>>,
+    pub(crate) indices: Vec<Vec<usize>>,
     pub(crate) addresses: Vec<StreamAddress>,
     pub(crate) links: Vec<LinkInterfaces>,
     pub(crate) buffer: Buffer,
@@ -20,11 +20,11 @@ pub struct JsonOutput {
 
 impl Model for JsonOutput {
     ghost use Rattle.cqf_program_json.specs.Output.{AddressedPlan, IsReadyObject};
-    ghost use Rattle.cqf_program_tc.specs.Rows.{places_in};
+    ghost use Rattle.cqf_program_tc.specs.Rows.{indices_in};
 
     ghost Value = { AddressedPlan };
 
     ghost view = { λ o. record { domain = o.domain; rows = o.rows.items; addresses = o.addresses.items; links = o.links.items } };
 
-    ghost invariant = { λ o. IsReadyObject o.domain o.rows.items (places_in o.places.items) };
+    ghost invariant = { λ o. IsReadyObject o.domain o.rows.items (indices_in o.indices.items) };
 }

@@ -28,8 +28,8 @@ fn put_port_entry<W: Sink>(writer: &mut Writer<'_, W>, states: u8, interval: u32
 fn put_port_entries<W: Sink>(writer: &mut Writer<'_, W>, entries: &[(u8, u32)])
     ensures { Puts W.contents writer.old writer.new (port_entries entries.now) }
 {
-    for (place, entry) in entries.iter().enumerate() {
-        put_front(writer, place == 0);
+    for (index, entry) in entries.iter().enumerate() {
+        put_front(writer, index == 0);
         put_port_entry(writer, entry.0, entry.1);
     }
 }

@@ -2,15 +2,15 @@
 //! (IEEE Std 802.1Q-2018, 12.31.2 and 12.31.3).
 ghost use Rattle.std.specs.Prelude.{◌≡◌, ◌≤◌, length, option_map};
 ghost use Rattle.cqf_addressing.specs.Mac.{mac_text};
-ghost use Rattle.cqf_admission.specs.Turns.{AreOfGoodPaces, IsGoodPace};
-ghost use Rattle.cqf_compile.specs.BridgeGates.{way_to};
+ghost use Rattle.cqf_admission.specs.ActiveCycles.{AreOfGoodPaces, IsGoodPace};
+ghost use Rattle.cqf_compile.specs.BridgeGates.{ingress_at};
 ghost use Rattle.cqf_model.specs.StreamGate.{gate_round};
 ghost use Rattle.cqf_output.specs.Writer.{Puts};
 ghost use Rattle.cqf_program_json.specs.Arrays.{number_or_null, quoted};
 ghost use Rattle.cqf_program_json.specs.Text.{address_text, closed_entry, filter_text, gate_entries, gate_entry, gate_head, gate_list_text};
 ghost use Rattle.cqf_program_json.specs.Text.{gate_round_text, gate_text, mac_or_null, open_entry, stream_head, stream_text, streams_text};
-ghost use Rattle.cqf_program_json.specs.Text.{way_interface, way_name};
-ghost use Rattle.cqf_program_tc.specs.Rows.{places_at};
+ghost use Rattle.cqf_program_json.specs.Text.{ingress_interface, ingress_name};
+ghost use Rattle.cqf_program_tc.specs.Rows.{indices_at};
 
 use crate::arrays::{put_end, put_front, put_name_or_null, put_number_or_null};
 use crate::wired::Wired;
@@ -65,8 +65,8 @@ fn put_gate_entry<W: Sink>(writer: &mut Writer<'_, W>, entry: StreamEntry)
 fn put_gate_entries<W: Sink>(writer: &mut Writer<'_, W>, entries: &[StreamEntry])
     ensures { Puts W.contents writer.old writer.new (gate_entries entries.now) }
 {
-    for (place, entry) in entries.iter().enumerate() {
-        put_front(writer, place == 0);
+    for (index, entry) in entries.iter().enumerate() {
+        put_front(writer, index == 0);
         put_gate_entry(writer, *entry);
     }
 }
@@ -109,8 +109,8 @@ fn put_gate_round<W: Sink>(writer: &mut Writer<'_, W>, entries: &[StreamEntry])
 }
 
 /// Returns the link over which a stream arrives at a bridge that it leaves, or `None` if it arrives from its talker.
-fn way_to(domain: &Domain, row: &Row, bridge: u16) -> Option<u16>
-    ensures { result ≡ way_to domain.now bridge row.now }
+fn ingress_at(domain: &Domain, row: &Row, bridge: u16) -> Option<u16>
+    ensures { result ≡ ingress_at domain.now bridge row.now }
 {
     match first_hop(domain, row, bridge) {
         Some(hop) => hop.from,
@@ -119,10 +119,10 @@ fn way_to(domain: &Domain, row: &Row, bridge: u16) -> Option<u16>
 }
 
 /// Puts the link over which a stream arrives, or `null` if it arrives from its talker.
-fn put_way_name<W: Sink>(writer: &mut Writer<'_, W>, domain: &Domain, way: Option<u16>)
-    ensures { Puts W.contents writer.old writer.new (way_name domain.now way) }
+fn put_ingress_name<W: Sink>(writer: &mut Writer<'_, W>, domain: &Domain, ingress: Option<u16>)
+    ensures { Puts W.contents writer.old writer.new (ingress_name domain.now ingress) }
 {
-    match way {
+    match ingress {
         Some(link) => {
             writer.put(b"\"");
             put_link(writer, domain, link);
@@ -133,10 +133,14 @@ fn put_way_name<W: Sink>(writer: &mut Writer<'_, W>, domain: &Domain, way: Optio
 }
 
 /// Puts the interface over which it arrives, or `null` if it arrives from its talker or the domain's text doesn't name the interface.
-fn put_way_interface<W: Sink>(writer: &mut Writer<'_, W>, wired: Wired<'_>, way: Option<u16>)
-    ensures { Puts W.contents writer.old writer.new (way_interface wired.entry.links.now way) }
+fn put_ingress_interface<W: Sink>(
+    writer: &mut Writer<'_, W>,
+    wired: Wired<'_>,
+    ingress: Option<u16>,
+)
+    ensures { Puts W.contents writer.old writer.new (ingress_interface wired.entry.links.now ingress) }
 {
-    match way {
+    match ingress {
         Some(link) => put_name_or_null(writer, far_interface(wired.links, link)),
         None => writer.put(b"null"),
     }
@@ -147,16 +151,16 @@ fn put_stream_head<W: Sink>(
     writer: &mut Writer<'_, W>,
     wired: Wired<'_>,
     row: &Row,
-    way: Option<u16>,
+    ingress: Option<u16>,
 )
-    ensures { Puts W.contents writer.old writer.new (stream_head wired.entry.domain.now wired.entry.links.now row.now way) }
+    ensures { Puts W.contents writer.old writer.new (stream_head wired.entry.domain.now wired.entry.links.now row.now ingress) }
 {
     writer.put(b"        {\n          \"stream\": \"");
     writer.put(row.name.as_bytes());
     writer.put(b"\",\n          \"from\": ");
-    put_way_name(writer, wired.domain, way);
+    put_ingress_name(writer, wired.domain, ingress);
     writer.put(b",\n          \"interface\": ");
-    put_way_interface(writer, wired, way);
+    put_ingress_interface(writer, wired, ingress);
     writer.put(b",\n");
 }
 
@@ -250,7 +254,7 @@ fn put_stream<W: Sink>(writer: &mut Writer<'_, W>, wired: Wired<'_>, bridge: u16
     ensures { Puts W.contents writer.old writer.new
         (stream_text wired.entry.domain.now wired.entry.addresses.now wired.entry.links.now bridge row.now) }
 {
-    put_stream_head(writer, wired, row, way_to(wired.domain, row, bridge));
+    put_stream_head(writer, wired, row, ingress_at(wired.domain, row, bridge));
     put_address(writer, wired.addresses, row.no);
     put_gate(
         writer,
@@ -265,17 +269,17 @@ pub(crate) fn put_streams<W: Sink>(
     wired: Wired<'_>,
     bridge: u16,
     rows: &[Row],
-    places: &[usize],
+    indices: &[usize],
 )
     requires paced { AreOfGoodPaces rows.now }
-    requires at { places.now ≡ places_at wired.domain.now rows.now bridge }
+    requires at { indices.now ≡ indices_at wired.domain.now rows.now bridge }
     ensures { Puts W.contents writer.old writer.new
         (streams_text wired.entry.domain.now wired.entry.addresses.now wired.entry.links.now rows.now bridge) }
 {
     writer.put(b"[");
-    for (number, place) in places.iter().enumerate() {
+    for (number, index) in indices.iter().enumerate() {
         put_front(writer, number == 0);
-        put_stream(writer, wired, bridge, &rows[*place]);
+        put_stream(writer, wired, bridge, &rows[*index]);
     }
-    put_end(writer, places.len() == 0, b"      ");
+    put_end(writer, indices.len() == 0, b"      ");
 }

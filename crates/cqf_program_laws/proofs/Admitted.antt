@@ -4,7 +4,7 @@ use Rattle.std.specs.Prelude.{◌&&◌, is_none, nat_le, not}
 use Rattle.std.proofs.lemmas.Bool.{le-leb, le-ltb}
 use Rattle.cqf_lists.specs.Lists.{or_else}
 use Rattle.cqf_lists.specs.Results.{and_then}
-use Rattle.cqf_lists.proofs.Members.{contains_filter, place_of_member}
+use Rattle.cqf_lists.proofs.Members.{contains_filter, index_of_member}
 use Rattle.cqf_units.specs.Name.{is_name}
 use Rattle.cqf_model.specs.declared.frames.Background.{Background}
 use Rattle.cqf_model.specs.declared.frames.Offer.{Offer}
@@ -26,14 +26,14 @@ use Rattle.cqf_output.specs.Stops.{or_line}
 use Rattle.cqf_program_scenario.specs.Lines.{script_line}
 use Rattle.cqf_program_scenario.specs.Networks.{domain_of}
 use Rattle.cqf_program_scenario.specs.Parts.{RunTexts, run_parts}
-use Rattle.cqf_program_scenario.specs.Scenario.{Scenario, frames_of_part, scenario_behind}
+use Rattle.cqf_program_scenario.specs.Scenario.{Scenario, frames_of_part, scenario_after}
 use Rattle.cqf_program_plans.specs.Latency.Input.{asked_in}
 use Rattle.cqf_program_plans.proofs.CompileLemmas.{same_ok}
 use Rattle.cqf_program_runs.specs.Deliveries.PlannedScenario.{planned_scenario, planned_scenario_of}
 use Rattle.cqf_program_laws.specs.ScriptLaws.{AskOnly, ScriptsAskOnly}
 use Rattle.cqf_program_laws.proofs.Scripts.{Read, lined, read_of_parts, stepped}
-use Rattle.cqf_program_summary.specs.Summary.Told.{is_good, told_streams}
-use Rattle.cqf_program_laws.proofs.Firsts.{firsts, script_first, told_has}
+use Rattle.cqf_program_summary.specs.Summary.Written.{is_good, written_streams}
+use Rattle.cqf_program_laws.proofs.Firsts.{firsts, script_first, written_has}
 
 -- the calls of a scenario that was read are those of its script
 abbrev made_of : RunTexts → Domain → List Called → List Offer × List Background → Scenario
@@ -54,9 +54,9 @@ made_calls texts d calls s h =
     ap (λ (z : Scenario). z.calls) (same_ok (made_of texts d calls c.0) s c.2)
 
 module _ (asks : ScriptsAskOnly) where
-  behind_ask : (cycles : ℕ) (d : Domain) (streams : List Asked) (texts : RunTexts) (s : Scenario) → scenario_behind cycles d streams texts ≡ Ok s →
+  after_ask : (cycles : ℕ) (d : Domain) (streams : List Asked) (texts : RunTexts) (s : Scenario) → scenario_after cycles d streams texts ≡ Ok s →
       AskOnly (firsts streams) s.calls
-  behind_ask cycles d streams texts s h =
+  after_ask cycles d streams texts s h =
       let b = stepped {B = Scenario} (or_line script_line (script_of streams cycles texts.script)) (made_by texts d) s h in
       subst (λ (xs : List Called). AskOnly (firsts streams) xs) (made_calls texts d b.0 s b.2)
       (asks (firsts streams) cycles texts.script b.0
@@ -67,7 +67,7 @@ module _ (asks : ScriptsAskOnly) where
   asks_firsts limits cycles input read h =
       let t = stepped {B = Read} (run_parts (parts_of input)) (planned_scenario_of limits cycles) read h in
       let of = read_of_parts limits cycles t.0 read t.2 in
-      behind_ask cycles (domain_of of.network) (asked_in read.1) t.0 read.0 of.scenario
+      after_ask cycles (domain_of of.network) (asked_in read.1) t.0 read.0 of.scenario
 
 -- a stream that isn't refused is good, and named by a name
 refused_none : (number effect : ℕ) (refused : Option Refused) (receipt : Receipt) → admit_reply number effect refused ≡ Accepted receipt → refused ≡ None
@@ -85,9 +85,9 @@ good_granted d rows asked none =
     let name = ap {B = Option Refused} (λ (b : Bool). refused_if (not b) BadName) g.named in
     let octets = ap {B = Option Refused} (λ (b : Bool). refused_if (not b) BadOctets) in_range in
     let pace = ap {B = Option Refused} (λ (b : Bool). refused_if (not b) BadPace) g.pace in
-    let unknown = ap (refused_at (λ place. UnknownNode place)) g.known in
-    let broken = ap (refused_at (λ place. BrokenPath place)) g.whole in
-    let looping = ap (refused_at (λ place. LoopingPath place)) g.simple in
+    let unknown = ap (refused_at (λ index. UnknownNode index)) g.known in
+    let broken = ap (refused_at (λ index. BrokenPath index)) g.whole in
+    let looping = ap (refused_at (λ index. LoopingPath index)) g.simple in
     let stray = ap (refused_at (λ branch. NotATree branch)) g.together in
     let hops = ap {B = Option Refused} (λ (b : Bool). refused_if b TooManyHops)
     (le-ltb (hops_within d.limits) (length (tree_of d asked.paths)) g.few_hops) in (
@@ -99,14 +99,14 @@ good_granted d rows asked none =
 
 -- so if a legal history admits only the first streams of their names, it admits only the good listed ones
 pub admits_good : (d : Domain) (entries : List Recorded) (requests : List Asked) → IsLegalHistory d entries → AdmitsOnly (firsts requests) entries →
-    AdmitsOnly (filter (is_good d) (told_streams requests)) entries
+    AdmitsOnly (filter (is_good d) (written_streams requests)) entries
 admits_good d entries requests legal only e asked receipt among admits accepted =
-    let place = place_of_member entries e among in
-    let reply = legal.replies place.0 e place.1 in
-    let before = take place.0 entries in
+    let index = index_of_member entries e among in
+    let reply = legal.replies index.0 e index.1 in
+    let before = take index.0 entries in
     let none : refusal_of d (held_in d before (seals before)) asked ≡ None =
     refused_none (next_number d before) (seals before) (refusal_of d (held_in d before (seals before)) asked) receipt
     (sym (reply ∙ ap (reply_to d before) admits) ∙ accepted) in
     let good = good_granted d (held_in d before (seals before)) asked none in
-    contains_filter (is_good d) (told_streams requests) asked
-    (told_has requests asked (only e asked receipt among admits accepted) good.0) good.1
+    contains_filter (is_good d) (written_streams requests) asked
+    (written_has requests asked (only e asked receipt among admits accepted) good.0) good.1

@@ -25,13 +25,13 @@ use Rattle.cqf_model.specs.Promise.{IsDecided, SaysTheShift}
 use Rattle.cqf_model.specs.Run.{Run}
 use Rattle.cqf_model.specs.Shift.{IsCovered, IsUncovered, offer_cycle, row_for}
 use Rattle.cqf_model.specs.Table.{AreOrderly}
-use Rattle.cqf_model.specs.Traffic.{DroppedFor, ExceedsGate, LacksRow, Queued, Verdict, numbered}
+use Rattle.cqf_model.specs.Policing.{DroppedFor, ExceedsGate, LacksRow, Queued, Verdict, numbered}
 use Rattle.cqf_laws_shift.proofs.Decided.{is_decided, judged}
 use Rattle.cqf_topology.specs.DomainText.{IsDomain}
 use Rattle.cqf_topology.specs.PlannedText.{PlannedText}
 use Rattle.cqf_program_plans.specs.EndNames.{name_of_end}
 use Rattle.cqf_program_plans.specs.Latency.Text.{listeners_of}
-use Rattle.cqf_program_runs.specs.Deliveries.ArrivalLaws.{EachIsToldOnce, EachListenerIsToldOnce, goes_to}
+use Rattle.cqf_program_runs.specs.Deliveries.ArrivalLaws.{EachIsWrittenOnce, EachListenerIsWrittenOnce, goes_to}
 use Rattle.cqf_program_runs.specs.Deliveries.{deadline_named, deliveries_by, deliveries_of, deliveries_of_offer, deliveries_to, deliveries_unless, delivery_of, delivery_to, drop_of, whole_on}
 use Rattle.cqf_program_runs.proofs.Well.{of_covered, of_uncovered}
 use Rattle.cqf_program_summary.specs.Summary.{deliveries_named, offers_named, offers_within}
@@ -104,7 +104,7 @@ four_counts listener ds =
     omega (arith, sum_plus (λ y. a y + b y + c y) e ds, sum_plus (λ y. a y + b y) c ds, sum_plus a b ds)
 
 module _ (run : Run) (streams : List PlannedText) (book : Contents) (says : SaysTheShift run book) (domain : IsDomain run.domain)
-    (orderly : AreOrderly run.domain run.tables) (once : EachIsToldOnce) (listeners : EachListenerIsToldOnce) where
+    (orderly : AreOrderly run.domain run.tables) (once : EachIsWrittenOnce) (listeners : EachListenerIsWrittenOnce) where
   -- the deliveries of an offer have its name
   stream_by : (x : Offered) (y : Delivery) (found : Option Row) →
       Contains (deliveries_by run.domain (whole_on run.domain book.starts x.frame) (deadline_named streams x.offer.stream) x found) y →
@@ -139,7 +139,7 @@ module _ (run : Run) (streams : List PlannedText) (book : Contents) (says : Says
         let deadline = deadline_named streams x.offer.stream in
         let there = leads x row covered own in
         let hop : Hop = there.0 in
-        let told = (once run streams book x says inside within).as_covered row covered in
+        let reported = (once run streams book x says inside within).as_covered row covered in
         ap (sum_by (counts_at to)) (of_covered run streams book says x inside within row covered)
         ∙ sum_same (counts_at to) (λ (y : Delivery). one_if (reaches to y.passage)) (deliveries_to run.domain whole deadline x row)
         (λ y c.
@@ -147,7 +147,7 @@ module _ (run : Run) (streams : List PlannedText) (book : Contents) (says : Says
         goes_counts to y (record { listener = name_of_end run.domain from.0.link; whole = whole from.0.link; deadline = deadline })
         (ap (λ (z : Delivery). z.passage) (sym from.2)))
         ∙ ap (λ (o : Option (List ℕ)). sum_by (λ (y : Delivery). one_if (reaches o y.passage)) (deliveries_to run.domain whole deadline x row)) there.2
-        ∙ ap (λ (ds : List Delivery). count_by (λ (y : Delivery). goes_to (name_of_end run.domain hop.link) y.passage) ds) (sym told)
+        ∙ ap (λ (ds : List Delivery). count_by (λ (y : Delivery). goes_to (name_of_end run.domain hop.link) y.passage) ds) (sym reported)
         ∙ listeners run streams book x row hop domain orderly says inside within covered there.1
 
     -- and one that isn't covered is dropped once

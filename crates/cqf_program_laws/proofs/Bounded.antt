@@ -23,7 +23,7 @@ use Rattle.cqf_model.specs.declared.history.Refused.{Refused}
 use Rattle.cqf_model.specs.declared.history.Refused.TheVariants.{BadName, BadOctets, BadPace}
 use Rattle.cqf_model.specs.Shift.{InShift, offer_cycle, row_for}
 use Rattle.cqf_model.specs.Table.{IsTree, table_of, uses}
-use Rattle.cqf_model.specs.Traffic.{numbered}
+use Rattle.cqf_model.specs.Policing.{numbered}
 use Rattle.cqf_model.proofs.Texts.{is_text_same}
 use Rattle.cqf_laws_history.specs.HistoryLaws.{TablesAreOrderly}
 use Rattle.cqf_laws_history.specs.StateLaws.{granted_row}
@@ -50,13 +50,13 @@ use Rattle.cqf_program_runs.proofs.Arrived.{at_start, come_by}
 use Rattle.cqf_program_runs.proofs.Listeners.{one_listener}
 use Rattle.cqf_program_laws.specs.ScriptLaws.{HistoriesAdmitOnly, HistoriesAreLegal, ScriptsAskOnly}
 use Rattle.cqf_program_summary.specs.declared.summary.fares.Listener.{Listener}
-use Rattle.cqf_program_summary.specs.declared.summary.fares.ListenerWay.{ListenerWay}
+use Rattle.cqf_program_summary.specs.declared.summary.fares.ListenerPath.{ListenerPath}
 use Rattle.cqf_program_summary.specs.declared.summary.tallies.LatencySummary.{LatencySummary}
-use Rattle.cqf_program_summary.specs.Summary.{Fare, deliveries_named, fare_of, listener_to, listeners_by, name_of_listener, offers_within, way_to, ways_of}
+use Rattle.cqf_program_summary.specs.Summary.{Fare, deliveries_named, fare_of, listener_to, listeners_by, name_of_listener, offers_within, path_to, paths_of}
 use Rattle.cqf_program_laws.specs.SummaryLaws.{IsReadRun, LatenciesAreBounded}
 use Rattle.cqf_program_summary.specs.Summary.Tallies.{latencies_to, latency_by, latency_on, reaches, taken_of}
-use Rattle.cqf_program_summary.specs.Summary.Told.{is_good, row_of_stream, row_unless, told_cost, told_streams}
-use Rattle.cqf_program_laws.proofs.RowLaws.{IsOwnRow, admits_told, no_refusal, own_row}
+use Rattle.cqf_program_summary.specs.Summary.Written.{is_good, row_of_stream, row_unless, written_cost, written_streams}
+use Rattle.cqf_program_laws.proofs.RowLaws.{IsOwnRow, admits_written, no_refusal, own_row}
 
 -- if something holds of each of some numbers, their least is no less than a lower bound, and their most no more than an upper one
 least_of_all : (low m : ℕ) (ns : List ℕ) → low ≤ m → ((n : ℕ) → Contains ns n → low ≤ n) → low ≤ fold min m ns
@@ -109,15 +109,15 @@ one_journey : (a b : Journey) → passage.Goes a ≡ passage.Goes b → a ≡ b
 one_journey a b e = cc
 
 -- good streams have a pace
-goods_paced : (d : Domain) (told : List Asked) → ArePaced (filter (is_good d) told)
-goods_paced d told asked among =
-    let good = contains_from_filter (is_good d) told asked among in
+goods_paced : (d : Domain) (reported : List Asked) → ArePaced (filter (is_good d) reported)
+goods_paced d reported asked among =
+    let good = contains_from_filter (is_good d) reported asked among in
     let named = refused_if (not (is_name asked.name)) BadName in
     let sized = refused_if (not (nat_le least_reserved asked.octets && nat_le asked.octets most_reserved)) BadOctets in
     let paced = refused_if (not (is_pace asked.every asked.phase)) BadPace in
-    let behind = or_else paced (tree_refusal d asked.paths) in
-    let a = or_else_none named (or_else sized behind) (no_refusal (form_refusal d asked) good.1) in
-    let b = or_else_none sized behind a.1 in
+    let following = or_else paced (tree_refusal d asked.paths) in
+    let a = or_else_none named (or_else sized following) (no_refusal (form_refusal d asked) good.1) in
+    let b = or_else_none sized following a.1 in
     let c = or_else_none paced (tree_refusal d asked.paths) b.1 in
     not-false (is_pace asked.every asked.phase) (refused_if_none (not (is_pace asked.every asked.phase)) BadPace c.0)
 
@@ -135,16 +135,16 @@ module _ (rows : RowsAreOfList) (timely : HistoryIsTimely) (orderly : TablesAreO
   abbrev run : Run
   run = run_of_scenario cycles s
 
-  abbrev told : List Asked
-  told = told_streams (asked_in streams)
+  abbrev reported : List Asked
+  reported = written_streams (asked_in streams)
 
   abbrev goods : List Asked
-  goods = filter (is_good d) told
+  goods = filter (is_good d) reported
 
   only : AdmitsOnly goods (history_of cycles s)
-  only = admits_told asks histories legal_of limits cycles input s streams book is
+  only = admits_written asks histories legal_of limits cycles input s streams book is
 
-  module _ (asked : Asked) (listed : Contains told asked) (hop : Hop) (among : Contains (listeners_of d (granted_row d 0 0 asked)) hop) where
+  module _ (asked : Asked) (listed : Contains reported asked) (hop : Hop) (among : Contains (listeners_of d (granted_row d 0 0 asked)) hop) where
     -- an arrival there of a frame of the stream
     module _ (y : Delivery) (a : IsArrivalOfOffer run streams book y) (own : is_text a.x.offer.stream asked.name ≡ true)
         (to : name_of_end d a.hop.link ≡ name_of_end d hop.link) where
@@ -180,13 +180,13 @@ module _ (rows : RowsAreOfList) (timely : HistoryIsTimely) (orderly : TablesAreO
       one_row : shift.row ≡ a.row
       one_row = same_Some shift.row a.row (sym shift.covered.named ∙ ap (row_for d run.tables) one_offer ∙ a.covered.named)
 
-      one_depth : shift.depth ≡ hop.depth
-      one_depth =
+      one_hop_number : shift.hop_number ≡ hop.hop_number
+      one_hop_number =
           let its = shift.is_hop in
           let mine : Contains a.row.tree.items its.hop = subst (λ (r : Row). Contains r.tree.items its.hop) one_row its.of_tree in
           let own_hop = contains_from_filter (λ (h : Hop). is_station (end_of d h.link)) a.row.tree.items a.hop a.among in
           let link : its.hop.link ≡ a.hop.link = its.is_link ∙ at.2 in
-          sym its.is_depth ∙ ap (λ (h : Hop). h.depth) (one_end its.hop a.hop mine own_hop.0 (ap (end_of d) link)) ∙ ap (λ (h : Hop). h.depth) one_hop
+          sym its.is_hop_number ∙ ap (λ (h : Hop). h.hop_number) (one_end its.hop a.hop mine own_hop.0 (ap (end_of d) link)) ∙ ap (λ (h : Hop). h.hop_number) one_hop
 
       one_link : a.start.link ≡ hop.link
       one_link = at.2 ∙ ap (λ (h : Hop). h.link) one_hop
@@ -199,19 +199,19 @@ module _ (rows : RowsAreOfList) (timely : HistoryIsTimely) (orderly : TablesAreO
           (λ i. fold max 0 (each_below (λ cycle. if uses (items i) (pace i) hop.link cycle then cost_of_all d goods hop.link cycle ∷ [] else []) most_every))
 
       -- is within the bounds
-      is_timely : IsTimely d hop.link hop.depth (most_beside_all d goods asked hop.link) a.x.offer.at.0 (whole_of d a.start)
+      is_timely : IsTimely d hop.link hop.hop_number (most_beside_all d goods asked hop.link) a.x.offer.at.0 (whole_of d a.start)
       is_timely =
           let found = timely d (history_of cycles s) s.offers s.background cycles book goods is.domain.accepted (legal_of cycles s is.short is.may.room)
-          is.may.offers is.may.background is.is_book.is_book only (goods_paced d told) a.start at.0 shift in
-          let there : IsTimely d hop.link hop.depth (most_beside_all d goods found.0.asked hop.link) shift.x.offer.at.0 (whole_of d a.start) =
-          subst₂ (λ (link depth : ℕ). IsTimely d link depth (most_beside_all d goods found.0.asked link) shift.x.offer.at.0 (whole_of d a.start)) one_link one_depth
+          is.may.offers is.may.background is.is_book.is_book only (goods_paced d reported) a.start at.0 shift in
+          let there : IsTimely d hop.link hop.hop_number (most_beside_all d goods found.0.asked hop.link) shift.x.offer.at.0 (whole_of d a.start) =
+          subst₂ (λ (link hop_number : ℕ). IsTimely d link hop_number (most_beside_all d goods found.0.asked link) shift.x.offer.at.0 (whole_of d a.start)) one_link one_hop_number
           found.1 in
-          let own = subst (λ (cost : ℕ). IsTimely d hop.link hop.depth cost shift.x.offer.at.0 (whole_of d a.start)) (one_cost found.0) there in
-          subst (λ (x : Offered). IsTimely d hop.link hop.depth (most_beside_all d goods asked hop.link) x.offer.at.0 (whole_of d a.start)) one_offer own
+          let own = subst (λ (cost : ℕ). IsTimely d hop.link hop.hop_number cost shift.x.offer.at.0 (whole_of d a.start)) (one_cost found.0) there in
+          subst (λ (x : Offered). IsTimely d hop.link hop.hop_number (most_beside_all d goods asked hop.link) x.offer.at.0 (whole_of d a.start)) one_offer own
 
     -- so is each latency there
     latency_within : (n : ℕ) → Contains (latencies_to (Some (name_of_end d hop.link)) (deliveries_named asked.name (deliveries_of run streams book))) n →
-        (least_of d hop.link hop.depth ≤ n) × (n ≤ most_of d hop.link hop.depth (told_cost d told asked hop.link))
+        (least_of d hop.link hop.hop_number ≤ n) × (n ≤ most_of d hop.link hop.hop_number (written_cost d reported asked hop.link))
     latency_within n c =
         let from = contains_from_flat (λ (x : Delivery). if reaches (Some (name_of_end d hop.link)) x.passage then latency_on x.at.0 x.passage else [])
         (deliveries_named asked.name (deliveries_of run streams book)) n c in
@@ -225,21 +225,21 @@ module _ (rows : RowsAreOfList) (timely : HistoryIsTimely) (orderly : TablesAreO
         let a = (arrivals run streams book is.is_book.promise.says).only y named.0 come in
         let stream : y.stream ≡ a.x.offer.stream = ap (λ (z : Delivery). z.stream) a.is in
         let own : is_text a.x.offer.stream asked.name ≡ true = ap (λ (m : List ℕ). is_text m asked.name) (sym stream) ∙ named.1 in
-        let way = one_journey _ t.journey (sym (ap (λ (z : Delivery). z.passage) a.is) ∙ t.goes) in
-        let to : name_of_end d a.hop.link ≡ name_of_end d hop.link = ap (λ (j : Journey). j.listener) way ∙ t.to in
+        let path = one_journey _ t.journey (sym (ap (λ (z : Delivery). z.passage) a.is) ∙ t.goes) in
+        let to : name_of_end d a.hop.link ≡ name_of_end d hop.link = ap (λ (j : Journey). j.listener) path ∙ t.to in
         let bounds = is_timely y a own to in
         let whole : t.whole ≡ whole_instant d a.start =
-        same_Some t.whole (whole_instant d a.start) (sym t.is ∙ sym (ap (λ (j : Journey). j.whole) way)) in
+        same_Some t.whole (whole_instant d a.start) (sym t.is ∙ sym (ap (λ (j : Journey). j.whole) path)) in
         let instant : t.whole.0 ≡ whole_of d a.start = ap (λ (w : Nanos). w.0) whole in
         let at_is : y.at.0 ≡ a.x.offer.at.0 = ap (λ (z : Delivery). z.at.0) a.is in
         (omega (arith, t.took, instant, at_is, bounds.least), omega (arith, t.took, instant, at_is, bounds.most))
 
   -- so are the least and the most at a listed listener
-  bounded_to : (asked : Asked) → Contains told asked → (o : Option Refused) → (to : Option Listener) →
-      Contains (listeners_by d (told_cost d told asked) (row_unless d asked o)) to → (taken : LatencySummary) →
+  bounded_to : (asked : Asked) → Contains reported asked → (o : Option Refused) → (to : Option Listener) →
+      Contains (listeners_by d (written_cost d reported asked) (row_unless d asked o)) to → (taken : LatencySummary) →
       taken_of (latencies_to (name_of_listener to) (deliveries_named asked.name (deliveries_of run streams book))) ≡ Some taken →
-      (hop : Hop) × Contains (listeners_of d (granted_row d 0 0 asked)) hop × (to ≡ Some (listener_to d (told_cost d told asked) hop))
-      × (least_of d hop.link hop.depth ≤ taken.least) × (taken.most ≤ most_of d hop.link hop.depth (told_cost d told asked hop.link))
+      (hop : Hop) × Contains (listeners_of d (granted_row d 0 0 asked)) hop × (to ≡ Some (listener_to d (written_cost d reported asked) hop))
+      × (least_of d hop.link hop.hop_number ≤ taken.least) × (taken.most ≤ most_of d hop.link hop.hop_number (written_cost d reported asked hop.link))
   bounded_to asked listed (Some refused) to among taken took =
       let nowhere : None ≡ to = contains_one {X = Option Listener} None to among in
       let none : taken_of (latencies_to (name_of_listener to) (deliveries_named asked.name (deliveries_of run streams book))) ≡ None =
@@ -247,11 +247,11 @@ module _ (rows : RowsAreOfList) (timely : HistoryIsTimely) (orderly : TablesAreO
       ∙ ap taken_of (none_taken (deliveries_named asked.name (deliveries_of run streams book))) in
       absurd (let both : ◌≡◌ {A = Option LatencySummary} None (Some taken) = sym none ∙ took in cc)
   bounded_to asked listed None to among taken took =
-      let found = contains_from_map (λ (hop : Hop). Some (listener_to d (told_cost d told asked) hop)) (listeners_of d (granted_row d 0 0 asked)) to among in
+      let found = contains_from_map (λ (hop : Hop). Some (listener_to d (written_cost d reported asked) hop)) (listeners_of d (granted_row d 0 0 asked)) to among in
       let hop : Hop = found.0 in
       let there : taken_of (latencies_to (Some (name_of_end d hop.link)) (deliveries_named asked.name (deliveries_of run streams book))) ≡ Some taken =
       ap (λ (o : Option Listener). taken_of (latencies_to (name_of_listener o) (deliveries_named asked.name (deliveries_of run streams book)))) found.2 ∙ took in
-      let bounds = taken_within (least_of d hop.link hop.depth) (most_of d hop.link hop.depth (told_cost d told asked hop.link))
+      let bounds = taken_within (least_of d hop.link hop.hop_number) (most_of d hop.link hop.hop_number (written_cost d reported asked hop.link))
       (latencies_to (Some (name_of_end d hop.link)) (deliveries_named asked.name (deliveries_of run streams book))) taken there
       (λ n c. latency_within asked listed hop found.1 n c) in
       (hop, found.1, sym found.2, bounds.0, bounds.1)
@@ -259,30 +259,30 @@ module _ (rows : RowsAreOfList) (timely : HistoryIsTimely) (orderly : TablesAreO
 -- so of each row
 pub latencies_are_bounded : RowsAreOfList → HistoryIsTimely → TablesAreOrderly → ArrivalsAreTheShift → ScriptsAskOnly → HistoriesAdmitOnly →
     HistoriesAreLegal → LatenciesAreBounded
-latencies_are_bounded rows timely orderly arrivals asks histories legal_of limits cycles input s streams book fare way taken is of took =
+latencies_are_bounded rows timely orderly arrivals asks histories legal_of limits cycles input s streams book fare path taken is of took =
     let d = s.domain in
-    let told = told_streams (asked_in streams) in
-    let cost = told_cost d told in
+    let reported = written_streams (asked_in streams) in
+    let cost = written_cost d reported in
     let run = run_of_scenario cycles s in
     let ds = deliveries_of run streams book in
     let offers = offers_within d (length run.tables) (numbered run.offers) in
-    let stream = contains_from_map (fare_of d cost (deadline_named streams) offers ds) told fare of.0 in
+    let stream = contains_from_map (fare_of d cost (deadline_named streams) offers ds) reported fare of.0 in
     let asked : Asked = stream.0 in
-    let of_it : Contains (ways_of d (cost asked) (deliveries_named asked.name ds) (row_of_stream d asked)) way =
-    subst (λ (f : Fare). Contains f.ways way) (sym stream.2) of.1 in
-    let listener = contains_from_map (way_to (deliveries_named asked.name ds)) (listeners_by d (cost asked) (row_of_stream d asked)) way of_it in
+    let of_it : Contains (paths_of d (cost asked) (deliveries_named asked.name ds) (row_of_stream d asked)) path =
+    subst (λ (f : Fare). Contains f.paths path) (sym stream.2) of.1 in
+    let listener = contains_from_map (path_to (deliveries_named asked.name ds)) (listeners_by d (cost asked) (row_of_stream d asked)) path of_it in
     let counted : taken_of (latencies_to (name_of_listener listener.0) (deliveries_named asked.name ds)) ≡ Some taken =
-    ap (λ (w : ListenerWay). w.tally.taken) listener.2 ∙ took in
+    ap (λ (w : ListenerPath). w.tally.taken) listener.2 ∙ took in
     let b = bounded_to rows timely orderly arrivals asks histories legal_of limits cycles input s streams book is asked stream.1 (form_refusal d asked)
     listener.0 listener.1 taken counted in
     record {
       asked = asked;
-      told = stream.1;
+      reported = stream.1;
       stream = ap (λ (f : Fare). f.name) stream.2;
       hop = b.0;
       among = b.1;
       listener = listener_to d (cost asked) b.0;
-      to = sym (ap (λ (w : ListenerWay). w.to) listener.2) ∙ b.2;
+      to = sym (ap (λ (w : ListenerPath). w.to) listener.2) ∙ b.2;
       named = refl;
       least = b.3;
       most = b.4;

@@ -13,7 +13,7 @@ use Rattle.cqf_model.specs.Promise.{IsDecided, SaysTheShift}
 use Rattle.cqf_model.specs.Run.{Run}
 use Rattle.cqf_model.specs.Shift.{IsCovered, offer_cycle}
 use Rattle.cqf_model.specs.Table.{AreOrderly}
-use Rattle.cqf_model.specs.Traffic.{DroppedFor, ExceedsGate, LacksRow, Queued, Verdict, numbered}
+use Rattle.cqf_model.specs.Policing.{DroppedFor, ExceedsGate, LacksRow, Queued, Verdict, numbered}
 use Rattle.cqf_laws_shift.proofs.Decided.{is_decided, judged}
 use Rattle.cqf_topology.specs.DomainText.{IsDomain}
 use Rattle.cqf_topology.specs.PlannedText.{PlannedText}
@@ -22,15 +22,15 @@ use Rattle.cqf_program_plans.specs.Latency.Text.{listeners_of}
 use Rattle.cqf_program_runs.specs.declared.deliveries.delivery.Delivery.{Delivery}
 use Rattle.cqf_program_runs.specs.declared.deliveries.delivery.Fate.{Fate}
 use Rattle.cqf_program_runs.specs.Check.Checked.{is_delivered, is_under_way}
-use Rattle.cqf_program_runs.specs.Deliveries.ArrivalLaws.{EachIsToldOnce, EachListenerIsToldOnce, told_of_frame}
+use Rattle.cqf_program_runs.specs.Deliveries.ArrivalLaws.{EachIsWrittenOnce, EachListenerIsWrittenOnce, written_of_frame}
 use Rattle.cqf_program_runs.specs.Deliveries.{deadline_named, deliveries_of, deliveries_of_offer, deliveries_unless, drop_of, fate_of}
 use Rattle.cqf_program_runs.proofs.Well.{of_covered, of_uncovered}
 use Rattle.cqf_program_summary.specs.declared.summary.fares.Listener.{Listener}
-use Rattle.cqf_program_summary.specs.Summary.{deliveries_named, fare_of, name_of_listener, offers_within, way_to}
+use Rattle.cqf_program_summary.specs.Summary.{deliveries_named, fare_of, name_of_listener, offers_within, path_to}
 use Rattle.cqf_program_summary.specs.Summary.Tallies.{is_dropped, is_late, reaches}
 use Rattle.cqf_program_laws.specs.SummaryLaws.{CountsEachOnce}
 use Rattle.cqf_program_laws.proofs.Balance.{by_verdict, four_counts, stream_of}
-use Rattle.cqf_program_laws.proofs.EachWay.{counts_elements, first_rare, fourth_rare, one_of_them, second_rare, third_rare}
+use Rattle.cqf_program_laws.proofs.EachPath.{counts_elements, first_rare, fourth_rare, one_of_them, second_rare, third_rare}
 
 -- whether a delivery goes to a listener and has such a fate; and whether it is a drop
 abbrev goes : Option (List ℕ) → (Fate → Bool) → Delivery → Bool
@@ -40,12 +40,12 @@ abbrev drops : Delivery → Bool
 drops = λ (y : Delivery). is_dropped (fate_of y)
 
 module _ (run : Run) (streams : List PlannedText) (book : Contents) (says : SaysTheShift run book) (domain : IsDomain run.domain)
-    (orderly : AreOrderly run.domain run.tables) (once : EachIsToldOnce) (listeners : EachListenerIsToldOnce) where
+    (orderly : AreOrderly run.domain run.tables) (once : EachIsWrittenOnce) (listeners : EachListenerIsWrittenOnce) where
   abbrev here : Offered → List Delivery
   here = deliveries_of_offer run streams book
 
-  abbrev told : Offered → List Delivery
-  told = λ (x : Offered). told_of_frame run streams book x.frame
+  abbrev reported : Offered → List Delivery
+  reported = λ (x : Offered). written_of_frame run streams book x.frame
 
   abbrev ran : Offered → Bool
   ran = λ (x : Offered). nat_lt (offer_cycle run.domain x) (length run.tables)
@@ -55,13 +55,13 @@ module _ (run : Run) (streams : List PlannedText) (book : Contents) (says : Says
   none_unless_run x off = ap (λ (b : Bool). if b then deliveries_unless run streams book x (drop_of book.drops x.frame) else []) off
 
   -- the deliveries of a frame are those of its offer
-  told_here : (x : Offered) → Contains (numbered run.offers) x → ran x ≡ true → told x ≡ here x
-  told_here x inside on = by (judged run x) (is_decided run x inside)
+  written_here : (x : Offered) → Contains (numbered run.offers) x → ran x ≡ true → reported x ≡ here x
+  written_here x inside on = by (judged run x) (is_decided run x inside)
     where
       within : offer_cycle run.domain x < length run.tables
       within = ltb-true (offer_cycle run.domain x) (length run.tables) on
 
-      by : (v : Verdict) → IsDecided run x v → told x ≡ here x
+      by : (v : Verdict) → IsDecided run x v → reported x ≡ here x
       by (Queued row) covered =
           (once run streams book x says inside within).as_covered row covered ∙ sym (of_covered run streams book says x inside within row covered)
       by (DroppedFor reason) uncovered =
@@ -96,21 +96,21 @@ module _ (run : Run) (streams : List PlannedText) (book : Contents) (says : Says
     -- so the row counts each offer once
     pub counts_each : CountsEachOnce run streams book
         (fare_of run.domain cost (deadline_named streams) (offers_within run.domain (length run.tables) (numbered run.offers)) (deliveries_of run streams book) asked)
-        (way_to (deliveries_named asked.name (deliveries_of run streams book)) to)
+        (path_to (deliveries_named asked.name (deliveries_of run streams book)) to)
     counts_each = record {
       offered = sym (length-filter own (offers_within run.domain (length run.tables) (numbered run.offers)));
-      delivered = counts_elements here told (numbered run.offers) ran own mine belong none_unless_run told_here (goes name is_delivered)
-          (first_rare here told (numbered run.offers) ran own mine belong none_unless_run told_here (goes name is_delivered) (goes name is_late) drops
+      delivered = counts_elements here reported (numbered run.offers) ran own mine belong none_unless_run written_here (goes name is_delivered)
+          (first_rare here reported (numbered run.offers) ran own mine belong none_unless_run written_here (goes name is_delivered) (goes name is_late) drops
           (goes name is_under_way) four_here);
-      late = counts_elements here told (numbered run.offers) ran own mine belong none_unless_run told_here (goes name is_late)
-          (second_rare here told (numbered run.offers) ran own mine belong none_unless_run told_here (goes name is_delivered) (goes name is_late) drops
+      late = counts_elements here reported (numbered run.offers) ran own mine belong none_unless_run written_here (goes name is_late)
+          (second_rare here reported (numbered run.offers) ran own mine belong none_unless_run written_here (goes name is_delivered) (goes name is_late) drops
           (goes name is_under_way) four_here);
-      dropped = counts_elements here told (numbered run.offers) ran own mine belong none_unless_run told_here drops
-          (third_rare here told (numbered run.offers) ran own mine belong none_unless_run told_here (goes name is_delivered) (goes name is_late) drops
+      dropped = counts_elements here reported (numbered run.offers) ran own mine belong none_unless_run written_here drops
+          (third_rare here reported (numbered run.offers) ran own mine belong none_unless_run written_here (goes name is_delivered) (goes name is_late) drops
           (goes name is_under_way) four_here);
-      under_way = counts_elements here told (numbered run.offers) ran own mine belong none_unless_run told_here (goes name is_under_way)
-          (fourth_rare here told (numbered run.offers) ran own mine belong none_unless_run told_here (goes name is_delivered) (goes name is_late) drops
+      under_way = counts_elements here reported (numbered run.offers) ran own mine belong none_unless_run written_here (goes name is_under_way)
+          (fourth_rare here reported (numbered run.offers) ran own mine belong none_unless_run written_here (goes name is_delivered) (goes name is_late) drops
           (goes name is_under_way) four_here);
-      once = one_of_them here told (numbered run.offers) ran own mine belong none_unless_run told_here (goes name is_delivered) (goes name is_late) drops
+      once = one_of_them here reported (numbered run.offers) ran own mine belong none_unless_run written_here (goes name is_delivered) (goes name is_late) drops
           (goes name is_under_way) four_here;
     }

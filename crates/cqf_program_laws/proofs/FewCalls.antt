@@ -10,9 +10,9 @@ use Rattle.cqf_model.specs.Limits.{most_calls}
 use Rattle.cqf_text.specs.Lines.{lines_of}
 use Rattle.cqf_admission.specs.declared.faults.ScriptFault.{ScriptFault}
 use Rattle.cqf_admission.specs.declared.faults.ScriptFault.TheVariants.{BadLine, TooMany, UnknownStream}
-use Rattle.cqf_admission.specs.Lines.{Written, is_seal_line, order_behind, order_of_line, seat_of_digit, word_behind}
-use Rattle.cqf_admission.specs.Script.{Called, act_for, administrators, call_of_line, call_of_order, call_of_seal, called_behind, calls_from, others_among}
-use Rattle.cqf_admission.specs.Script.{request_named, script_of, sealed_behind, seals_among}
+use Rattle.cqf_admission.specs.Lines.{Written, is_seal_line, order_after, order_of_line, seat_of_digit, word_after}
+use Rattle.cqf_admission.specs.Script.{Called, act_for, administrators, call_of_line, call_of_order, call_of_seal, called_after, calls_from, others_among}
+use Rattle.cqf_admission.specs.Script.{request_named, script_of, sealed_after, seals_among}
 use Rattle.cqf_program_scenario.specs.Calls.{HasRoom}
 use Rattle.cqf_program_plans.proofs.CompileLemmas.{same_ok}
 use Rattle.cqf_program_laws.proofs.Legal.{others-cons, seals-cons}
@@ -51,12 +51,12 @@ word_calls requests make None each order e act h = absurd (cc)
 word_calls requests make (Some word) each order e act h =
     each word act (ap (λ (o : Written). act_for requests o.wish o.name) (same_Some (make word) order e) ∙ h)
 
-seat_calls : (requests : List Asked) (rest : List ℕ) (seat : Option ℕ) → CallsForNoSeal requests (option_and_then (order_behind rest) seat)
+seat_calls : (requests : List Asked) (rest : List ℕ) (seat : Option ℕ) → CallsForNoSeal requests (option_and_then (order_after rest) seat)
 seat_calls requests rest None = λ order e act h. absurd (cc)
 seat_calls requests rest (Some seat) =
     either_calls requests _ _
-    (word_calls requests _ (word_behind (codes " admit ") rest) (λ word act h. request_calls (request_named requests word) act h))
-    (word_calls requests _ (word_behind (codes " withdraw ") rest) (λ word act h. withdrawal_calls word act h))
+    (word_calls requests _ (word_after (codes " admit ") rest) (λ word act h. request_calls (request_named requests word) act h))
+    (word_calls requests _ (word_after (codes " withdraw ") rest) (λ word act h. withdrawal_calls word act h))
 
 line_calls : (requests : List Asked) (line : List ℕ) → CallsForNoSeal requests (order_of_line line)
 line_calls requests [] = λ order e act h. absurd (cc)
@@ -107,11 +107,11 @@ lines_have_room requests seat cycles number sealed called [] found low few h =
     subst (λ (xs : List Called). IsRoom cycles sealed called xs) none (record { seals = omega (arith, low); others = omega (arith, few) })
 lines_have_room requests seat cycles number sealed called (line ∷ lines) found low few h =
     let two = parted (call_of_line requests seat cycles number sealed called line)
-    (calls_from requests seat cycles (number + 1) (sealed_behind sealed line) (called_behind called line) lines) found h in
+    (calls_from requests seat cycles (number + 1) (sealed_after sealed line) (called_after called line) lines) found h in
     subst (λ (xs : List Called). IsRoom cycles sealed called xs) (sym two.4)
     (line_before requests seat cycles number sealed called line two.0 two.1 (is_seal_line line) low few two.2
     (λ low_next few_next.
-    lines_have_room requests seat cycles (number + 1) (sealed_behind sealed line) (called_behind called line) lines two.1 low_next few_next two.3))
+    lines_have_room requests seat cycles (number + 1) (sealed_after sealed line) (called_after called line) lines two.1 low_next few_next two.3))
 
 pub calls_have_room : (requests : List Asked) (cycles : ℕ) (text : List ℕ) (found : List Called) → script_of requests cycles text ≡ Ok found →
     HasRoom cycles [] found

@@ -20,9 +20,9 @@ use Rattle.cqf_text.specs.Lines.{lines_of}
 use Rattle.cqf_topology.specs.Fields.{and_first}
 use Rattle.cqf_admission.specs.declared.faults.ScriptFault.{ScriptFault}
 use Rattle.cqf_admission.specs.declared.faults.ScriptFault.TheVariants.{BadLine, TooMany, UnknownStream}
-use Rattle.cqf_admission.specs.Lines.{Written, is_seal_line, order_behind, order_of_line, seat_of_digit, word_behind}
-use Rattle.cqf_admission.specs.Script.{Called, act_for, administrators, call_of_line, call_of_order, call_of_seal, called_behind, calls_from, request_named, script_of, sealed_behind}
-use Rattle.cqf_program_summary.specs.Summary.Told.{told_streams}
+use Rattle.cqf_admission.specs.Lines.{Written, is_seal_line, order_after, order_of_line, seat_of_digit, word_after}
+use Rattle.cqf_admission.specs.Script.{Called, act_for, administrators, call_of_line, call_of_order, call_of_seal, called_after, calls_from, request_named, script_of, sealed_after}
+use Rattle.cqf_program_summary.specs.Summary.Written.{written_streams}
 
 -- what is found among some, or else among others
 or_none : {X : Type 0} (o : Option X) → option_or o None ≡ o
@@ -92,13 +92,13 @@ word_agrees requests make None each order e = absurd (cc)
 word_agrees requests make (Some word) each order e =
     subst (λ (o : Written). act_for requests o.wish o.name ≡ act_for (firsts requests) o.wish o.name) (same_Some (make word) order e) (each word)
 
-seat_agrees : (requests : List Asked) (rest : List ℕ) (seat : Option ℕ) → AgreesOn requests (option_and_then (order_behind rest) seat)
+seat_agrees : (requests : List Asked) (rest : List ℕ) (seat : Option ℕ) → AgreesOn requests (option_and_then (order_after rest) seat)
 seat_agrees requests rest None = λ order e. absurd (cc)
 seat_agrees requests rest (Some seat) =
     either_agrees requests _ _
-    (word_agrees requests _ (word_behind (codes " admit ") rest)
+    (word_agrees requests _ (word_after (codes " admit ") rest)
     (λ word. ap (option_map (λ (asked : Asked). Admits asked)) (named_first requests word)))
-    (word_agrees requests _ (word_behind (codes " withdraw ") rest) (λ word. refl))
+    (word_agrees requests _ (word_after (codes " withdraw ") rest) (λ word. refl))
 
 line_agrees : (requests : List Asked) (line : List ℕ) → AgreesOn requests (order_of_line line)
 line_agrees requests [] = λ order e. absurd (cc)
@@ -123,7 +123,7 @@ calls_first : (requests : List Asked) (seat cycles number sealed called : ℕ) (
 calls_first requests seat cycles number sealed called [] = refl
 calls_first requests seat cycles number sealed called (line ∷ lines) = λ i.
     and_first (line_first requests seat cycles number sealed called line i)
-    (calls_first requests seat cycles (number + 1) (sealed_behind sealed line) (called_behind called line) lines i)
+    (calls_first requests seat cycles (number + 1) (sealed_after sealed line) (called_after called line) lines i)
 
 pub script_first : (requests : List Asked) (cycles : ℕ) (text : List ℕ) → script_of requests cycles text ≡ script_of (firsts requests) cycles text
 script_first requests cycles text = calls_first requests (administrators (lines_of text)) cycles 1 0 0 (lines_of text)
@@ -146,9 +146,9 @@ find_filtered p q (x ∷ xs) enough = by (find_filtered p q xs enough)
     ]
 
 -- so each first stream whose name has the form of a name is listed
-pub told_has : (requests : List Asked) (asked : Asked) → Contains (firsts requests) asked → is_name asked.name ≡ true →
-    Contains (told_streams requests) asked
-told_has requests asked c named = (find_member (λ (a : Asked). is_text a.name asked.name) (told_streams requests) asked told).0
+pub written_has : (requests : List Asked) (asked : Asked) → Contains (firsts requests) asked → is_name asked.name ≡ true →
+    Contains (written_streams requests) asked
+written_has requests asked c named = (find_member (λ (a : Asked). is_text a.name asked.name) (written_streams requests) asked reported).0
   where
     stable : (a b : Asked) → is_text a.name b.name ≡ true → is_text b.name asked.name ≡ true → is_text a.name asked.name ≡ true
     stable a b alike it = subst (λ (n : List ℕ). is_text n asked.name ≡ true) (sym (is_text_same a.name b.name alike)) it
@@ -168,8 +168,8 @@ told_has requests asked c named = (find_member (λ (a : Asked). is_text a.name a
         let member = find_member (λ (a : Asked). is_text a.name asked.name) (firsts requests) some.0 some.1 in
         some.1 ∙ ap (λ (y : Asked). Some y) (only some.0 member.0 member.1)
 
-    told : find (λ (a : Asked). is_text a.name asked.name) (told_streams requests) ≡ Some asked
-    told =
+    reported : find (λ (a : Asked). is_text a.name asked.name) (written_streams requests) ≡ Some asked
+    reported =
         find_once same_name (λ (a : Asked). is_text a.name asked.name) stable (filter (λ (a : Asked). is_name a.name) requests)
         ∙ find_filtered (λ (a : Asked). is_text a.name asked.name) (λ (a : Asked). is_name a.name) requests
         (λ a it. ap is_name (is_text_same a.name asked.name it) ∙ named)

@@ -18,7 +18,7 @@ use Rattle.cqf_model.specs.History.{Asked, Branch}
 use Rattle.cqf_model.specs.HistoryBook.{run_of_history}
 use Rattle.cqf_model.specs.Network.{Network}
 use Rattle.cqf_model.specs.Run.{Run}
-use Rattle.cqf_model.specs.Traffic.{Carried, whole_at}
+use Rattle.cqf_model.specs.Policing.{Carried, whole_at}
 use Rattle.cqf_model.proofs.Links.{least_long}
 use Rattle.cqf_laws_timing.specs.Latency.{least_of, whole_of}
 use Rattle.cqf_laws_timing.specs.Traffic.{Conforms, IsTraffic, Traffic, offers_named}
@@ -29,11 +29,11 @@ use Rattle.cqf_network.specs.NetworkFlows.{NetworkFlowText}
 use Rattle.cqf_network.specs.NetworkDomain.{NetworkDomain}
 use Rattle.cqf_access.specs.declared.edge.Delays.{Delays}
 use Rattle.cqf_access.specs.Access.{AccessLink, Crossing, IsBound, handed as handed_over, promises_of, taken_of}
-use Rattle.cqf_access.specs.Arriving.{FramesAreWholeWithin, way_of}
+use Rattle.cqf_access.specs.Arriving.{FramesAreWholeWithin, travel_time}
 use Rattle.cqf_access.specs.Closer.{EdgeConformsCloser, closer_at_edge}
-use Rattle.cqf_access.proofs.Arrivals.{longer_way}
+use Rattle.cqf_access.proofs.Arrivals.{longer_travel}
 use Rattle.cqf_edge.specs.declared.edge.AccessTimes.{AccessTimes}
-use Rattle.cqf_edge.specs.Edge.{delays_of, left_behind}
+use Rattle.cqf_edge.specs.Edge.{delays_of, left_after, left_by}
 use Rattle.cqf_edge.specs.EdgeFlows.{EdgeFlowsText, edge_flows}
 use Rattle.cqf_edge.specs.EdgeLaws.{ComesByLink, KeepsWord, StreamsComeByLinks, link_used}
 use Rattle.cqf_program_scenario.specs.Networks.{domain_of}
@@ -57,9 +57,9 @@ link_there d link node is = by (slice_get d.links link) refl is
     by None at ends = absurd (cc)
     by (Some l) at ends = slice_get_within d.links link l at
 
-pub least_is_some : (d : Domain) (link depth : ℕ) (node : Node) → IsAccepted d → end_of d link ≡ Some node → 0 < least_of d link depth
-least_is_some d link depth node accepted ends =
-    some_time ((depth - 1) * d.cycle_time) (time_of 72 (octet_time_of d link)) (least_delay_of d link) d.sync
+pub least_is_some : (d : Domain) (link hop_number : ℕ) (node : Node) → IsAccepted d → end_of d link ≡ Some node → 0 < least_of d link hop_number
+least_is_some d link hop_number node accepted ends =
+    some_time ((hop_number - 1) * d.cycle_time) (time_of 72 (octet_time_of d link)) (least_delay_of d link) d.sync
     (least_long d link accepted (link_there d link node ends))
 
 -- a frame that is whole within what is left of a deadline, and takes some time, is whole within the deadline from the hand-over
@@ -67,12 +67,12 @@ since_handed : (at handed most wished whole least : ℕ) → at ≤ handed + mos
     whole ≤ handed + wished
 since_handed at handed most wished whole least late takes some within = omega (arith, late, takes, some, within)
 
-is_within : (at handed : ℕ) (times : AccessTimes) (left written : Option ℕ) (whole least : ℕ) → left ≡ option_map (left_behind times) written →
+is_within : (at handed : ℕ) (times : AccessTimes) (left written : Option ℕ) (whole least : ℕ) → left ≡ option_map (left_after times) written →
     at ≤ handed + times.most → at + least ≤ whole → 0 < least → ForSome left (λ (most : ℕ). whole ≤ at + most) →
     ForSome written (λ (most : ℕ). whole ≤ handed + most)
 is_within at handed times left written whole least is late takes some within wished deadline =
     since_handed at handed times.most wished whole least late takes some
-    (within (wished - times.most) (is ∙ ap (option_map (left_behind times)) deadline))
+    (within (wished - times.most) (is ∙ ap (option_map (left_after times)) deadline))
 
 -- ---- a frame that is handed over
 
@@ -94,27 +94,29 @@ module _ (waits : FramesAreWholeWithin) (closer : EdgeConformsCloser) (come : St
   pub by_link : ComesByLink network edge h.stream one h.handed
   by_link = come network found edge h.stream one h.handed at_edges h.by_access.there h.by_access.hands
 
-  abbrev pub times : AccessTimes
-  times = by_link.times
-
   same_link : by_link.link ≡ h.link
   same_link = same_Some by_link.link h.link (sym by_link.is_link ∙ h.by_access.is_link)
 
   same_flow : by_link.flow ≡ flow
   same_flow = same_Some by_link.flow flow (sym by_link.at_edge ∙ h.by_access.at_edge)
 
-  -- its deadline there
-  left : flow.0.1 ≡ option_map (left_behind times) one.flow.0.1
-  left = subst (λ (f : FlowText). f.0.1 ≡ option_map (left_behind times) one.flow.0.1) same_flow by_link.left
-
   -- what its talker promises, and its word there
   abbrev pub promise : (t : TrafficText) × (one.flow.1 ≡ Some t) × (promise_of t ≡ h.s.promise)
   promise = promised_by one.flow.1 h.s.promise h.over.promise
 
-  pub keeps : KeepsWord edge h.handed h.link flow.1 times promise.0
+  pub keeps : KeepsWord edge h.handed h.link flow.1 by_link.times promise.0
   keeps =
-      subst₂ (λ (l : TalkerLink) (f : FlowText). KeepsWord edge h.handed l f.1 times promise.0) same_link same_flow
+      subst₂ (λ (l : TalkerLink) (f : FlowText). KeepsWord edge h.handed l f.1 by_link.times promise.0) same_link same_flow
       (by_link.word none_full promise.0 promise.1)
+
+  -- so the times of its frames are known, and its deadline there
+  abbrev pub times : AccessTimes
+  times = keeps.taken
+
+  left : flow.0.1 ≡ option_map (left_after times) one.flow.0.1
+  left =
+      subst (λ (f : FlowText). f.0.1 ≡ left_by by_link.times one.flow.0.1) same_flow by_link.left
+      ∙ ap (λ (o : Option AccessTimes). left_by o one.flow.0.1) keeps.are_taken
 
   is_bound : IsBound link (promises_of h.streams) keeps.bound
   is_bound = subst (λ (ps : List Traffic). IsBound link ps keeps.bound) (sym h.uses.promises) keeps.is_bound
@@ -156,19 +158,19 @@ module _ (waits : FramesAreWholeWithin) (closer : EdgeConformsCloser) (come : St
   same_crossing = same_Some h.offered.arrives.crossing x (sym h.offered.arrives.there ∙ h.offered.crossing)
 
   is_crossing : Contains h.s.crossings x
-  is_crossing = contains_at h.s.crossings h.place x h.offered.crossing
+  is_crossing = contains_at h.s.crossings h.index x h.offered.crossing
 
   not_longer : x.frame.octets ≤ h.s.promise.size
   not_longer =
       All-contains (λ (y : Offer). y.octets ≤ h.s.promise.size) (handed_over h.s) x.frame (h.uses.sent.kept h.s h.over.is_stream).sizes
       (contains_map (λ (y : Crossing). y.frame) h.s.crossings x is_crossing)
 
-  in_time : (size wait most at : ℕ) → size ≡ h.s.promise.size → most ≡ way_of link h.link.delay size + wait →
-      at ≤ x.frame.at.0 + way_of link h.link.delay x.frame.octets + wait → o.offer.at.0 ≤ at + 0 → o.offer.at.0 ≤ x.frame.at.0 + most
+  in_time : (size wait most at : ℕ) → size ≡ h.s.promise.size → most ≡ travel_time link h.link.delay size + wait →
+      at ≤ x.frame.at.0 + travel_time link h.link.delay x.frame.octets + wait → o.offer.at.0 ≤ at + 0 → o.offer.at.0 ≤ x.frame.at.0 + most
   in_time size wait most at same is late clock =
       let short : x.frame.octets ≤ size = subst (λ (n : ℕ). x.frame.octets ≤ n) (sym same) not_longer in
-      let way = longer_way link h.link.delay x.frame.octets size short in
-      no_later (way_of link h.link.delay x.frame.octets) (way_of link h.link.delay size) way is late clock
+      let path = longer_travel link h.link.delay x.frame.octets size short in
+      no_later (travel_time link h.link.delay x.frame.octets) (travel_time link h.link.delay size) path is late clock
     where
       no_later : (own longest : ℕ) → own ≤ longest → most ≡ longest + wait → at ≤ x.frame.at.0 + own + wait → o.offer.at.0 ≤ at + 0 →
           o.offer.at.0 ≤ x.frame.at.0 + most
@@ -177,12 +179,12 @@ module _ (waits : FramesAreWholeWithin) (closer : EdgeConformsCloser) (come : St
   pub comes_by : o.offer.at.0 ≤ x.frame.at.0 + times.most
   comes_by =
       let a = h.offered.arrives in
-      let within = subst (λ (c : Crossing). a.at ≤ c.frame.at.0 + way_of link h.link.delay c.frame.octets + (keeps.bound - taken_of link h.s.promise.size))
+      let within = subst (λ (c : Crossing). a.at ≤ c.frame.at.0 + travel_time link h.link.delay c.frame.octets + (keeps.bound - taken_of link h.s.promise.size))
       same_crossing
       (waits link h.streams h.others delays keeps.bound h.s a.crossing a.at h.uses.sent is_bound h.over.is_stream
-      (contains_at h.s.crossings h.place a.crossing a.there) a.whole).most in
+      (contains_at h.s.crossings h.index a.crossing a.there) a.whole).most in
       in_time promise.0.size (keeps.bound - taken_of link promise.0.size) times.most a.at size keeps.most
-      (subst (λ (n : ℕ). a.at ≤ x.frame.at.0 + way_of link h.link.delay x.frame.octets + (keeps.bound - taken_of link n)) (sym size) within)
+      (subst (λ (n : ℕ). a.at ≤ x.frame.at.0 + travel_time link h.link.delay x.frame.octets + (keeps.bound - taken_of link n)) (sym size) within)
       a.clocks.no_sooner
     where
       size : promise.0.size ≡ h.s.promise.size

@@ -6,7 +6,7 @@ use Rattle.std.specs.Option.{ForSome}
 use Rattle.std.proofs.lemmas.List.Elements.{All-contains}
 use Rattle.std.proofs.lemmas.Option.{get_or_from_slice_get, slice_get-map}
 use Rattle.cqf_lists.specs.Lists.{each_below}
-use Rattle.cqf_lists.proofs.Members.{contains_filter, contains_flat, contains_map, find_member, place_of_member}
+use Rattle.cqf_lists.proofs.Members.{contains_filter, contains_flat, contains_map, find_member, index_of_member}
 use Rattle.cqf_lists.proofs.Pairs.{one_of_pairs}
 use Rattle.cqf_model.specs.declared.frames.Background.{Background}
 use Rattle.cqf_model.specs.declared.frames.Offer.{Offer}
@@ -18,7 +18,7 @@ use Rattle.cqf_model.specs.declared.topology.Row.{Row}
 use Rattle.cqf_model.specs.Domain.{Domain, end_of, is_text}
 use Rattle.cqf_model.specs.History.{Asked, Recorded, held_in, most_beside, pace_of, tables_of}
 use Rattle.cqf_model.specs.Limits.{most_every}
-use Rattle.cqf_model.specs.Paces.{is_turn}
+use Rattle.cqf_model.specs.Paces.{is_active}
 use Rattle.cqf_model.specs.HistoryBook.{run_of_history}
 use Rattle.cqf_model.specs.Run.{Run}
 use Rattle.cqf_model.specs.Shift.{offer_cycle}
@@ -28,7 +28,7 @@ use Rattle.cqf_laws_timing.specs.Latency.{least_of, most_of}
 use Rattle.cqf_laws_timing.specs.Streams.{AdmitsOnly, AdmittedHaveNames, AreGranted, IsOfList, ListCostsItsTable, RowsAreOfList, most_beside_all}
 use Rattle.cqf_laws_timing.specs.Verdicts.{InTime, Late, MayBeLate, Sure, sure_of, sure_on}
 use Rattle.cqf_laws_timing.specs.Traffic.{needed}
-use Rattle.cqf_laws_timing.specs.Told.{planned_rows}
+use Rattle.cqf_laws_timing.specs.Reported.{planned_rows}
 use Rattle.cqf_traffic.specs.FlowsText.{FlowText}
 use Rattle.cqf_traffic.specs.TrafficText.{TrafficText, promise_of}
 use Rattle.cqf_program_plans.specs.declared.latency.latencies.Latency.{Latency}
@@ -55,8 +55,8 @@ keeps_deadline latency most e is =
 
 -- the plan's deadline of a stream holds at the last link of each branch
 module _ (costs : ListCostsItsTable) (d : Domain) (flows : List FlowText) (plan : IsKeptPlan d flows) (granted : AreGranted d [] (map asked_in flows))
-    (place : ℕ) (flow : FlowText) (there : slice_get flows place ≡ Some flow)
-    (has : HasItsRow d (planned_rows d (map asked_in flows)) place (asked_in flow)) where
+    (index : ℕ) (flow : FlowText) (there : slice_get flows index ≡ Some flow)
+    (has : HasItsRow d (planned_rows d (map asked_in flows)) index (asked_in flow)) where
   abbrev streams : List Asked
   streams = map asked_in flows
 
@@ -77,8 +77,8 @@ module _ (costs : ListCostsItsTable) (d : Domain) (flows : List FlowText) (plan 
   is_deadline : (most : ℕ) → flow.0.1 ≡ Some most → deadline_of deadlines has.row.no ≡ Some most
   is_deadline most deadline =
       ap (deadline_of deadlines) has.is_number
-      ∙ get_or_from_slice_get deadlines place (Some most) None
-      (slice_get-map (λ (f : FlowText). f.0.1) flows place ∙ ap (λ (o : Option FlowText). option_map (λ (f : FlowText). f.0.1) o) there ∙ ap Some deadline)
+      ∙ get_or_from_slice_get deadlines index (Some most) None
+      (slice_get-map (λ (f : FlowText). f.0.1) flows index ∙ ap (λ (o : Option FlowText). option_map (λ (f : FlowText). f.0.1) o) there ∙ ap Some deadline)
 
   -- the most that the rows cost of a link in the stream's own cycles is the most that the list costs
   same_most : (link : ℕ) → most_beside rows has.row.tree.items has.row.pace link ≡ most_beside_all d streams (asked_in flow) link
@@ -93,11 +93,11 @@ module _ (costs : ListCostsItsTable) (d : Domain) (flows : List FlowText) (plan 
       let at_station : is_station (end_of d at.hop.link) ≡ true = ap (λ (l : ℕ). is_station (end_of d l)) at.is_link ∙ ap is_station ends in
       let among = contains_filter (λ (hop : Hop). is_station (end_of d hop.link)) row.tree.items at.hop at.of_tree at_station in
       let of_row = contains_map to_hop (listeners_of d row) at.hop among in
-      let told = contains_flat (λ (r : Row). latencies_of_row d rows r (deadline_of deadlines r.no)) rows row (to_hop at.hop) has.among of_row in
-      let kept = All-contains (λ (latency : Latency). is_not_sure latency ≡ false) (latencies_of d rows deadlines) (to_hop at.hop) all_sure told in
+      let reported = contains_flat (λ (r : Row). latencies_of_row d rows r (deadline_of deadlines r.no)) rows row (to_hop at.hop) has.among of_row in
+      let kept = All-contains (λ (latency : Latency). is_not_sure latency ≡ false) (latencies_of d rows deadlines) (to_hop at.hop) all_sure reported in
       let sure = keeps_deadline (to_hop at.hop) most kept (is_deadline most deadline) in
       subst (λ (cost : ℕ). sure_of (least_of d link bridges) (most_of d link bridges cost) most ≡ InTime) (same_most link)
-      (subst₂ (λ (l k : ℕ). sure_of (least_of d l k) (most_of d l k (most_beside rows row.tree.items row.pace l)) most ≡ InTime) at.is_link at.is_depth sure)
+      (subst₂ (λ (l k : ℕ). sure_of (least_of d l k) (most_of d l k (most_beside rows row.tree.items row.pace l)) most ≡ InTime) at.is_link at.is_hop_number sure)
 
 -- ---- the row of a stream in a run
 
@@ -115,13 +115,13 @@ module _ (held : GrantedIsHeld) (goes_on : HistoryGoesOn) (counted : SealsAreCou
 
   module _ (flow : FlowText) (t : TrafficText) (x : Offered) (row : Row) (promised : IsPromised run flows flow t x row) where
     -- the stream's row in the plan
-    pub its_place : (place : ℕ) × (slice_get flows place ≡ Some flow)
-    its_place = place_of_member flows flow promised.listed
+    pub its_index : (index : ℕ) × (slice_get flows index ≡ Some flow)
+    its_index = index_of_member flows flow promised.listed
 
-    pub its_row : HasItsRow d (planned_rows d all) its_place.0 (asked_in flow)
+    pub its_row : HasItsRow d (planned_rows d all) its_index.0 (asked_in flow)
     its_row =
-        plan_has_row held goes_on counted room d all all_are_granted its_place.0 (asked_in flow)
-        (slice_get-map asked_in flows its_place.0 ∙ ap (λ (o : Option FlowText). option_map asked_in o) its_place.1)
+        plan_has_row held goes_on counted room d all all_are_granted its_index.0 (asked_in flow)
+        (slice_get-map asked_in flows its_index.0 ∙ ap (λ (o : Option FlowText). option_map asked_in o) its_index.1)
 
     -- the row in the run's table has the offer's name, and is of the stream
     pub named_row : Contains (table_of (tables_of d entries cycles) (offer_cycle d x)) row × (is_text row.name x.offer.stream ≡ true)
@@ -133,14 +133,14 @@ module _ (held : GrantedIsHeld) (goes_on : HistoryGoesOn) (counted : SealsAreCou
         one_of_pairs (λ (a b : Asked). a.name ≢ b.name) all of.asked (asked_in flow) (names d all all_are_granted) of.listed
         (contains_map asked_in flows flow promised.listed) (λ differ. differ alike) (λ differ. differ (sym alike))
 
-    pub enough : needed d.cycle_time (promise_of t) ≤ reserved_in row 0 (offer_cycle d x)
+    pub enough : needed d.overhead d.cycle_time (promise_of t) ≤ reserved_in row 0 (offer_cycle d x)
     enough =
         let of = of_list d entries all cycles (offer_cycle d x) row only named_row.0 in
         let octets : row.octets ≡ flow.0.0.octets = of.octets ∙ ap (λ (a : Asked). a.octets) (one_asked of) in
-        let turn : is_turn row.pace 0 (offer_cycle d x) ≡ true =
-        ap (λ (p : Pace). is_turn p 0 (offer_cycle d x)) (of.pace ∙ ap pace_of (one_asked of)) ∙ promised.in_turn in
-        let same : reserved_in row 0 (offer_cycle d x) ≡ flow.0.0.octets = ap (λ (b : Bool). if b then row.octets else 0) turn ∙ octets in
-        let needs : needed d.cycle_time (promise_of t) ≤ flow.0.0.octets =
-        All-contains (λ (f : FlowText). ForSome f.1 (λ (u : TrafficText). needed d.cycle_time (promise_of u) ≤ f.0.0.octets)) flows flow plan.enough
+        let active_cycle : is_active row.pace 0 (offer_cycle d x) ≡ true =
+        ap (λ (p : Pace). is_active p 0 (offer_cycle d x)) (of.pace ∙ ap pace_of (one_asked of)) ∙ promised.in_turn in
+        let same : reserved_in row 0 (offer_cycle d x) ≡ flow.0.0.octets = ap (λ (b : Bool). if b then row.octets else 0) active_cycle ∙ octets in
+        let needs : needed d.overhead d.cycle_time (promise_of t) ≤ flow.0.0.octets =
+        All-contains (λ (f : FlowText). ForSome f.1 (λ (u : TrafficText). needed d.overhead d.cycle_time (promise_of u) ≤ f.0.0.octets)) flows flow plan.enough
         promised.listed t promised.has in
-        subst (λ (octets : ℕ). needed d.cycle_time (promise_of t) ≤ octets) (sym same) needs
+        subst (λ (octets : ℕ). needed d.overhead d.cycle_time (promise_of t) ≤ octets) (sym same) needs

@@ -26,12 +26,12 @@ use Rattle.cqf_laws_shift.proofs.Came.{one_number}
 use Rattle.cqf_laws_timing.specs.Latency.{whole_of}
 use Rattle.cqf_laws_timing.specs.Streams.{AdmitsOnly, AdmittedHaveNames, AreGranted, with_all}
 use Rattle.cqf_laws_timing.specs.Verdicts.{InTime, IsAsSaid, Late, MayBeLate, Sure, sure_of}
-use Rattle.cqf_laws_timing.specs.Told.{IsAsToldAt, NamesTellStreams, RowsArePlanned, ToldHolds, planned_rows, told_cost}
+use Rattle.cqf_laws_timing.specs.Reported.{IsAsReportedAt, NamesIdentifyStreams, ReportedBoundsHold, RowsArePlanned, planned_rows, reported_cost}
 use Rattle.cqf_topology.specs.DomainText.{IsDomain}
 use Rattle.cqf_topology.specs.PlannedText.{PlannedText}
 use Rattle.cqf_program_scenario.specs.Calls.{history_of}
 use Rattle.cqf_program_plans.specs.declared.latency.latencies.Latency.{Latency}
-use Rattle.cqf_program_plans.specs.declared.latency.latencies.Verdict.TheVariants as told
+use Rattle.cqf_program_plans.specs.declared.latency.latencies.Verdict.TheVariants as reported
 use Rattle.cqf_program_plans.specs.Compile.Output.{admitted_from, stream_line, with_asked}
 use Rattle.cqf_program_plans.specs.EndNames.{name_of_end}
 use Rattle.cqf_program_plans.specs.Latency.Input.{asked_in, deadlines_in}
@@ -48,17 +48,17 @@ use Rattle.cqf_program_runs.specs.Deliveries.{latency_of, whole_instant}
 use Rattle.cqf_program_runs.proofs.Arrived.{at_start, come_by}
 use Rattle.cqf_program_runs.proofs.Listeners.{one_listener}
 use Rattle.cqf_program_laws.specs.ScriptLaws.{AccountsAdmitOnly, HistoriesAdmitOnly, HistoriesAreLegal, PlannedScenariosAskOnly}
-use Rattle.cqf_program_laws.specs.VerdictLaws.{IsAsJudged, VerdictsHoldOfAccounts, VerdictsHoldOfDeliveries, VerdictsHoldOfScripts, latencies_told}
+use Rattle.cqf_program_laws.specs.VerdictLaws.{IsAsJudged, VerdictsHoldOfAccounts, VerdictsHoldOfDeliveries, VerdictsHoldOfScripts, printed_latencies}
 use Rattle.cqf_program_laws.proofs.Deadlines.{deadline_is}
 
 -- ---- verdicts by numbers
 
-pub said_in_time : (sure : Sure) → said_of_latency sure ≡ told.InTime → sure ≡ InTime
+pub said_in_time : (sure : Sure) → said_of_latency sure ≡ reported.InTime → sure ≡ InTime
 said_in_time InTime e = refl
 said_in_time Late e = absurd (cc)
 said_in_time MayBeLate e = absurd (cc)
 
-pub said_late : (sure : Sure) → said_of_latency sure ≡ told.Late → sure ≡ Late
+pub said_late : (sure : Sure) → said_of_latency sure ≡ reported.Late → sure ≡ Late
 said_late InTime e = absurd (cc)
 said_late Late e = refl
 said_late MayBeLate e = absurd (cc)
@@ -89,20 +89,20 @@ within_by latency from at whole other same is least most =
 
 in_time_by : (at least most : ℕ) (whole : Nanos) (deadline : Option ℕ) →
     ((end : ℕ) → IsAsSaid at whole.0 end (sure_of least most end)) →
-    option_map (λ (end : ℕ). said_of_latency (sure_of least most end)) deadline ≡ Some told.InTime →
+    option_map (λ (end : ℕ). said_of_latency (sure_of least most end)) deadline ≡ Some reported.InTime →
     arrival_at_listener at whole deadline ≡ fate.Late → ⊥
 in_time_by at least most whole None said verdict late = absurd (cc)
 in_time_by at least most whole (Some end) said verdict late =
-    let sure = said_in_time (sure_of least most end) (same_Some (said_of_latency (sure_of least most end)) told.InTime verdict) in
+    let sure = said_in_time (sure_of least most end) (same_Some (said_of_latency (sure_of least most end)) reported.InTime verdict) in
     not_late at whole end ((said end).in_time sure) (nat_lt end (whole.0 - at)) refl late
 
 late_by : (at least most : ℕ) (whole : Nanos) (deadline : Option ℕ) →
     ((end : ℕ) → IsAsSaid at whole.0 end (sure_of least most end)) →
-    option_map (λ (end : ℕ). said_of_latency (sure_of least most end)) deadline ≡ Some told.Late →
+    option_map (λ (end : ℕ). said_of_latency (sure_of least most end)) deadline ≡ Some reported.Late →
     arrival_at_listener at whole deadline ≡ fate.Late
 late_by at least most whole None said verdict = absurd (cc)
 late_by at least most whole (Some end) said verdict =
-    let sure = said_late (sure_of least most end) (same_Some (said_of_latency (sure_of least most end)) told.Late verdict) in
+    let sure = said_late (sure_of least most end) (same_Some (said_of_latency (sure_of least most end)) reported.Late verdict) in
     let over = (said end).late sure in
     ap (λ (b : Bool). if b then fate.Late else fate.Delivered) (lt-ltb end (whole.0 - at) (omega (arith, over)))
 
@@ -127,13 +127,13 @@ judged_by latency delivery bounds = record {
 -- ---- plans
 
 -- if all streams are admitted, they are granted, and the history is that of all
-pub all_granted : (d : Domain) (entries all : List Recorded) (place : ℕ) (streams : List Asked) → admitted_from d entries place streams ≡ Ok all →
+pub all_granted : (d : Domain) (entries all : List Recorded) (index : ℕ) (streams : List Asked) → admitted_from d entries index streams ≡ Ok all →
     AreGranted d entries streams × (all ≡ with_all d entries streams)
-all_granted d entries all place [] h = (tt, sym (same_ok entries all h))
-all_granted d entries all place (asked ∷ more) h =
-    let parts = refuse_ok (refusal_of d (held_in d entries (seals entries)) asked) (stream_line place)
-    (admitted_from d (with_asked d entries asked) (place + 1) more) all h in
-    let rest = all_granted d (with_asked d entries asked) all (place + 1) more parts.1 in
+all_granted d entries all index [] h = (tt, sym (same_ok entries all h))
+all_granted d entries all index (asked ∷ more) h =
+    let parts = refuse_ok (refusal_of d (held_in d entries (seals entries)) asked) (stream_line index)
+    (admitted_from d (with_asked d entries asked) (index + 1) more) all h in
+    let rest = all_granted d (with_asked d entries asked) all (index + 1) more parts.1 in
     ((parts.0, rest.0), rest.1)
 
 -- ---- deliveries
@@ -142,10 +142,10 @@ all_granted d entries all place (asked ∷ more) h =
 one_journey : (a b : Journey) → passage.Goes a ≡ passage.Goes b → a ≡ b
 one_journey a b e = cc
 
-module _ (planned : RowsArePlanned) (names : NamesTellStreams) (holds : ToldHolds) (apart : AdmittedHaveNames) (orderly : TablesAreOrderly)
+module _ (planned : RowsArePlanned) (names : NamesIdentifyStreams) (holds : ReportedBoundsHold) (apart : AdmittedHaveNames) (orderly : TablesAreOrderly)
     (d : Domain) (streams : List PlannedText) (entries : List Recorded) (offers : List Offer) (background : List Background) (cycles : ℕ)
     (book : Contents) (domain : IsDomain d) (granted : AreGranted d [] (asked_in streams)) (legal : IsLegalHistory d entries)
-    (only : AdmitsOnly (asked_in streams) entries) (offered : AreOffers d offers) (behind : AreBackground d background)
+    (only : AdmitsOnly (asked_in streams) entries) (offered : AreOffers d offers) (following : AreBackground d background)
     (is : IsBookOfHistory d entries offers background cycles book) where
   abbrev run : Run
   run = run_of_history d entries offers background cycles
@@ -176,15 +176,15 @@ module _ (planned : RowsArePlanned) (names : NamesTellStreams) (holds : ToldHold
         (subst (λ (items : List Hop). Contains items hop) same.tree other.0) (λ differ. differ ends) (λ differ. differ (sym ends))
 
     -- so the start there is as `latency` says of the hop
-    as_told : IsAsToldAt d (asked_in streams) row hop a.x.offer.at.0 (whole_of d a.start)
-    as_told =
+    as_written : IsAsReportedAt d (asked_in streams) row hop a.x.offer.at.0 (whole_of d a.start)
+    as_written =
         let at = at_start book.starts a.x.frame a.hop.link a.start a.starts in
         let shift : InShift run (length run.tables) a.start.frame a.start.link a.start.cycle.0 =
         subst₂ (λ (frame link : ℕ). InShift run (length run.tables) frame link a.start.cycle.0) (sym at.1) (sym at.2) a.in_shift in
         let one : shift.x ≡ a.x = one_number offers shift.x a.x shift.covered.offered a.covered.offered (sym shift.is_frame ∙ at.1) in
         let other = contains_from_filter (λ (h : Hop). is_station (end_of d h.link)) row.tree.items hop among in
-        subst (λ (x : Offered). IsAsToldAt d (asked_in streams) row hop x.offer.at.0 (whole_of d a.start)) one
-        (holds d (asked_in streams) entries offers background cycles book row hop domain.accepted granted legal only offered behind is c other.0 a.start at.0
+        subst (λ (x : Offered). IsAsReportedAt d (asked_in streams) row hop x.offer.at.0 (whole_of d a.start)) one
+        (holds d (asked_in streams) entries offers background cycles book row hop domain.accepted granted legal only offered following is c other.0 a.start at.0
         (at.2 ∙ ap (λ (h : Hop). h.link) one_hop) shift (ap (λ (x : Offered). x.offer.stream) one ∙ stream))
 
     -- and the deadline is the row's
@@ -193,7 +193,7 @@ module _ (planned : RowsArePlanned) (names : NamesTellStreams) (holds : ToldHold
         let p = planned d (asked_in streams) row granted c in
         deadline_is streams row.no p.asked a.x.offer.stream (apart d (asked_in streams) granted) p.stands (stream ∙ p.name)
 
-    has_bounds : HasBounds (latency_to d (told_cost d (asked_in streams) row hop.link) row (deadline_of (deadlines_in streams) row.no) hop) delivery
+    has_bounds : HasBounds (latency_to d (reported_cost d (asked_in streams) row hop.link) row (deadline_of (deadlines_in streams) row.no) hop) delivery
     has_bounds = record {
       at = a.x.offer.at.0;
       whole = whole_instant d a.start;
@@ -201,28 +201,28 @@ module _ (planned : RowsArePlanned) (names : NamesTellStreams) (holds : ToldHold
       whole_is = λ journey goes.
           ap (λ (j : Journey). j.whole) (sym (one_journey _ journey (sym (ap (λ (z : Delivery). z.passage) a.is) ∙ goes)));
       fate_is = ap fate_of a.is ∙ ap (arrival_at_listener a.x.offer.at.0 (whole_instant d a.start)) same_deadline;
-      least = as_told.timely.least;
-      most = as_told.timely.most;
-      said = as_told.verdict;
+      least = as_written.timely.least;
+      most = as_written.timely.most;
+      said = as_written.verdict;
     }
 
 -- in each history that admits streams of the plan alone
-pub verdicts_hold_of_deliveries : RowsArePlanned → NamesTellStreams → ToldHolds → AdmittedHaveNames → TablesAreOrderly → BookOfHistorySaysTheShift →
+pub verdicts_hold_of_deliveries : RowsArePlanned → NamesIdentifyStreams → ReportedBoundsHold → AdmittedHaveNames → TablesAreOrderly → BookOfHistorySaysTheShift →
     ArrivalsAreTheShift → VerdictsHoldOfDeliveries
 verdicts_hold_of_deliveries planned names holds apart orderly says arrivals d streams plan entries offers background cycles book domain admitted legal only
-    offered behind is latency delivery listed among to =
+    offered following is latency delivery listed among to =
     let g = all_granted d [] plan 1 (asked_in streams) admitted in
     let rows = planned_rows d (asked_in streams) in
     let deadlines = deadlines_in streams in
     let run = run_of_history d entries offers background cycles in
-    let told_of : Contains (latencies_told d (with_all d [] (asked_in streams)) streams) latency =
-    subst (λ (p : List Recorded). Contains (latencies_told d p streams) latency) g.1 listed in
-    let r = contains_from_flat (λ (row : Row). latencies_of_row d rows row (deadline_of deadlines row.no)) rows latency told_of in
+    let written_of : Contains (printed_latencies d (with_all d [] (asked_in streams)) streams) latency =
+    subst (λ (p : List Recorded). Contains (printed_latencies d p streams) latency) g.1 listed in
+    let r = contains_from_flat (λ (row : Row). latencies_of_row d rows row (deadline_of deadlines row.no)) rows latency written_of in
     let row : Row = r.0 in
     let to_hop : Hop → Latency = λ hop. latency_to d (most_beside rows row.tree.items row.pace hop.link) row (deadline_of deadlines row.no) hop in
     let h = contains_from_map to_hop (listeners_of d row) latency r.2 in
     let shift = arrivals run streams book
-    (says d entries offers background cycles book domain.accepted legal offered behind is).says in
+    (says d entries offers background cycles book domain.accepted legal offered following is).says in
     judged_by latency delivery (λ come.
     let a = shift.only delivery among come in
     let stream : a.x.offer.stream ≡ row.name =
@@ -231,7 +231,7 @@ verdicts_hold_of_deliveries planned names holds apart orderly says arrivals d st
     let listener : name_of_end d a.hop.link ≡ name_of_end d h.0.link =
     ap (λ (j : Journey). j.listener) journey ∙ to.listener ∙ sym (ap (λ (z : Latency). z.listener) h.2) in
     subst (λ (z : Latency). HasBounds z delivery) h.2
-    (has_bounds planned names holds apart orderly d streams entries offers background cycles book domain g.0 legal only offered behind is row h.0 r.1 h.1
+    (has_bounds planned names holds apart orderly d streams entries offers background cycles book domain g.0 legal only offered following is row h.0 r.1 h.1
     delivery a stream listener))
 
 -- so in a script

@@ -22,21 +22,21 @@ use Rattle.cqf_network.specs.declared.domain.TalkerLink.{TalkerLink}
 use Rattle.cqf_network.specs.NetworkFlows.{NetworkFlowText}
 use Rattle.cqf_network.specs.NetworkDomain.{IsNetwork, IsTalkerLink, NetworkDomain}
 use Rattle.cqf_access.specs.Access.{AccessLink}
-use Rattle.cqf_access.specs.Arriving.{way_of}
+use Rattle.cqf_access.specs.Arriving.{travel_time}
 use Rattle.cqf_access.specs.Bounding.{link_of}
 use Rattle.cqf_edge.specs.declared.edge.AccessTimes.{AccessTimes}
 use Rattle.cqf_edge.specs.declared.uses.Handed.{Handed}
-use Rattle.cqf_edge.specs.Edge.{left_behind, times_on}
-use Rattle.cqf_edge.specs.EdgeFlows.{EdgeFlowsText, edge_flows, edges_with, flow_behind, flows_behind, handed_of_all, passage_of}
+use Rattle.cqf_edge.specs.Edge.{left_after, left_by, times_by, times_on}
+use Rattle.cqf_edge.specs.EdgeFlows.{EdgeFlowsText, edge_flows, edges_with, flow_at_edge, flows_at_edge, handed_of_all, passage_of}
 use Rattle.cqf_edge.specs.EdgeLaws.{StreamsComeByLinks}
 use Rattle.cqf_edge.specs.Entrances.{link_at}
 use Rattle.cqf_edge.specs.Uses.{bounds_of}
 use Rattle.cqf_program_scenario.specs.Networks.{network_of_part}
 use Rattle.cqf_program_plans.specs.declared.latency.latencies.Latency.{Latency}
-use Rattle.cqf_program_plans.specs.declared.latency.latencies.Verdict.TheVariants as told
+use Rattle.cqf_program_plans.specs.declared.latency.latencies.Verdict.TheVariants as reported
 use Rattle.cqf_program_plans.specs.Edges.{edges_by_access, edges_without, has_access, open_edges_of_part}
 use Rattle.cqf_program_plans.specs.Latency.Input.{deadlines_in}
-use Rattle.cqf_program_plans.specs.Latency.Text.{deadline_of, is_station, latencies_of, latencies_of_row, latency_behind, latency_to, listeners_of, said_of_latency}
+use Rattle.cqf_program_plans.specs.Latency.Text.{deadline_of, is_station, latencies_of, latencies_of_row, latency_from_talker, latency_to, listeners_of, said_of_latency}
 use Rattle.cqf_program_plans.specs.Latency.Text.{times_of}
 use Rattle.cqf_program_plans.proofs.CompileLemmas.{same_ok}
 use Rattle.cqf_program_runs.specs.declared.deliveries.delivery.Delivery.{Delivery}
@@ -54,11 +54,6 @@ use Rattle.cqf_program_laws.proofs.Readers.{handed_each, open_by_access, open_ed
 use Rattle.cqf_program_laws.proofs.Scripts.{stepped}
 
 -- ---- deadlines and times, by the numbers of streams
-
--- what is left of a deadline at the edge bridge
-abbrev left_by : Option AccessTimes → Option ℕ → Option ℕ
-left_by None written = written
-left_by (Some times) written = option_map (left_behind times) written
 
 abbrev pub edge_deadlines : List FlowText → List (Option ℕ)
 edge_deadlines flows = deadlines_in (map (λ (flow : FlowText). flow.0) flows)
@@ -82,51 +77,57 @@ no_times (flow ∷ flows) (suc n) times is = no_times flows n times is
 
 -- where some are
 each_left : (network : NetworkDomain) (whole handed : List (Option Handed)) (all : List NetworkFlowText) (n : ℕ) → length handed ≡ length all →
-    deadline_of (edge_deadlines (flows_behind (map (passage_of network (bounds_of network whole)) handed) all)) n
-    ≡ left_by (times_of (map (option_map times_on) (map (passage_of network (bounds_of network whole)) handed)) n)
+    deadline_of (edge_deadlines (flows_at_edge (map (passage_of network (bounds_of network whole)) handed) all)) n
+    ≡ left_by (times_of (map (option_and_then times_by) (map (passage_of network (bounds_of network whole)) handed)) n)
     (deadline_of (map (λ (found : NetworkFlowText). found.flow.0.1) all) n)
 each_left network whole [] [] n same = refl
 each_left network whole [] (one ∷ all) n same = absurd (omega (arith, same))
 each_left network whole (h ∷ handed) [] n same = absurd (omega (arith, same))
 each_left network whole (h ∷ handed) (one ∷ all) zero same =
-    optional (λ p. (flow_behind p one.flow).0.1 ≡ left_by (option_map times_on p) one.flow.0.1) (passage_of network (bounds_of network whole) h) refl
+    optional (λ p. (flow_at_edge p one.flow).0.1 ≡ left_by (option_and_then times_by p) one.flow.0.1) (passage_of network (bounds_of network whole) h) refl
     (λ p. refl)
 each_left network whole (h ∷ handed) (one ∷ all) (suc n) same = each_left network whole handed all n (omega (arith, same))
 
 -- times are of a link of the network, and of what is handed over
 times_at : (network : NetworkDomain) (whole handed : List (Option Handed)) (n : ℕ) (times : AccessTimes) →
-    times_of (map (option_map times_on) (map (passage_of network (bounds_of network whole)) handed)) n ≡ Some times →
-    (one : Option Handed) × (slice_get handed n ≡ Some one) × (option_map times_on (passage_of network (bounds_of network whole) one) ≡ Some times)
+    times_of (map (option_and_then times_by) (map (passage_of network (bounds_of network whole)) handed)) n ≡ Some times →
+    (one : Option Handed) × (slice_get handed n ≡ Some one) × (option_and_then times_by (passage_of network (bounds_of network whole) one) ≡ Some times)
 times_at network whole [] n times is = absurd (cc)
 times_at network whole (h ∷ handed) zero times is = (h, refl, is)
 times_at network whole (h ∷ handed) (suc n) times is = times_at network whole handed n times is
 
 -- what is made of two values that are there
-made_of_two : {A B C D : Type 0} (make : A → B → C) (f : C → D) (b : Option B) (a : Option A) (d : D) →
-    option_map f (option_and_then (λ (x : A). option_map (make x) b) a) ≡ Some d → (x : A) × (y : B) × (a ≡ Some x) × (f (make x y) ≡ d)
+made_of_two : {A B C D : Type 0} (make : A → B → C) (f : C → Option D) (b : Option B) (a : Option A) (d : D) →
+    option_and_then f (option_and_then (λ (x : A). option_map (make x) b) a) ≡ Some d → (x : A) × (y : B) × (a ≡ Some x) × (f (make x y) ≡ Some d)
 made_of_two make f b None d h = absurd (cc)
 made_of_two make f None (Some x) d h = absurd (cc)
-made_of_two make f (Some y) (Some x) d h = (x, y, refl, same_Some (f (make x y)) d h)
+made_of_two make f (Some y) (Some x) d h = (x, y, refl, h)
+
+-- and of one
+made_of_one : {A D : Type 0} (f : A → D) (a : Option A) (d : D) → option_map f a ≡ Some d → (x : A) × (a ≡ Some x) × (f x ≡ d)
+made_of_one f None d h = absurd (cc)
+made_of_one f (Some x) d h = (x, refl, same_Some (f x) d h)
 
 -- a frame with no more octets is on its way no longer, with no more delay
-faster : (link : AccessLink) (delay other octets more : ℕ) → delay ≤ other → octets ≤ more → way_of link delay octets ≤ way_of link other more
+faster : (link : AccessLink) (delay other octets more : ℕ) → delay ≤ other → octets ≤ more → travel_time link delay octets ≤ travel_time link other more
 faster link delay other octets more less fewer = omega (arith, time_grows (octets + 8) (more + 8) link.octet_time (omega (arith, fewer)), less)
 
-no_less : (least way wait : ℕ) → least ≤ way → least ≤ way + wait
-no_less least way wait less = omega (arith, less)
+no_less : (least path wait : ℕ) → least ≤ path → least ≤ path + wait
+no_less least path wait less = omega (arith, less)
 
 -- so they are in order, if its delays and its sizes are
 one_ordered : (network : NetworkDomain) (whole : List (Option Handed)) (handed : Option Handed) (times : AccessTimes) →
-    option_map times_on (passage_of network (bounds_of network whole) handed) ≡ Some times →
-    ((h : Handed) (link : TalkerLink) → handed ≡ Some h → link_at network h.place ≡ Some link → (link.least ≤ link.delay) × (h.shortest ≤ h.octets)) →
+    option_and_then times_by (passage_of network (bounds_of network whole) handed) ≡ Some times →
+    ((h : Handed) (link : TalkerLink) → handed ≡ Some h → link_at network h.index ≡ Some link → (link.least ≤ link.delay) × (h.shortest ≤ h.octets)) →
     times.least ≤ times.most
 one_ordered network whole None times is ordered = absurd (cc)
 one_ordered network whole (Some h) times is ordered =
-    let two = made_of_two _ times_on (slice_get (bounds_of network whole) h.place) (link_at network h.place) times is in
+    let two = made_of_two _ times_by (slice_get (bounds_of network whole) h.index) (link_at network h.index) times is in
     let link : TalkerLink = two.0 in
     let are = ordered h link refl two.2 in
-    subst (λ (t : AccessTimes). t.least ≤ t.most) two.3
-    (no_less (way_of (link_of link.rate None) link.least h.shortest) (way_of (link_of link.rate None) link.delay h.octets) _
+    let known = made_of_one (times_on (record { link = link; handed = h; bound = two.1 })) h.traffic times two.3 in
+    subst (λ (t : AccessTimes). t.least ≤ t.most) known.2
+    (no_less (travel_time (link_of link.rate None) link.least h.shortest) (travel_time (link_of link.rate None) link.delay h.octets) _
     (faster (link_of link.rate None) link.least link.delay h.shortest h.octets are.0 are.1))
 
 there_is : {X : Type 0} (xs : List X) (k : ℕ) → k < length xs → (x : X) × (slice_get xs k ≡ Some x)
@@ -150,7 +151,7 @@ left_with come network found edge is_network h =
           let one = there_is found n (omega (arith, slice_get_within e.0 n (Some handed) hands, many)) in
           let by_link = come network found edge n one.0 handed h one.1 (ap (λ (x : EdgeFlowsText). slice_get x.handed n) (sym same) ∙ hands) in
           let good = All-contains (IsTalkerLink network) network.talkers link is_network.has_talkers.each_there
-          (contains_at network.talkers handed.place link is_link) in
+          (contains_at network.talkers handed.index link is_link) in
           (good.ordered, by_link.sizes));
     })
 
@@ -248,8 +249,8 @@ judged_at_bridge l delivery judged = record {
 
 -- by one
 judged_by_access : (times : AccessTimes) (l : Latency) (delivery : Delivery) (journey : Journey) → delivery.passage ≡ passage.Goes journey →
-    times.least ≤ times.most → 0 < l.least → IsAsJudged (with_deadline l (option_map (left_behind times) l.deadline)) delivery →
-    IsAsJudgedFrom (Some times) (latency_behind (Some times) l) delivery
+    times.least ≤ times.most → 0 < l.least → IsAsJudged (with_deadline l (option_map (left_after times) l.deadline)) delivery →
+    IsAsJudgedFrom (Some times) (latency_from_talker (Some times) l) delivery
 judged_by_access times l delivery journey goes ordered some judged = record {
   within = λ other whole at there is handed.
       let b = judged.within other whole there is in
@@ -262,21 +263,21 @@ judged_by_access times l delivery journey goes ordered some judged = record {
 }
   where
     in_time_there : (deadline : Option ℕ) →
-        option_map (λ (n : ℕ). said_of_latency (sure_of (l.least + times.least) (l.most + times.most) n)) deadline ≡ Some told.InTime →
-        option_map (λ (n : ℕ). said_of_latency (sure_of l.least l.most n)) (option_map (left_behind times) deadline) ≡ Some told.InTime
+        option_map (λ (n : ℕ). said_of_latency (sure_of (l.least + times.least) (l.most + times.most) n)) deadline ≡ Some reported.InTime →
+        option_map (λ (n : ℕ). said_of_latency (sure_of l.least l.most n)) (option_map (left_after times) deadline) ≡ Some reported.InTime
     in_time_there None h = absurd (cc)
     in_time_there (Some end) h =
-        let sure = said_in_time (sure_of (l.least + times.least) (l.most + times.most) end) (same_Some _ told.InTime h) in
+        let sure = said_in_time (sure_of (l.least + times.least) (l.most + times.most) end) (same_Some _ reported.InTime h) in
         let short = in_time_means (l.least + times.least) (l.most + times.most) end sure in
         let left : l.most ≤ end - times.most = omega (arith, short) in
         ap (λ (s : Sure). Some (said_of_latency s)) (in_time_if l.least l.most (end - times.most) left)
 
     late_there : (deadline : Option ℕ) → l.least ≤ l.most →
-        option_map (λ (n : ℕ). said_of_latency (sure_of (l.least + times.least) (l.most + times.most) n)) deadline ≡ Some told.Late →
-        option_map (λ (n : ℕ). said_of_latency (sure_of l.least l.most n)) (option_map (left_behind times) deadline) ≡ Some told.Late
+        option_map (λ (n : ℕ). said_of_latency (sure_of (l.least + times.least) (l.most + times.most) n)) deadline ≡ Some reported.Late →
+        option_map (λ (n : ℕ). said_of_latency (sure_of l.least l.most n)) (option_map (left_after times) deadline) ≡ Some reported.Late
     late_there None bounds h = absurd (cc)
     late_there (Some end) bounds h =
-        let sure = said_late (sure_of (l.least + times.least) (l.most + times.most) end) (same_Some _ told.Late h) in
+        let sure = said_late (sure_of (l.least + times.least) (l.most + times.most) end) (same_Some _ reported.Late h) in
         let over = late_means (l.least + times.least) (l.most + times.most) end sure in
         let left = left_late times.least times.most l.least l.most end some bounds ordered over.0 over.1 in
         ap (λ (s : Sure). Some (said_of_latency s)) (late_if l.least l.most (end - times.most) left.0 left.1)
@@ -284,16 +285,16 @@ judged_by_access times l delivery journey goes ordered some judged = record {
 -- with or without
 judged_from : (times : Option AccessTimes) (l : Latency) (delivery : Delivery) (journey : Journey) → delivery.passage ≡ passage.Goes journey →
     ((t : AccessTimes) → times ≡ Some t → t.least ≤ t.most) → 0 < l.least → IsAsJudged (with_deadline l (left_by times l.deadline)) delivery →
-    IsAsJudgedFrom times (latency_behind times l) delivery
+    IsAsJudgedFrom times (latency_from_talker times l) delivery
 judged_from None l delivery journey goes ordered some judged = judged_at_bridge l delivery judged
 judged_from (Some times) l delivery journey goes ordered some judged = judged_by_access times l delivery journey goes (ordered times refl) some judged
 
 -- a latency from a hand-over is of the same stream and listener
-same_stream : (times : Option AccessTimes) (l : Latency) → (latency_behind times l).stream ≡ l.stream
+same_stream : (times : Option AccessTimes) (l : Latency) → (latency_from_talker times l).stream ≡ l.stream
 same_stream None l = refl
 same_stream (Some t) l = refl
 
-same_listener : (times : Option AccessTimes) (l : Latency) → (latency_behind times l).listener ≡ l.listener
+same_listener : (times : Option AccessTimes) (l : Latency) → (latency_from_talker times l).listener ≡ l.listener
 same_listener None l = refl
 same_listener (Some t) l = refl
 
@@ -309,7 +310,7 @@ as_judged_from d rows edge deliveries accepted are judged row latency delivery a
     let times = times_of edge.times row.no in
     let to_hop : Option ℕ → Hop → Latency = λ deadline hop. latency_to d (most_beside rows row.tree.items row.pace hop.link) row deadline hop in
     let written = deadline_of edge.deadlines row.no in
-    let b = contains_from_map (latency_behind times) (latencies_of_row d rows row written) latency listed in
+    let b = contains_from_map (latency_from_talker times) (latencies_of_row d rows row written) latency listed in
     let h = contains_from_map (to_hop written) (listeners_of d row) b.0 b.1 in
     let hop : Hop = h.0 in
     let own : Latency = to_hop written hop in
@@ -317,11 +318,11 @@ as_judged_from d rows edge deliveries accepted are judged row latency delivery a
     let at_edge : Latency = to_hop left hop in
     let of_row = contains_map (to_hop left) (listeners_of d row) hop h.1 in
     let in_all = contains_flat (λ (r : Row). latencies_of_row d rows r (deadline_of (edge_deadlines edge.flows) r.no)) rows row at_edge among of_row in
-    let is : latency_behind times own ≡ latency = ap (latency_behind times) h.2 ∙ b.2 in
+    let is : latency_from_talker times own ≡ latency = ap (latency_from_talker times) h.2 ∙ b.2 in
     let stream : delivery.stream ≡ own.stream = to.stream ∙ sym (ap (λ (l : Latency). l.stream) is) ∙ same_stream times own in
     let listener : to.journey.listener ≡ own.listener = to.listener ∙ sym (ap (λ (l : Latency). l.listener) is) ∙ same_listener times own in
     let here = judged at_edge delivery in_all there (record { journey = to.journey; goes = to.goes; stream = stream; listener = listener }) in
     let ends = ends_in (end_of d hop.link) (contains_from_filter (λ (x : Hop). is_station (end_of d x.link)) row.tree.items hop h.1).1 in
     subst (λ (l : Latency). IsAsJudgedFrom times l delivery) is
-    (judged_from times own delivery to.journey to.goes (are.ordered row.no) (least_is_some d hop.link hop.depth ends.0 accepted ends.1)
+    (judged_from times own delivery to.journey to.goes (are.ordered row.no) (least_is_some d hop.link hop.hop_number ends.0 accepted ends.1)
     (subst (λ (o : Option ℕ). IsAsJudged (with_deadline own o) delivery) (are.left row.no) here))

@@ -98,14 +98,14 @@ seals_have_room sealed cycles called more_seals more_others few some seals none 
 pub histories_are_legal : HistoryGoesOn → SealsAreCounted → HistoriesAreLegal
 histories_are_legal goes_on counted cycles s short room =
     let begun : IsLegalHistory s.domain [] =
-    record { replies = λ place e is. absurd (nothing place e is); few_seals = omega arith; few_calls = omega arith } in
+    record { replies = λ index e is. absurd (nothing index e is); few_seals = omega arith; few_calls = omega arith } in
     let first = called goes_on counted s.domain cycles short [] s.calls begun room in
     let number = cycles - seals (called_for s) in
     let all = sealed_all s.sealer number in
-    let behind = seals_have_room (seals (called_for s)) cycles (calls (called_for s)) (seals_among (seals_by s.sealer number))
+    let following = seals_have_room (seals (called_for s)) cycles (calls (called_for s)) (seals_among (seals_by s.sealer number))
     (others_among (seals_by s.sealer number)) first.few_seals first.few_calls all.0 all.1 in
     (called goes_on counted s.domain cycles short (called_for s) (seals_by s.sealer number) first.legal
-    (record { for_seals = behind.0; for_others = behind.1 })).legal
+    (record { for_seals = following.0; for_others = following.1 })).legal
   where
-    nothing : (place : ℕ) (e : Recorded) → slice_get [] place ≡ Some e → ⊥
-    nothing place e is = contains_none e (contains_at [] place e is)
+    nothing : (index : ℕ) (e : Recorded) → slice_get [] index ≡ Some e → ⊥
+    nothing index e is = contains_none e (contains_at [] index e is)

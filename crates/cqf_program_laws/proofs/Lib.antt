@@ -11,7 +11,7 @@ mod Firsts
 mod Admitted
 mod Balance
 mod RowLaws
-mod EachWay
+mod EachPath
 mod EachOffer
 mod EachRow
 mod Bounded

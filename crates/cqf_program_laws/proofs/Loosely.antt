@@ -9,14 +9,14 @@ use Rattle.cqf_model.specs.History.{Asked, Branch, Recorded, tree_of}
 use Rattle.cqf_model.specs.HistoryBook.{run_of_history}
 use Rattle.cqf_model.specs.Loose.{slack_of}
 use Rattle.cqf_model.specs.Network.{Network}
-use Rattle.cqf_model.specs.Traffic.{Carried}
+use Rattle.cqf_model.specs.Policing.{Carried}
 use Rattle.cqf_laws_history.specs.StateLaws.{GrantedFindsRoom, GrantedIsHeld, HistoryGoesOn, SealsAreCounted, granted_row}
 use Rattle.cqf_laws_shift.proofs.Trees.{same_hop}
 use Rattle.cqf_laws_timing.specs.Listeners.{BranchesEnd}
 use Rattle.cqf_laws_timing.specs.LooseInTime.{ComesThroughLoosely, IsHeardInTime, LooseConformingIsInTime}
 use Rattle.cqf_laws_timing.specs.LooseStreams.{IsLooseHistory}
 use Rattle.cqf_laws_timing.specs.Streams.{AdmitsOnly, AdmittedHaveNames, IsOfList, ListCostsItsTable, RowsAreOfList}
-use Rattle.cqf_laws_timing.specs.Told.{planned_rows}
+use Rattle.cqf_laws_timing.specs.Reported.{planned_rows}
 use Rattle.cqf_laws_timing.specs.Traffic.{Conforms, offers_named}
 use Rattle.cqf_traffic.specs.FlowsText.{FlowText}
 use Rattle.cqf_traffic.specs.TrafficText.{TrafficText, promise_of}
@@ -24,7 +24,7 @@ use Rattle.cqf_program_plans.proofs.GrantedPlans.{plan_paced}
 use Rattle.cqf_program_offers.specs.OffersOutput.{asked_in}
 use Rattle.cqf_program_laws.specs.PlanLaws.{IsHeardLoosely, IsKeptPlan, IsPromised, PlansKeepTheirWordLoosely}
 use Rattle.cqf_program_laws.proofs.PlannedRows.{HasItsRow}
-use Rattle.cqf_program_laws.proofs.InPlan.{all_are_granted, enough, is_sure, its_place, its_row, one_asked}
+use Rattle.cqf_program_laws.proofs.InPlan.{all_are_granted, enough, is_sure, its_index, its_row, one_asked}
 
 module _ (held : GrantedIsHeld) (goes_on : HistoryGoesOn) (counted : SealsAreCounted) (room : GrantedFindsRoom) (of_list : RowsAreOfList)
     (names : AdmittedHaveNames) (costs : ListCostsItsTable) (ends : BranchesEnd) (comes : LooseConformingIsInTime) (d : Domain) (flows : List FlowText)
@@ -37,7 +37,7 @@ module _ (held : GrantedIsHeld) (goes_on : HistoryGoesOn) (counted : SealsAreCou
 
   -- the stream's row in the plan
   row_there : HasItsRow d (planned_rows d all)
-      (its_place held goes_on counted room of_list names d flows entries offers background cycles plan only flow t x row promised).0 (asked_in flow)
+      (its_index held goes_on counted room of_list names d flows entries offers background cycles plan only flow t x row promised).0 (asked_in flow)
   row_there = its_row held goes_on counted room of_list names d flows entries offers background cycles plan only flow t x row promised
 
   one_there : (of : IsOfList d all row) → of.asked ≡ asked_in flow
@@ -53,7 +53,7 @@ module _ (held : GrantedIsHeld) (goes_on : HistoryGoesOn) (counted : SealsAreCou
   -- and is heard in time
   pub is_heard : (branch : Branch) → Contains flow.0.0.paths branch → IsHeardLoosely d all (asked_in flow) cycles net carries x branch x.offer.at.0 flow.0.1
   is_heard branch c =
-      let place = its_place held goes_on counted room of_list names d flows entries offers background cycles plan only flow t x row promised in
+      let index = its_index held goes_on counted room of_list names d flows entries offers background cycles plan only flow t x row promised in
       let listener = ends d row_there.beside (asked_in flow) branch row_there.free c in
       let tree : row.tree.items ≡ tree_of d flow.0.0.paths =
       comes_through.of_list.tree ∙ ap (λ (a : Asked). tree_of d a.paths) (one_there comes_through.of_list) in
@@ -72,7 +72,7 @@ module _ (held : GrantedIsHeld) (goes_on : HistoryGoesOn) (counted : SealsAreCou
               within = λ most is.
                   hearing.in_time most
                   (is_sure costs d flows plan (all_are_granted held goes_on counted room of_list names d flows entries offers background cycles plan only)
-                  place.0 flow place.1 row_there listener.bridges listener.link listener.station in_plan listener.ends_at.ends most is);
+                  index.0 flow index.1 row_there listener.bridges listener.link listener.station in_plan listener.ends_at.ends most is);
             };
       }
 

@@ -24,7 +24,7 @@ use Rattle.cqf_program_scenario.specs.Scenario.{Scenario, scenario_input, scenar
 use Rattle.cqf_program_plans.specs.Compile.Output.{admitted_from}
 use Rattle.cqf_program_plans.specs.Edges.{open_edges_of_part}
 use Rattle.cqf_program_plans.specs.Latency.Input.{asked_in, latency_input, latency_of_input, plan_from, plan_with, streams_for}
-use Rattle.cqf_program_plans.specs.Latency.Output.{PlanFromTalkers, latency_from_talkers, latency_told}
+use Rattle.cqf_program_plans.specs.Latency.Output.{PlanFromTalkers, latency_from_talkers, latency_written}
 use Rattle.cqf_program_plans.specs.Latency.Text.{first_line_of, latencies_from, text_of_latency}
 use Rattle.cqf_program_plans.specs.Reserving.{first_lack, lack_line, planned_octets, requests_at}
 use Rattle.cqf_program_plans.proofs.CompileLemmas.{same_ok}
@@ -33,14 +33,14 @@ use Rattle.cqf_program_runs.specs.Deliveries.{deliveries_of}
 use Rattle.cqf_program_runs.specs.Deliveries.PlannedScenario.{planned_of_part, planned_scenario, planned_scenario_of, run_of_scenario}
 use Rattle.cqf_program_summary.specs.Summary.Output.{IsSummaryOutput}
 use Rattle.cqf_program_planning.specs.declared.choosing.Search.{Search}
-use Rattle.cqf_program_laws.specs.OutputLaws.{AreAsWritten, BeginsWith, DeliveriesAreAsWritten, HasTexts, RunsKeepToldPlans, TextKeepsItsWord}
-use Rattle.cqf_program_laws.specs.OutputLaws.{ThreadsAreAsWritten, ThreadsKeepToldPlans, WrittenLatenciesAreBounded, WrittenOffersCountOnce, WrittenRowsAddUp}
+use Rattle.cqf_program_laws.specs.OutputLaws.{AreAsWritten, BeginsWith, DeliveriesAreAsWritten, HasTexts, RunsKeepWrittenPlans, TextKeepsItsWord}
+use Rattle.cqf_program_laws.specs.OutputLaws.{ThreadsAreAsWritten, ThreadsKeepWrittenPlans, WrittenLatenciesAreBounded, WrittenOffersCountOnce, WrittenRowsAddUp}
 use Rattle.cqf_program_laws.specs.PlanLaws.{IsKeptPlan, PlanKeepsItsWord, PlansKeepTheirWordOnThreads, PlansKeepTheirWordToScripts}
 use Rattle.cqf_program_laws.specs.ReaderLaws.{EdgesArePlanned, IsRunnable, PlannedScenariosAreScenarios, ReadersAgreeOnParts, ScenariosMayBeRun}
 use Rattle.cqf_program_laws.specs.SummaryLaws.{EachOfferCountsOnce, IsReadRun, LatenciesAreBounded, RowsAddUp}
 use Rattle.cqf_program_laws.specs.TalkerLaws.{WordsHoldFromTalkers}
-use Rattle.cqf_program_laws.specs.ToldPlans.{HasKeptPlan, ToldPlansRun}
-use Rattle.cqf_program_laws.specs.VerdictLaws.{AreAsJudged, VerdictsHoldOfAccounts, VerdictsHoldOfScripts, latencies_told}
+use Rattle.cqf_program_laws.specs.WrittenPlans.{HasKeptPlan, WrittenPlansRun}
+use Rattle.cqf_program_laws.specs.VerdictLaws.{AreAsJudged, VerdictsHoldOfAccounts, VerdictsHoldOfScripts, printed_latencies}
 use Rattle.cqf_program_laws.proofs.JudgedFrom.{are_left, as_judged_from}
 use Rattle.cqf_program_laws.proofs.MayRun.{parts_of_scenario}
 use Rattle.cqf_program_laws.proofs.Scripts.{stepped}
@@ -105,27 +105,27 @@ plan_over edges agree may_run limits search given network text cycles input s ha
     (edges has.network text has.edge p.part_is) holds in
     (over, subst (λ (d : Domain). IsKeptPlan d has.edge.flows) (sym over.domain_is) p.kept.kept)
 
-pub runs_keep_told_plans : EdgesArePlanned → ReadersAgreeOnParts → ScenariosMayBeRun → ToldPlansRun → WordsHoldFromTalkers → PlansKeepTheirWordToScripts →
-    RunsKeepToldPlans
-runs_keep_told_plans edges agree may_run runs words keep limits search given network text cycles input output candidates shallow plan begins short told =
+pub runs_keep_written_plans : EdgesArePlanned → ReadersAgreeOnParts → ScenariosMayBeRun → WrittenPlansRun → WordsHoldFromTalkers → PlansKeepTheirWordToScripts →
+    RunsKeepWrittenPlans
+runs_keep_written_plans edges agree may_run runs words keep limits search given network text cycles input output candidates shallow plan begins short reported =
     let has = runs limits search given network text candidates shallow plan in
-    let s = told.scenario in
-    let both = plan_over edges agree may_run limits search given network text cycles input s has begins told.holds in
+    let s = reported.scenario in
+    let both = plan_over edges agree may_run limits search given network text cycles input s has begins reported.holds in
     let over = both.0 in
-    text_keeps words limits search given network text has (run_of_scenario cycles s) cycles told.book over.runnable.domain.accepted
-    (keep limits cycles input s has.edge.flows told.book short over.holds over.runnable.domain.accepted over.runnable.may both.1 told.is_book)
+    text_keeps words limits search given network text has (run_of_scenario cycles s) cycles reported.book over.runnable.domain.accepted
+    (keep limits cycles input s has.edge.flows reported.book short over.holds over.runnable.domain.accepted over.runnable.may both.1 reported.is_book)
 
-pub threads_keep_told_plans : EdgesArePlanned → ReadersAgreeOnParts → ScenariosMayBeRun → ToldPlansRun → WordsHoldFromTalkers →
-    PlansKeepTheirWordOnThreads → ThreadsKeepToldPlans
-threads_keep_told_plans edges agree may_run runs words keep limits search given network text cycles input output candidates shallow plan begins told =
+pub threads_keep_written_plans : EdgesArePlanned → ReadersAgreeOnParts → ScenariosMayBeRun → WrittenPlansRun → WordsHoldFromTalkers →
+    PlansKeepTheirWordOnThreads → ThreadsKeepWrittenPlans
+threads_keep_written_plans edges agree may_run runs words keep limits search given network text cycles input output candidates shallow plan begins reported =
     let has = runs limits search given network text candidates shallow plan in
-    let s = told.scenario in
-    let both = plan_over edges agree may_run limits search given network text cycles input s has begins told.holds in
+    let s = reported.scenario in
+    let both = plan_over edges agree may_run limits search given network text cycles input s has begins reported.holds in
     let over = both.0 in
-    text_keeps words limits search given network text has (run_of_history s.domain told.entries s.offers s.background cycles) cycles told.book
+    text_keeps words limits search given network text has (run_of_history s.domain reported.entries s.offers s.background cycles) cycles reported.book
     over.runnable.domain.accepted
-    (keep limits cycles input s has.edge.flows told.entries _ told.book over.holds over.runnable.domain.accepted over.runnable.may both.1
-    told.of_scenario.asked told.of_scenario.is_account)
+    (keep limits cycles input s has.edge.flows reported.entries _ reported.book over.holds over.runnable.domain.accepted over.runnable.may both.1
+    reported.of_scenario.asked reported.of_scenario.is_account)
 
 -- ---- verdicts
 
@@ -153,12 +153,12 @@ latencies_written strict network edge found written made h =
     let d = domain_of network in
     let requests : List PacedText = map (λ (flow : FlowText). flow.0.0) edge.flows in
     let c = stepped {B = PlanFromTalkers} (requests_at d edge.flows) (λ (asked : List PacedText). Ok (plan_with network edge asked)) found made in
-    let enough = refuse-Ok (first_lack d.cycle_time 1 (map planned_octets edge.flows)) lack_line (Ok requests) c.0 c.1 in
+    let enough = refuse-Ok (first_lack d.overhead d.cycle_time 1 (map planned_octets edge.flows)) lack_line (Ok requests) c.0 c.1 in
     let same : plan_with network edge requests ≡ found =
     ap (plan_with network edge) (same_ok requests c.0 enough.1) ∙ same_ok (plan_with network edge c.0) found c.2 in
-    let told = subst (λ (p : PlanFromTalkers). latency_from_talkers strict p ≡ Ok written) (sym same) h in
+    let reported = subst (λ (p : PlanFromTalkers). latency_from_talkers strict p ≡ Ok written) (sym same) h in
     let f = stepped {B = List ℕ} (admitted_from d [] 1 (map asked_by requests))
-    (λ (entries : List Recorded). latency_told strict (latencies_from d (held_in d entries 0) edge.deadlines edge.times)) written told in
+    (λ (entries : List Recorded). latency_written strict (latencies_from d (held_in d entries 0) edge.deadlines edge.times)) written reported in
     let latencies = latencies_from d (held_in d f.0 0) edge.deadlines edge.times in
     let rest = refuse-Ok (if strict then first_line_of latencies else None) (λ (first : List ℕ). first) (Ok (text_of_latency latencies)) written f.2 in (
       f.0,
@@ -174,19 +174,19 @@ latency_read limits strict domain streams plan written parts h =
     (λ (network : NetworkDomain). streams_for network texts.1))) parts) ∙ t.1 in
     let a = stepped {B = PlanFromTalkers} (network_of_part limits domain) (λ (network : NetworkDomain). streams_for network streams) t.0 inner in
     let b = stepped {B = PlanFromTalkers} (open_edges_of_part a.0 streams) (plan_from a.0) t.0 a.2 in
-    let told = latencies_written strict a.0 b.0 t.0 written b.2 t.2 in
-    record { network = a.0; is_network = a.1; edge = b.0; at_edges = b.1; plan = told.0; admitted = told.1; written_is = told.2 }
+    let reported = latencies_written strict a.0 b.0 t.0 written b.2 t.2 in
+    record { network = a.0; is_network = a.1; edge = b.0; at_edges = b.1; plan = reported.0; admitted = reported.1; written_is = reported.2 }
 
 -- deliveries over these texts that are as judged from edge bridges
 as_written : StreamsComeByLinks → (limits : Limits) (domain streams written : List ℕ) (l : IsLatencyOf limits domain streams written) (d : Domain)
     (deliveries : List Delivery) → IsDomain d → d ≡ domain_of l.network →
-    (admitted_from d [] 1 (asked_in (bare l.edge)) ≡ Ok l.plan → AreAsJudged (latencies_told d l.plan (bare l.edge)) deliveries) →
+    (admitted_from d [] 1 (asked_in (bare l.edge)) ≡ Ok l.plan → AreAsJudged (printed_latencies d l.plan (bare l.edge)) deliveries) →
     AreAsWritten limits domain streams written deliveries
 as_written come limits domain streams written l d deliveries is_domain same judged =
     let own = domain_of l.network in
     let admitted = subst (λ (x : Domain). admitted_from x [] 1 (asked_in (bare l.edge)) ≡ Ok l.plan) (sym same) l.admitted in
     let accepted = subst IsDomain same is_domain in
-    let there = subst (λ (x : Domain). AreAsJudged (latencies_told x l.plan (bare l.edge)) deliveries) same (judged admitted) in
+    let there = subst (λ (x : Domain). AreAsJudged (printed_latencies x l.plan (bare l.edge)) deliveries) same (judged admitted) in
     record {
       network = l.network;
       is_network = l.is_network;
@@ -202,57 +202,57 @@ as_written come limits domain streams written l d deliveries is_domain same judg
 pub deliveries_are_as_written : StreamsComeByLinks → EdgesArePlanned → ReadersAgreeOnParts → PlannedScenariosAreScenarios → ScenariosMayBeRun →
     VerdictsHoldOfScripts → DeliveriesAreAsWritten
 deliveries_are_as_written come edges agree scenarios may_run verdicts limits strict domain streams plan written cycles input output parts latency begins short
-    told =
-    let s : Scenario = told.found.0 in
+    reported =
+    let s : Scenario = reported.found.0 in
     let l = latency_read limits strict domain streams plan written parts latency in
     let planned = bare l.edge in
-    let holds = scenarios limits cycles input s told.found.1 told.holds in
+    let holds = scenarios limits cycles input s reported.found.1 reported.holds in
     let over = run_over agree may_run limits cycles domain streams input begins l.network planned s l.is_network (edges l.network streams l.edge l.at_edges)
     holds in
     let own : Scenario × List PlannedText = (s, planned) in
-    let same : planned ≡ told.found.1 = ap (λ (r : Scenario × List PlannedText). r.1) (same_ok own told.found (sym over.holds ∙ told.holds)) in
+    let same : planned ≡ reported.found.1 = ap (λ (r : Scenario × List PlannedText). r.1) (same_ok own reported.found (sym over.holds ∙ reported.holds)) in
     let run = run_of_scenario cycles s in
-    subst (λ (st : List PlannedText). AreAsWritten limits domain streams written (deliveries_of run st told.book)) same
-    (as_written come limits domain streams written l s.domain (deliveries_of run planned told.book) over.runnable.domain over.domain_is
-    (λ admitted. verdicts limits cycles input s planned l.plan told.book short over.holds over.runnable.domain over.runnable.may admitted told.is_book))
+    subst (λ (st : List PlannedText). AreAsWritten limits domain streams written (deliveries_of run st reported.book)) same
+    (as_written come limits domain streams written l s.domain (deliveries_of run planned reported.book) over.runnable.domain over.domain_is
+    (λ admitted. verdicts limits cycles input s planned l.plan reported.book short over.holds over.runnable.domain over.runnable.may admitted reported.is_book))
 
 pub threads_are_as_written : StreamsComeByLinks → EdgesArePlanned → ReadersAgreeOnParts → ScenariosMayBeRun → VerdictsHoldOfAccounts → ThreadsAreAsWritten
 threads_are_as_written come edges agree may_run verdicts limits strict domain streams plan written cycles input output network streams_planned parts latency
-    is_network are_planned begins told =
-    let s : Scenario = told.scenario in
+    is_network are_planned begins reported =
+    let s : Scenario = reported.scenario in
     let l = latency_read limits strict domain streams plan written parts latency in
     let planned = bare l.edge in
     let read = edges l.network streams l.edge l.at_edges in
-    let over = run_over agree may_run limits cycles domain streams input begins l.network planned s l.is_network read told.holds in
+    let over = run_over agree may_run limits cycles domain streams input begins l.network planned s l.is_network read reported.holds in
     let one : l.network ≡ network = same_ok l.network network (sym l.is_network ∙ is_network) in
     let same : planned ≡ streams_planned =
     same_ok planned streams_planned (sym read ∙ ap (λ (n : NetworkDomain). planned_of_part n streams) one ∙ are_planned) in
-    let run = run_of_history s.domain told.entries s.offers s.background cycles in
-    subst (λ (st : List PlannedText). AreAsWritten limits domain streams written (deliveries_of run st told.book)) same
-    (as_written come limits domain streams written l s.domain (deliveries_of run planned told.book) over.runnable.domain over.domain_is
+    let run = run_of_history s.domain reported.entries s.offers s.background cycles in
+    subst (λ (st : List PlannedText). AreAsWritten limits domain streams written (deliveries_of run st reported.book)) same
+    (as_written come limits domain streams written l s.domain (deliveries_of run planned reported.book) over.runnable.domain over.domain_is
     (λ admitted.
-    verdicts limits cycles input s planned l.plan told.entries _ told.book over.holds over.runnable.domain over.runnable.may admitted
-    told.of_scenario.asked told.of_scenario.is_account))
+    verdicts limits cycles input s planned l.plan reported.entries _ reported.book over.holds over.runnable.domain over.runnable.may admitted
+    reported.of_scenario.asked reported.of_scenario.is_account))
 
 -- ---- summaries
 
 -- the run that a summary is of
 read_run : PlannedScenariosAreScenarios → ScenariosMayBeRun → (limits : Limits) (cycles : ℕ) (input output : List ℕ) → cycles ≤ most_cycles →
-    (told : IsSummaryOutput limits cycles input output) → IsReadRun limits cycles input told.found.0 told.found.1 told.book
-read_run scenarios may_run limits cycles input output short told =
-    let s : Scenario = told.found.0 in
-    let runnable = may_run limits cycles input s (scenarios limits cycles input s told.found.1 told.holds) in
-    record { short = short; read = told.holds; domain = runnable.domain; may = runnable.may; is_book = told.is_book }
+    (reported : IsSummaryOutput limits cycles input output) → IsReadRun limits cycles input reported.found.0 reported.found.1 reported.book
+read_run scenarios may_run limits cycles input output short reported =
+    let s : Scenario = reported.found.0 in
+    let runnable = may_run limits cycles input s (scenarios limits cycles input s reported.found.1 reported.holds) in
+    record { short = short; read = reported.holds; domain = runnable.domain; may = runnable.may; is_book = reported.is_book }
 
 pub written_rows_add_up : PlannedScenariosAreScenarios → ScenariosMayBeRun → RowsAddUp → WrittenRowsAddUp
-written_rows_add_up scenarios may_run rows limits cycles input output fare way short told of =
-    rows limits cycles input told.found.0 told.found.1 told.book fare way (read_run scenarios may_run limits cycles input output short told) of
+written_rows_add_up scenarios may_run rows limits cycles input output fare path short reported of =
+    rows limits cycles input reported.found.0 reported.found.1 reported.book fare path (read_run scenarios may_run limits cycles input output short reported) of
 
 pub written_offers_count_once : PlannedScenariosAreScenarios → ScenariosMayBeRun → EachOfferCountsOnce → WrittenOffersCountOnce
-written_offers_count_once scenarios may_run once limits cycles input output fare way short told of =
-    once limits cycles input told.found.0 told.found.1 told.book fare way (read_run scenarios may_run limits cycles input output short told) of
+written_offers_count_once scenarios may_run once limits cycles input output fare path short reported of =
+    once limits cycles input reported.found.0 reported.found.1 reported.book fare path (read_run scenarios may_run limits cycles input output short reported) of
 
 pub written_latencies_are_bounded : PlannedScenariosAreScenarios → ScenariosMayBeRun → LatenciesAreBounded → WrittenLatenciesAreBounded
-written_latencies_are_bounded scenarios may_run bounded limits cycles input output fare way taken short told of is =
-    bounded limits cycles input told.found.0 told.found.1 told.book fare way taken
-    (read_run scenarios may_run limits cycles input output short told) of is
+written_latencies_are_bounded scenarios may_run bounded limits cycles input output fare path taken short reported of is =
+    bounded limits cycles input reported.found.0 reported.found.1 reported.book fare path taken
+    (read_run scenarios may_run limits cycles input output short reported) of is

@@ -16,9 +16,9 @@ use Rattle.cqf_program_plans.proofs.CompileLemmas.{same_ok}
 use Rattle.cqf_program_placing.specs.Settled.{SettledStream}
 use Rattle.cqf_program_planning.specs.declared.choosing.Search.{Search}
 use Rattle.cqf_program_planning.specs.PlanOutput.{IsPlanText, IsPlannedOf, PlanSource, settled_edges, planning_input, network_line, unentered_line}
-use Rattle.cqf_program_planning.specs.ReadPlans.{ToldPlansReadBack}
+use Rattle.cqf_program_planning.specs.ReadPlans.{WrittenPlansReadBack}
 use Rattle.cqf_program_laws.specs.PlanLaws.{IsKeptPlan}
-use Rattle.cqf_program_laws.specs.ToldPlans.{AreShallow, HasKeptPlan, ToldPlansRun}
+use Rattle.cqf_program_laws.specs.WrittenPlans.{AreShallow, HasKeptPlan, WrittenPlansRun}
 use Rattle.cqf_program_laws.proofs.ReadNetworks.{domain_is_read, network_is_read}
 use Rattle.cqf_program_laws.proofs.Scripts.{stepped}
 
@@ -52,9 +52,9 @@ are_texts limits given input source h =
     p.1 ∙ ap (λ (s : PlanSource). Ok (s.domain_text, s.streams_text)) same
 
 -- the text of a plan
-told_plan : ToldPlansReadBack → (limits : Limits) (search : Search) (given : Option (List ℕ)) (input text : List ℕ) (source : PlanSource) → IfSome given AreCandidates →
+written_plan : WrittenPlansReadBack → (limits : Limits) (search : Search) (given : Option (List ℕ)) (input text : List ℕ) (source : PlanSource) → IfSome given AreCandidates →
     AreShallow input → planning_input limits given input ≡ Ok source → IsPlanText search source text → HasKeptPlan limits search given input text
-told_plan back limits search given input text source candidates shallow h plan =
+written_plan back limits search given input text source candidates shallow h plan =
     let texts = shallow source.domain_text source.streams_text (are_texts limits given input source h) in
     let parts = stepped {B = PlanSource} (two_parts (parts_of input)) (with_parts limits given) source h in
     let read = back limits search given parts.0.0 parts.0.1 text source candidates parts.2 texts.0 texts.1 plan in
@@ -88,9 +88,9 @@ told_plan back limits search given input text source candidates shallow h plan =
       as_placed = read.come;
     }
 
-pub told_plans_run : ToldPlansReadBack → ToldPlansRun
-told_plans_run back limits search given input text candidates shallow told = by (planning_input limits given input) refl told
+pub written_plans_run : WrittenPlansReadBack → WrittenPlansRun
+written_plans_run back limits search given input text candidates shallow reported = by (planning_input limits given input) refl reported
   where
     by : (found : Result PlanSource (List ℕ)) → planning_input limits given input ≡ found → IsPlannedOf false search found (Ok text) → HasKeptPlan limits search given input text
-    by (Ok source) is plan = told_plan back limits search given input text source candidates shallow is plan
+    by (Ok source) is plan = written_plan back limits search given input text source candidates shallow is plan
     by (Err line) is refused = absurd (cc)

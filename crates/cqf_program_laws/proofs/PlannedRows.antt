@@ -10,7 +10,7 @@ use Rattle.cqf_model.specs.Domain.{Domain}
 use Rattle.cqf_model.specs.History.{Admits, Asked, IsLegalHistory, Recorded, held_in, pace_of, refusal_of, reply_to, seals, tree_of}
 use Rattle.cqf_laws_history.specs.StateLaws.{GrantedFindsRoom, GrantedIsHeld, HistoryGoesOn, IsState, SealsAreCounted, granted_row, with_entry}
 use Rattle.cqf_laws_timing.specs.Streams.{AreGranted, with_all}
-use Rattle.cqf_laws_timing.specs.Told.{planned_rows}
+use Rattle.cqf_laws_timing.specs.Reported.{planned_rows}
 
 -- the row of a stream among some, by its number; and rows with which the stream isn't refused
 pub record HasItsRow (d : Domain) (rows : List Row) (number : ℕ) (asked : Asked) : Type 0 where
@@ -67,8 +67,8 @@ module _ (held : GrantedIsHeld) (goes_on : HistoryGoesOn) (counted : SealsAreCou
 
   -- so each stream's row does
   has_row : (streams : List Asked) (entries : List Recorded) (rows : List Row) (next : ℕ) → HoldsRows d entries rows next → AreGranted d entries streams →
-      (place : ℕ) (asked : Asked) → slice_get streams place ≡ Some asked → HasItsRow d (held_in d (with_all d entries streams) 0) (next + place) asked
-  has_row [] entries rows next holds granted place asked is = absurd (contains_none asked (contains_at [] place asked is))
+      (index : ℕ) (asked : Asked) → slice_get streams index ≡ Some asked → HasItsRow d (held_in d (with_all d entries streams) 0) (next + index) asked
+  has_row [] entries rows next holds granted index asked is = absurd (contains_none asked (contains_at [] index asked is))
   has_row (first ∷ more) entries rows next holds granted zero asked is =
       let free = is_free entries rows next first holds granted.0 in
       let new = granted_row d next (seals entries) first in
@@ -76,19 +76,19 @@ module _ (held : GrantedIsHeld) (goes_on : HistoryGoesOn) (counted : SealsAreCou
       (one_more entries rows next first holds free) granted.1 new (Contains-append_right rows (new ∷ []) new (contains_here new [])) in
       subst (HasItsRow d (held_in d (with_all d entries (first ∷ more)) 0) (next + 0)) (same_Some first asked is)
       (record { row = new; among = among; is_number = omega arith; name = refl; pace = refl; tree = refl; beside = rows; free = free })
-  has_row (first ∷ more) entries rows next holds granted (suc place) asked is =
+  has_row (first ∷ more) entries rows next holds granted (suc index) asked is =
       let free = is_free entries rows next first holds granted.0 in
       let new = granted_row d next (seals entries) first in
       let rest = has_row more (with_entry entries 0 (Admits first) (reply_to d entries (Admits first))) (rows ++ new ∷ []) (next + 1)
-      (one_more entries rows next first holds free) granted.1 place asked is in
-      let same : next + 1 + place ≡ next + suc place = omega arith in
+      (one_more entries rows next first holds free) granted.1 index asked is in
+      let same : next + 1 + index ≡ next + suc index = omega arith in
       subst (λ (number : ℕ). HasItsRow d (held_in d (with_all d entries (first ∷ more)) 0) number asked) same rest
 
 -- of a plan
 pub plan_has_row : GrantedIsHeld → HistoryGoesOn → SealsAreCounted → GrantedFindsRoom → (d : Domain) (streams : List Asked) → AreGranted d [] streams →
-    (place : ℕ) (asked : Asked) → slice_get streams place ≡ Some asked → HasItsRow d (planned_rows d streams) place asked
-plan_has_row held goes_on counted room d streams granted place asked is =
-    let same : 0 + place ≡ place = omega arith in
+    (index : ℕ) (asked : Asked) → slice_get streams index ≡ Some asked → HasItsRow d (planned_rows d streams) index asked
+plan_has_row held goes_on counted room d streams granted index asked is =
+    let same : 0 + index ≡ index = omega arith in
     subst (λ (number : ℕ). HasItsRow d (planned_rows d streams) number asked) same
     (has_row held goes_on counted room d streams [] [] 0
     (record {
@@ -96,4 +96,4 @@ plan_has_row held goes_on counted room d streams granted place asked is =
       state = record { held = refl; number = refl };
       no_seal = refl;
       one_each = refl;
-    }) granted place asked is)
+    }) granted index asked is)

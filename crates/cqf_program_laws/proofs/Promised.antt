@@ -19,7 +19,7 @@ use Rattle.cqf_laws_timing.specs.Streams.{AdmittedHaveNames, AreGranted, IsOfLis
 use Rattle.cqf_laws_timing.specs.Covered.{ConformingOwnIsCovered, ConformingStreamIsCovered}
 use Rattle.cqf_laws_timing.specs.InTime.{ArrivesInTime, ComesThrough, ConformingOwnIsInTime, ConformingStreamIsInTime, IsBookOverList}
 use Rattle.cqf_laws_timing.specs.Traffic.{Conforms, needed, offers_named}
-use Rattle.cqf_laws_timing.specs.Told.{planned_rows}
+use Rattle.cqf_laws_timing.specs.Reported.{planned_rows}
 use Rattle.cqf_traffic.specs.FlowsText.{FlowText}
 use Rattle.cqf_traffic.specs.TrafficText.{TrafficText, promise_of}
 use Rattle.cqf_admission.specs.Asking.{asked_by}
@@ -31,7 +31,7 @@ use Rattle.cqf_program_laws.specs.PlanLaws.{ComesAsPromised, IsHeardWithin, IsKe
 use Rattle.cqf_program_laws.specs.PlanLaws.{PlansKeepTheirWord, PlansKeepTheirWordOnThreads, PlansKeepTheirWordToScripts}
 use Rattle.cqf_program_laws.specs.ScriptLaws.{AccountsAdmitOnly, AskOnly, HistoriesAdmitOnly, HistoriesAreLegal, PlannedScenariosAskOnly}
 use Rattle.cqf_program_laws.proofs.PlannedRows.{HasItsRow}
-use Rattle.cqf_program_laws.proofs.InPlan.{all_are_granted, enough, is_sure, its_place, its_row, one_asked}
+use Rattle.cqf_program_laws.proofs.InPlan.{all_are_granted, enough, is_sure, its_index, its_row, one_asked}
 
 -- ---- a promised frame
 
@@ -51,16 +51,16 @@ module _ (held : GrantedIsHeld) (goes_on : HistoryGoesOn) (counted : SealsAreCou
 
   module _ (flow : FlowText) (t : TrafficText) (x : Offered) (row : Row) (promised : IsPromised run flows flow t x row) where
     -- its index and its row in the plan, its request, and that its row in the run reserves enough
-    abbrev place_there : (place : ℕ) × (slice_get flows place ≡ Some flow)
-    place_there = its_place held goes_on counted room of_list names d flows entries offers background cycles plan over.only flow t x row promised
+    abbrev index_there : (index : ℕ) × (slice_get flows index ≡ Some flow)
+    index_there = its_index held goes_on counted room of_list names d flows entries offers background cycles plan over.only flow t x row promised
 
-    abbrev row_there : HasItsRow d (planned_rows d all) place_there.0 (asked_in flow)
+    abbrev row_there : HasItsRow d (planned_rows d all) index_there.0 (asked_in flow)
     row_there = its_row held goes_on counted room of_list names d flows entries offers background cycles plan over.only flow t x row promised
 
     one_there : (of : IsOfList d all row) → of.asked ≡ asked_in flow
     one_there of = one_asked held goes_on counted room of_list names d flows entries offers background cycles plan over.only flow t x row promised of
 
-    enough_there : needed d.cycle_time (promise_of t) ≤ reserved_in row 0 (offer_cycle d x)
+    enough_there : needed d.overhead d.cycle_time (promise_of t) ≤ reserved_in row 0 (offer_cycle d x)
     enough_there = enough held goes_on counted room of_list names d flows entries offers background cycles plan over.only flow t x row promised
 
     -- so it is covered, and passes all links
@@ -100,7 +100,7 @@ module _ (held : GrantedIsHeld) (goes_on : HistoryGoesOn) (counted : SealsAreCou
                 arrival = arrival;
                 within = λ most is.
                     arrival.in_time most
-                    (is_sure costs d flows plan granted place_there.0 flow place_there.1 row_there listener.bridges listener.link listener.station in_plan
+                    (is_sure costs d flows plan granted index_there.0 flow index_there.1 row_there listener.bridges listener.link listener.station in_plan
                     listener.ends_at.ends most is);
               };
         }

@@ -29,7 +29,7 @@ use Rattle.cqf_network.specs.NetworkFlows.{NetworkFlowText, network_flow_from, n
 use Rattle.cqf_network.specs.NetworkDomain.{NetworkDomain}
 use Rattle.cqf_network.specs.StreamsText.{listeners_read, shortest_read, talker_read}
 use Rattle.cqf_edge.specs.declared.uses.Handed.{Handed}
-use Rattle.cqf_edge.specs.EdgeFlows.{EdgeFlowsText, at_edges, edge_flows, edges_with, flow_behind, flows_behind, handed_of, handed_of_all, passage_of}
+use Rattle.cqf_edge.specs.EdgeFlows.{EdgeFlowsText, at_edges, edge_flows, edges_with, flow_at_edge, flows_at_edge, handed_of, handed_of_all, passage_of}
 use Rattle.cqf_edge.specs.Uses.{bounds_of}
 use Rattle.cqf_admission.specs.Asking.{asked_by}
 use Rattle.cqf_admission.specs.Script.{Called, administrators, script_of}
@@ -310,14 +310,14 @@ pub optional : {A : Type 0} (P : Option A → Type 0) (o : Option A) → P None 
 optional P None without with_one = without
 optional P (Some x) without with_one = with_one x
 
-requests_behind : (network : NetworkDomain) (whole handed : List (Option Handed)) (all : List NetworkFlowText) → length handed ≡ length all →
-    asks_of (flows_behind (map (passage_of network (bounds_of network whole)) handed) all) ≡ asks_of (flows_in_file all)
-requests_behind network whole [] [] same = refl
-requests_behind network whole [] (one ∷ all) same = absurd (omega (arith, same))
-requests_behind network whole (h ∷ handed) [] same = absurd (omega (arith, same))
-requests_behind network whole (h ∷ handed) (one ∷ all) same =
-    let rest = requests_behind network whole handed all (omega (arith, same)) in
-    let first = optional (λ p. (flow_behind p one.flow).0.0 ≡ one.flow.0.0) (passage_of network (bounds_of network whole) h) refl (λ p. refl) in
+requests_after : (network : NetworkDomain) (whole handed : List (Option Handed)) (all : List NetworkFlowText) → length handed ≡ length all →
+    asks_of (flows_at_edge (map (passage_of network (bounds_of network whole)) handed) all) ≡ asks_of (flows_in_file all)
+requests_after network whole [] [] same = refl
+requests_after network whole [] (one ∷ all) same = absurd (omega (arith, same))
+requests_after network whole (h ∷ handed) [] same = absurd (omega (arith, same))
+requests_after network whole (h ∷ handed) (one ∷ all) same =
+    let rest = requests_after network whole handed all (omega (arith, same)) in
+    let first = optional (λ p. (flow_at_edge p one.flow).0.0 ≡ one.flow.0.0) (passage_of network (bounds_of network whole) h) refl (λ p. refl) in
     λ i. first i ∷ rest i
 
 pub same_requests : (network : NetworkDomain) (found : List NetworkFlowText) (edge : EdgeFlowsText) → edge_flows network found ≡ Ok edge →
@@ -325,7 +325,7 @@ pub same_requests : (network : NetworkDomain) (found : List NetworkFlowText) (ed
 same_requests network found edge h =
     let e = stepped {B = EdgeFlowsText} (handed_of_all network found) (λ (handed : List (Option Handed)). Ok (edges_with network found handed)) edge h in
     subst (λ (x : EdgeFlowsText). asks_of x.flows ≡ asks_of (flows_in_file found)) (same_ok (edges_with network found e.0) edge e.2)
-    (requests_behind network e.0 e.0 found (handed_each network found e.0 e.1))
+    (requests_after network e.0 e.0 found (handed_each network found e.0 e.1))
 
 -- by access links
 edges_are_paced : (network : NetworkDomain) (text : List ℕ) (streams : List PlannedText) →

@@ -18,11 +18,11 @@ use Rattle.cqf_model.specs.History.{Asked, held_in, refused_if}
 use Rattle.cqf_model.specs.Limits.{most_every, streams_within}
 use Rattle.cqf_model.specs.Table.{cost_on, link_cost}
 use Rattle.cqf_admission.specs.Judging.{form_refusal}
-use Rattle.cqf_admission.specs.Turns.{AreOfGoodPaces, IsOfGoodPace}
+use Rattle.cqf_admission.specs.ActiveCycles.{AreOfGoodPaces, IsOfGoodPace}
 use Rattle.cqf_admission.proofs.GrantLemmas.{form_paced}
 use Rattle.cqf_admission.proofs.Paced.{good_held}
-use Rattle.cqf_admission.proofs.TurnLemmas.{asked_is_good}
-use Rattle.cqf_laws_history.proofs.Turns.{uses_again}
+use Rattle.cqf_admission.proofs.ActiveCycleLemmas.{asked_is_good}
+use Rattle.cqf_laws_history.proofs.ActiveCycles.{uses_again}
 use Rattle.cqf_program_plans.specs.Compile.Output.{stream_line}
 use Rattle.cqf_program_plans.specs.Load.Listing.{listed_row, listing_refusal}
 use Rattle.cqf_program_plans.specs.Load.Output.{listed_from}
@@ -61,7 +61,7 @@ module _ (rows : List Row) (good : AreOfGoodPaces rows) (l : ℕ) where
   cost_again : (cycle : ℕ) → link_cost rows l (cycle % most_every) ≡ link_cost rows l cycle
   cost_again cycle =
       fold_same (λ (n : ℕ) (row : Row). n + cost_on row l (cycle % most_every)) (λ (n : ℕ) (row : Row). n + cost_on row l cycle) 0 rows
-      (λ n row among. ap (λ (b : Bool). n + (if b then cost_of row.octets else 0)) (uses_again row.tree.items row.pace l cycle (good row among).divides))
+      (λ n row among. ap (λ (b : Bool). n + (if b then cost_of row.overhead row.octets else 0)) (uses_again row.tree.items row.pace l cycle (good row among).divides))
 
   repeated : AreRepeatedCosts rows l
   repeated = record {

@@ -14,7 +14,7 @@ use Rattle.cqf_model.specs.History.{Asked, pace_of, tree_of}
 use Rattle.cqf_model.specs.Run.{Run}
 use Rattle.cqf_model.specs.Shift.{IsCovered, offer_cycle}
 use Rattle.cqf_model.specs.Table.{table_of}
-use Rattle.cqf_model.specs.Traffic.{numbered}
+use Rattle.cqf_model.specs.Policing.{numbered}
 use Rattle.cqf_model.proofs.Texts.{is_text_itself, is_text_same}
 use Rattle.cqf_laws_history.specs.HistoryLaws.{TablesAreOrderly}
 use Rattle.cqf_laws_history.specs.StateLaws.{granted_row}
@@ -26,19 +26,19 @@ use Rattle.cqf_program_scenario.specs.Scenario.{Scenario}
 use Rattle.cqf_program_plans.specs.EndNames.{name_of_end}
 use Rattle.cqf_program_plans.specs.Latency.Input.{asked_in}
 use Rattle.cqf_program_plans.specs.Latency.Text.{is_station, listeners_of}
-use Rattle.cqf_program_runs.specs.Deliveries.ArrivalLaws.{EachIsToldOnce, EachListenerIsToldOnce}
+use Rattle.cqf_program_runs.specs.Deliveries.ArrivalLaws.{EachIsWrittenOnce, EachListenerIsWrittenOnce}
 use Rattle.cqf_program_runs.specs.Deliveries.{deadline_named, deliveries_of}
 use Rattle.cqf_program_runs.specs.Deliveries.PlannedScenario.{run_of_scenario}
 use Rattle.cqf_program_laws.specs.ScriptLaws.{HistoriesAdmitOnly, HistoriesAreLegal, ScriptsAskOnly}
 use Rattle.cqf_program_summary.specs.declared.summary.fares.Listener.{Listener}
-use Rattle.cqf_program_summary.specs.declared.summary.fares.ListenerWay.{ListenerWay}
-use Rattle.cqf_program_summary.specs.Summary.{Fare, deliveries_named, fare_of, listener_to, listeners_by, name_of_listener, offers_named, offers_within, way_to, ways_of}
+use Rattle.cqf_program_summary.specs.declared.summary.fares.ListenerPath.{ListenerPath}
+use Rattle.cqf_program_summary.specs.Summary.{Fare, deliveries_named, fare_of, listener_to, listeners_by, name_of_listener, offers_named, offers_within, path_to, paths_of}
 use Rattle.cqf_program_laws.specs.SummaryLaws.{IsReadRun, RowsAddUp}
-use Rattle.cqf_program_summary.specs.Summary.Told.{is_good, row_of_stream, row_unless, told_cost, told_streams}
+use Rattle.cqf_program_summary.specs.Summary.Written.{is_good, row_of_stream, row_unless, written_cost, written_streams}
 use Rattle.cqf_program_laws.proofs.Admitted.{admits_good, asks_firsts}
 use Rattle.cqf_program_laws.proofs.Balance.{four_counts, row_adds_up}
 use Rattle.cqf_program_laws.proofs.Firsts.{firsts}
-use Rattle.cqf_program_summary.proofs.OneMore.{told_apart}
+use Rattle.cqf_program_summary.proofs.OneMore.{written_apart}
 
 -- if there is none, nothing is refused
 pub no_refusal : (o : Option Refused) → is_none o ≡ true → o ≡ None
@@ -62,28 +62,28 @@ clash m n same differs = not_both (sym (is_text_itself m) ∙ ap (is_text m) sam
     not_both : true ≡ false → ⊥
     not_both e = absurd cc
 
-pub same_told : (requests : List Asked) (a b : Asked) → Contains (told_streams requests) a → Contains (told_streams requests) b → a.name ≡ b.name → a ≡ b
-same_told requests a b ca cb name =
-    one_of_pairs (λ (y z : Asked). is_text y.name z.name ≡ false) (told_streams requests) a b (told_apart requests) ca cb
+pub same_written : (requests : List Asked) (a b : Asked) → Contains (written_streams requests) a → Contains (written_streams requests) b → a.name ≡ b.name → a ≡ b
+same_written requests a b ca cb name =
+    one_of_pairs (λ (y z : Asked). is_text y.name z.name ≡ false) (written_streams requests) a b (written_apart requests) ca cb
     (clash a.name b.name name) (clash b.name a.name (sym name))
 
 module _ (rows : RowsAreOfList) (cycles : ℕ) (s : Scenario) (requests : List Asked)
-    (only : AdmitsOnly (filter (is_good s.domain) (told_streams requests)) (history_of cycles s)) where
+    (only : AdmitsOnly (filter (is_good s.domain) (written_streams requests)) (history_of cycles s)) where
   abbrev d : Domain
   d = s.domain
 
   abbrev run : Run
   run = run_of_scenario cycles s
 
-  pub own_row : (asked : Asked) → Contains (told_streams requests) asked → (x : Offered) (row : Row) → IsCovered run x row →
+  pub own_row : (asked : Asked) → Contains (written_streams requests) asked → (x : Offered) (row : Row) → IsCovered run x row →
       is_text x.offer.stream asked.name ≡ true → IsOwnRow d asked row
-  own_row asked told x row covered own =
+  own_row asked reported x row covered own =
       let named = find_member (λ (r : Row). is_text r.name x.offer.stream) (table_of run.tables (offer_cycle d x)) row covered.named in
-      let of = rows d (history_of cycles s) (filter (is_good d) (told_streams requests)) cycles (offer_cycle d x) row only named.0 in
-      let listed = contains_from_filter (is_good d) (told_streams requests) of.asked of.listed in
+      let of = rows d (history_of cycles s) (filter (is_good d) (written_streams requests)) cycles (offer_cycle d x) row only named.0 in
+      let listed = contains_from_filter (is_good d) (written_streams requests) of.asked of.listed in
       let name : of.asked.name ≡ asked.name =
       sym of.name ∙ is_text_same row.name x.offer.stream named.1 ∙ is_text_same x.offer.stream asked.name own in
-      let one : of.asked ≡ asked = same_told requests of.asked asked listed.0 told name in
+      let one : of.asked ≡ asked = same_written requests of.asked asked listed.0 reported name in
       record {
         good = ap (is_good d) (sym one) ∙ listed.1;
         tree = of.tree ∙ ap (λ (a : Asked). tree_of d a.paths) one;
@@ -92,10 +92,10 @@ module _ (rows : RowsAreOfList) (cycles : ℕ) (s : Scenario) (requests : List A
 
   -- so it leads to each listed listener
   pub leads_by : (asked : Asked) (row : Row) (to : Option Listener) → IsOwnRow d asked row →
-      Contains (listeners_by d (told_cost d (told_streams requests) asked) (row_of_stream d asked)) to →
+      Contains (listeners_by d (written_cost d (written_streams requests) asked) (row_of_stream d asked)) to →
       (hop : Hop) × Contains (listeners_of d row) hop × (name_of_listener to ≡ Some (name_of_end d hop.link))
   leads_by asked row to own among =
-      let cost = told_cost d (told_streams requests) asked in
+      let cost = written_cost d (written_streams requests) asked in
       let there : Contains (listeners_by d cost (Some (granted_row d 0 0 asked))) to =
       subst (λ (o : Option Row). Contains (listeners_by d cost o) to) (good_row d asked own.good) among in
       let found = contains_from_map (λ (hop : Hop). Some (listener_to d cost hop)) (listeners_of d (granted_row d 0 0 asked)) to there in (
@@ -106,33 +106,33 @@ module _ (rows : RowsAreOfList) (cycles : ℕ) (s : Scenario) (requests : List A
 
 -- of a script over its streams
 module _ (asks : ScriptsAskOnly) (histories : HistoriesAdmitOnly) (legal_of : HistoriesAreLegal) where
-  pub admits_told : (limits : Limits) (cycles : ℕ) (input : List ℕ) (s : Scenario) (streams : List PlannedText) (book : Contents) →
-      IsReadRun limits cycles input s streams book → AdmitsOnly (filter (is_good s.domain) (told_streams (asked_in streams))) (history_of cycles s)
-  admits_told limits cycles input s streams book is =
+  pub admits_written : (limits : Limits) (cycles : ℕ) (input : List ℕ) (s : Scenario) (streams : List PlannedText) (book : Contents) →
+      IsReadRun limits cycles input s streams book → AdmitsOnly (filter (is_good s.domain) (written_streams (asked_in streams))) (history_of cycles s)
+  admits_written limits cycles input s streams book is =
       admits_good s.domain (history_of cycles s) (asked_in streams) (legal_of cycles s is.short is.may.room)
       (histories cycles s (firsts (asked_in streams)) (asks_firsts asks limits cycles input (s, streams) is.read))
 
-  pub rows_add_up : RowsAreOfList → TablesAreOrderly → EachIsToldOnce → EachListenerIsToldOnce → RowsAddUp
-  rows_add_up rows orderly once listeners limits cycles input s streams book fare way is of =
+  pub rows_add_up : RowsAreOfList → TablesAreOrderly → EachIsWrittenOnce → EachListenerIsWrittenOnce → RowsAddUp
+  rows_add_up rows orderly once listeners limits cycles input s streams book fare path is of =
       let d = s.domain in
       let requests = asked_in streams in
       let run = run_of_scenario cycles s in
       let entries = history_of cycles s in
-      let told = told_streams requests in
-      let cost = told_cost d told in
+      let reported = written_streams requests in
+      let cost = written_cost d reported in
       let offers = offers_within d (length run.tables) (numbered run.offers) in
       let ds = deliveries_of run streams book in
-      let only = admits_told limits cycles input s streams book is in
-      let stream = contains_from_map (fare_of d cost (deadline_named streams) offers ds) told fare of.0 in
+      let only = admits_written limits cycles input s streams book is in
+      let stream = contains_from_map (fare_of d cost (deadline_named streams) offers ds) reported fare of.0 in
       let asked : Asked = stream.0 in
-      let of_it : Contains (ways_of d (cost asked) (deliveries_named asked.name ds) (row_of_stream d asked)) way =
-      subst (λ (f : Fare). Contains f.ways way) (sym stream.2) of.1 in
-      let listener = contains_from_map (way_to (deliveries_named asked.name ds)) (listeners_by d (cost asked) (row_of_stream d asked)) way of_it in
+      let of_it : Contains (paths_of d (cost asked) (deliveries_named asked.name ds) (row_of_stream d asked)) path =
+      subst (λ (f : Fare). Contains f.paths path) (sym stream.2) of.1 in
+      let listener = contains_from_map (path_to (deliveries_named asked.name ds)) (listeners_by d (cost asked) (row_of_stream d asked)) path of_it in
       let to : Option Listener = listener.0 in
       let whole = row_adds_up run streams book is.is_book.promise.says is.domain
       (orderly d entries cycles (legal_of cycles s is.short is.may.room) is.is_book.is_book.sealed) once listeners asked.name (name_of_listener to)
       (λ x row covered own. leads_by rows cycles s requests only asked row to (own_row rows cycles s requests only asked stream.1 x row covered own) listener.1) in
       let four = four_counts (name_of_listener to) (deliveries_named asked.name ds) in
-      subst (λ (f : Fare). f.offered ≡ way.tally.delivered + way.tally.late + f.dropped + way.tally.under_way) stream.2
-      (subst (λ (w : ListenerWay). offers_named asked.name offers ≡ w.tally.delivered + w.tally.late
+      subst (λ (f : Fare). f.offered ≡ path.tally.delivered + path.tally.late + f.dropped + path.tally.under_way) stream.2
+      (subst (λ (w : ListenerPath). offers_named asked.name offers ≡ w.tally.delivered + w.tally.late
       + (fare_of d cost (deadline_named streams) offers ds asked).dropped + w.tally.under_way) listener.2 (sym (four ∙ whole)))

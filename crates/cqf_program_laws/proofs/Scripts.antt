@@ -24,9 +24,9 @@ use Rattle.cqf_network.specs.NetworkDomain.{NetworkDomain}
 use Rattle.cqf_admission.specs.Asking.{asked_by}
 use Rattle.cqf_admission.specs.declared.faults.ScriptFault.{ScriptFault}
 use Rattle.cqf_admission.specs.declared.faults.ScriptFault.TheVariants.{BadLine, UnknownStream, TooMany}
-use Rattle.cqf_admission.specs.Lines.{Written, is_seal_line, order_behind, order_of_line, seat_of_digit, word_behind}
+use Rattle.cqf_admission.specs.Lines.{Written, is_seal_line, order_after, order_of_line, seat_of_digit, word_after}
 use Rattle.cqf_admission.specs.Script.{Called, act_for, administrators, call_of_line, call_of_order, call_of_seal}
-use Rattle.cqf_admission.specs.Script.{called_behind, calls_from, request_named, script_of, sealed_behind}
+use Rattle.cqf_admission.specs.Script.{called_after, calls_from, request_named, script_of, sealed_after}
 use Rattle.cqf_laws_timing.proofs.Listed.{none_admits_only}
 use Rattle.cqf_laws_timing.specs.Asking.{AsksOnly, CallsAdmitOnly, SeatsAdmitOnly}
 use Rattle.cqf_output.specs.Stops.{or_line}
@@ -35,7 +35,7 @@ use Rattle.cqf_program_scenario.specs.Lines.{script_line, streams_line}
 use Rattle.cqf_program_scenario.specs.Networks.{domain_of, domain_of_part, network_of_part}
 use Rattle.cqf_program_scenario.specs.Parting.{calls_from_seal, closes, commands_by, is_command_of, opening_calls}
 use Rattle.cqf_program_scenario.specs.Parts.{RunTexts, run_parts}
-use Rattle.cqf_program_scenario.specs.Scenario.{Scenario, calls_in, frames_of_part, scenario_behind}
+use Rattle.cqf_program_scenario.specs.Scenario.{Scenario, calls_in, frames_of_part, scenario_after}
 use Rattle.cqf_program_plans.specs.Latency.Input.{asked_in}
 use Rattle.cqf_program_plans.proofs.CompileLemmas.{same_ok}
 use Rattle.cqf_program_runs.specs.Deliveries.PlannedScenario.{planned_of_part, planned_scenario, planned_scenario_of}
@@ -114,12 +114,12 @@ word_asks requests make None each order e act h = absurd (cc)
 word_asks requests make (Some word) each order e act h =
     each word act (ap (λ (o : Written). act_for requests o.wish o.name) (same_Some (make word) order e) ∙ h)
 
-seat_asks : (requests : List Asked) (rest : List ℕ) (seat : Option ℕ) → AsksAtMost requests (option_and_then (order_behind rest) seat)
+seat_asks : (requests : List Asked) (rest : List ℕ) (seat : Option ℕ) → AsksAtMost requests (option_and_then (order_after rest) seat)
 seat_asks requests rest None = λ order e act h. absurd (cc)
 seat_asks requests rest (Some seat) =
     either_asks requests _ _
-    (word_asks requests _ (word_behind (codes " admit ") rest) (λ word act h. named_asks requests word act (request_named requests word) refl h))
-    (word_asks requests _ (word_behind (codes " withdraw ") rest) (λ word act h. withdrawn_asks requests word act h))
+    (word_asks requests _ (word_after (codes " admit ") rest) (λ word act h. named_asks requests word act (request_named requests word) refl h))
+    (word_asks requests _ (word_after (codes " withdraw ") rest) (λ word act h. withdrawn_asks requests word act h))
 
 line_orders : (requests : List Asked) (line : List ℕ) → AsksAtMost requests (order_of_line line)
 line_orders requests [] = λ order e act h. absurd (cc)
@@ -154,13 +154,13 @@ lines_ask requests seat cycles number sealed called [] calls h call c =
     absurd (contains_none call (subst (λ (xs : List Called). Contains xs call) none c))
 lines_ask requests seat cycles number sealed called (line ∷ lines) calls h call c =
     let first = call_of_line requests seat cycles number sealed called line in
-    let rest = calls_from requests seat cycles (number + 1) (sealed_behind sealed line) (called_behind called line) lines in
+    let rest = calls_from requests seat cycles (number + 1) (sealed_after sealed line) (called_after called line) lines in
     let p = parted first rest calls h in
     elim (contains_cases p.0 p.1 call (subst (λ (xs : List Called). Contains xs call) p.4 c)) [
       | inl e ↦ subst (λ (z : Called). AsksOnly requests z.1) e
           (line_asks requests seat cycles number sealed called line p.0 (is_seal_line line) p.2)
       | inr later ↦
-          lines_ask requests seat cycles (number + 1) (sealed_behind sealed line) (called_behind called line) lines p.1 p.3 call later
+          lines_ask requests seat cycles (number + 1) (sealed_after sealed line) (called_after called line) lines p.1 p.3 call later
     ]
 
 pub scripts_ask_only : ScriptsAskOnly
@@ -200,9 +200,9 @@ scenarios_ask_only limits cycles texts s requests h streams =
     (subst (λ (found : List PacedText). AskOnly (map asked_by found) b.0) read (scripts_ask_only (map asked_by e.0) cycles texts.script b.0 calls))
 
 -- the calls of a scenario after its domain and its streams
-behind_ask : (cycles : ℕ) (d : Domain) (streams : List Asked) (texts : RunTexts) (s : Scenario) → scenario_behind cycles d streams texts ≡ Ok s →
+after_ask : (cycles : ℕ) (d : Domain) (streams : List Asked) (texts : RunTexts) (s : Scenario) → scenario_after cycles d streams texts ≡ Ok s →
     AskOnly streams s.calls
-behind_ask cycles d streams texts s h =
+after_ask cycles d streams texts s h =
     let b = stepped {B = Scenario} (or_line script_line (script_of streams cycles texts.script)) (made_by texts d) s h in
     subst (λ (xs : List Called). AskOnly streams xs) (made_calls texts d b.0 s b.2)
     (scripts_ask_only streams cycles texts.script b.0 (lined script_line (script_of streams cycles texts.script) b.0 b.1))
@@ -215,7 +215,7 @@ abbrev pub with_scenario : List PlannedText → Scenario → Result Read (List �
 with_scenario found scenario = Ok (scenario, found)
 
 abbrev pub with_streams : ℕ → RunTexts → Domain → List PlannedText → Result Read (List ℕ)
-with_streams cycles texts d found = and_then (scenario_behind cycles d (asked_in found) texts) (with_scenario found)
+with_streams cycles texts d found = and_then (scenario_after cycles d (asked_in found) texts) (with_scenario found)
 
 abbrev pub with_network : ℕ → RunTexts → NetworkDomain → Result Read (List ℕ)
 with_network cycles texts network = and_then (planned_of_part network texts.streams) (with_streams cycles texts (domain_of network))
@@ -225,14 +225,14 @@ pub record IsReadOf (limits : Limits) (cycles : ℕ) (texts : RunTexts) (read : 
   pub network : NetworkDomain
   pub is_network : network_of_part limits texts.domain ≡ Ok network
   pub streams : planned_of_part network texts.streams ≡ Ok read.1
-  pub scenario : scenario_behind cycles (domain_of network) (asked_in read.1) texts ≡ Ok read.0
+  pub scenario : scenario_after cycles (domain_of network) (asked_in read.1) texts ≡ Ok read.0
 
 pub read_of_parts : (limits : Limits) (cycles : ℕ) (texts : RunTexts) (read : Read) → planned_scenario_of limits cycles texts ≡ Ok read →
     IsReadOf limits cycles texts read
 read_of_parts limits cycles texts read h =
     let a = stepped {B = Read} (network_of_part limits texts.domain) (with_network cycles texts) read h in
     let b = stepped {B = Read} (planned_of_part a.0 texts.streams) (with_streams cycles texts (domain_of a.0)) read a.2 in
-    let c = stepped {B = Read} (scenario_behind cycles (domain_of a.0) (asked_in b.0) texts) (with_scenario b.0) read b.2 in
+    let c = stepped {B = Read} (scenario_after cycles (domain_of a.0) (asked_in b.0) texts) (with_scenario b.0) read b.2 in
     let made : Read = (c.0, b.0) in
     subst (IsReadOf limits cycles texts) (same_ok made read c.2) (record { network = a.0; is_network = a.1; streams = b.1; scenario = c.1 })
 
@@ -240,7 +240,7 @@ planned_ask : (limits : Limits) (cycles : ℕ) (input : List ℕ) (read : Read) 
 planned_ask limits cycles input read h =
     let t = stepped {B = Read} (run_parts (parts_of input)) (planned_scenario_of limits cycles) read h in
     let of = read_of_parts limits cycles t.0 read t.2 in
-    behind_ask cycles (domain_of of.network) (asked_in read.1) t.0 read.0 of.scenario
+    after_ask cycles (domain_of of.network) (asked_in read.1) t.0 read.0 of.scenario
 
 pub planned_scenarios_ask_only : PlannedScenariosAskOnly
 planned_scenarios_ask_only limits cycles input s streams h = planned_ask limits cycles input (s, streams) h

@@ -3,7 +3,7 @@ pub mod VerdictLaws
 pub mod PlanLaws
 pub mod SummaryLaws
 pub mod ReaderLaws
-pub mod ToldPlans
+pub mod WrittenPlans
 pub mod OutputLaws
 pub mod CostLaws
 pub mod TalkerLaws

@@ -19,11 +19,11 @@ use Rattle.cqf_edge.specs.EdgeFlows.{EdgeFlowsText, edge_flows}
 use Rattle.cqf_program_scenario.specs.Networks.{domain_of, network_of_part}
 use Rattle.cqf_program_scenario.specs.Parts.{RunTexts, run_parts, two_parts}
 use Rattle.cqf_program_plans.specs.declared.latency.latencies.Latency.{Latency}
-use Rattle.cqf_program_plans.specs.declared.latency.latencies.Verdict.TheVariants as told
+use Rattle.cqf_program_plans.specs.declared.latency.latencies.Verdict.TheVariants as reported
 use Rattle.cqf_program_plans.specs.Compile.Output.{admitted_from}
 use Rattle.cqf_program_plans.specs.Edges.{open_edges_of_part}
 use Rattle.cqf_program_plans.specs.Latency.Input.{asked_in, latency_of_input}
-use Rattle.cqf_program_plans.specs.Latency.Text.{deadline_of, latencies_from, latencies_of_row, latency_behind, text_of_latency, times_of, verdict_on_deadline}
+use Rattle.cqf_program_plans.specs.Latency.Text.{deadline_of, latencies_from, latencies_of_row, latency_from_talker, text_of_latency, times_of, verdict_on_deadline}
 use Rattle.cqf_program_planning.specs.declared.choosing.Search.{Search}
 use Rattle.cqf_program_planning.specs.PlanOutput.{IsPlanOf}
 use Rattle.cqf_program_runs.specs.declared.deliveries.delivery.Delivery.{Delivery}
@@ -35,7 +35,7 @@ use Rattle.cqf_program_runs.specs.Deliveries.{deliveries_of, fate_of, latency_of
 use Rattle.cqf_program_runs.specs.Deliveries.Output.{IsDeliveriesOutput}
 use Rattle.cqf_program_runs.specs.Deliveries.PlannedScenario.{planned_of_part, run_of_scenario}
 use Rattle.cqf_program_runs.specs.Run.Output.{IsRunOutput}
-use Rattle.cqf_program_summary.specs.declared.summary.fares.ListenerWay.{ListenerWay}
+use Rattle.cqf_program_summary.specs.declared.summary.fares.ListenerPath.{ListenerPath}
 use Rattle.cqf_program_summary.specs.declared.summary.tallies.LatencySummary.{LatencySummary}
 use Rattle.cqf_program_summary.specs.Summary.{Fare}
 use Rattle.cqf_program_summary.specs.Summary.Output.{IsSummaryOutput}
@@ -43,7 +43,7 @@ use Rattle.cqf_program_threads.specs.ThreadsOutput.{IsThreadsOutput}
 use Rattle.cqf_program_laws.specs.PlanLaws.{PlanKeepsItsWord}
 use Rattle.cqf_program_laws.specs.SummaryLaws.{AreWithinBounds, CountsEachOnce, IsRowOf}
 use Rattle.cqf_program_laws.specs.TalkerLaws.{NetworkKeepsItsWord}
-use Rattle.cqf_program_laws.specs.ToldPlans.{AreShallow}
+use Rattle.cqf_program_laws.specs.WrittenPlans.{AreShallow}
 use Rattle.cqf_program_laws.specs.VerdictLaws.{IsDeliveryTo}
 
 -- the input of a run begins with these texts of a domain and of streams
@@ -69,18 +69,18 @@ pub record TextKeepsItsWord (limits : Limits) (text : List ℕ) (run : Run) (cyc
   pub from_talkers : NetworkKeepsItsWord network found edge run cycles book
 
 -- each text that `plan` writes keeps its word in each output of `run` whose input begins with it, as both the domain and the streams
-abbrev pub RunsKeepToldPlans : Type 0
-RunsKeepToldPlans =
+abbrev pub RunsKeepWrittenPlans : Type 0
+RunsKeepWrittenPlans =
     (limits : Limits) (search : Search) (given : Option (List ℕ)) (network text : List ℕ) (cycles : ℕ) (input output : List ℕ) → IfSome given AreCandidates →
-    AreShallow network → IsPlanOf limits false search given network (Ok text) → BeginsWith text text input → cycles ≤ most_cycles → (told : IsRunOutput limits cycles input output) →
-    TextKeepsItsWord limits text (run_of_scenario cycles told.scenario) cycles told.book
+    AreShallow network → IsPlanOf limits false search given network (Ok text) → BeginsWith text text input → cycles ≤ most_cycles → (reported : IsRunOutput limits cycles input output) →
+    TextKeepsItsWord limits text (run_of_scenario cycles reported.scenario) cycles reported.book
 
 -- and in each output of `run --threads`
-abbrev pub ThreadsKeepToldPlans : Type 0
-ThreadsKeepToldPlans =
+abbrev pub ThreadsKeepWrittenPlans : Type 0
+ThreadsKeepWrittenPlans =
     (limits : Limits) (search : Search) (given : Option (List ℕ)) (network text : List ℕ) (cycles : ℕ) (input output : List ℕ) → IfSome given AreCandidates →
-    AreShallow network → IsPlanOf limits false search given network (Ok text) → BeginsWith text text input → (told : IsThreadsOutput limits cycles input output) →
-    TextKeepsItsWord limits text (run_of_history told.scenario.domain told.entries told.scenario.offers told.scenario.background cycles) cycles told.book
+    AreShallow network → IsPlanOf limits false search given network (Ok text) → BeginsWith text text input → (reported : IsThreadsOutput limits cycles input output) →
+    TextKeepsItsWord limits text (run_of_history reported.scenario.domain reported.entries reported.scenario.offers reported.scenario.background cycles) cycles reported.book
 
 -- ---- verdicts
 
@@ -95,18 +95,18 @@ IsHandedBefore (Some times) at offered = (at + times.least ≤ offered) × (offe
 pub record IsAsJudgedFrom (times : Option AccessTimes) (latency : Latency) (delivery : Delivery) : Type 0 where
   pub within : (journey : Journey) (whole : Nanos) (at : ℕ) → delivery.passage ≡ passage.Goes journey → journey.whole ≡ Some whole →
       IsHandedBefore times at delivery.at.0 → (latency.least ≤ latency_of at whole) × (latency_of at whole ≤ latency.most)
-  pub in_time : verdict_on_deadline latency ≡ Some told.InTime → fate_of delivery ≡ fate.Late → ⊥
-  pub late : verdict_on_deadline latency ≡ Some told.Late → has_come (fate_of delivery) ≡ true → fate_of delivery ≡ fate.Late
+  pub in_time : verdict_on_deadline latency ≡ Some reported.InTime → fate_of delivery ≡ fate.Late → ⊥
+  pub late : verdict_on_deadline latency ≡ Some reported.Late → has_come (fate_of delivery) ≡ true → fate_of delivery ≡ fate.Late
 
 -- the latencies of a row that `latency` writes, from the bridge or the station at which its stream begins
-abbrev pub latencies_told_of : Domain → List Row → EdgeFlowsText → Row → List Latency
-latencies_told_of d rows edge row =
-    map (latency_behind (times_of edge.times row.no)) (latencies_of_row d rows row (deadline_of edge.deadlines row.no))
+abbrev pub latencies_written_of : Domain → List Row → EdgeFlowsText → Row → List Latency
+latencies_written_of d rows edge row =
+    map (latency_from_talker (times_of edge.times row.no)) (latencies_of_row d rows row (deadline_of edge.deadlines row.no))
 
 -- each of some deliveries to a listener of one of these latencies is so
 abbrev pub AreAsJudgedFrom : Domain → List Row → EdgeFlowsText → List Delivery → Type 0
 AreAsJudgedFrom d rows edge deliveries = (row : Row) (latency : Latency) (delivery : Delivery) → Contains rows row →
-    Contains (latencies_told_of d rows edge row) latency → Contains deliveries delivery → IsDeliveryTo latency delivery →
+    Contains (latencies_written_of d rows edge row) latency → Contains deliveries delivery → IsDeliveryTo latency delivery →
     IsAsJudgedFrom (times_of edge.times row.no) latency delivery
 
 -- an output of `latency` is the text of the latencies of a network's streams, from where they begin. At their edge bridges they are all admitted
@@ -130,8 +130,8 @@ abbrev pub DeliveriesAreAsWritten : Type 0
 DeliveriesAreAsWritten =
     (limits : Limits) (strict : Bool) (domain streams plan written : List ℕ) (cycles : ℕ) (input output : List ℕ) → HasTexts domain streams plan →
     latency_of_input limits strict plan ≡ Ok written → BeginsWith domain streams input → cycles ≤ most_cycles →
-    (told : IsDeliveriesOutput limits cycles input output) →
-    AreAsWritten limits domain streams written (deliveries_of (run_of_scenario cycles told.found.0) told.found.1 told.book)
+    (reported : IsDeliveriesOutput limits cycles input output) →
+    AreAsWritten limits domain streams written (deliveries_of (run_of_scenario cycles reported.found.0) reported.found.1 reported.book)
 
 -- and so are those in the book of each output of `run --threads`
 abbrev pub ThreadsAreAsWritten : Type 0
@@ -139,9 +139,9 @@ ThreadsAreAsWritten =
     (limits : Limits) (strict : Bool) (domain streams plan written : List ℕ) (cycles : ℕ) (input output : List ℕ) (network : NetworkDomain)
     (planned : List PlannedText) → HasTexts domain streams plan → latency_of_input limits strict plan ≡ Ok written →
     network_of_part limits domain ≡ Ok network → planned_of_part network streams ≡ Ok planned → BeginsWith domain streams input →
-    (told : IsThreadsOutput limits cycles input output) →
+    (reported : IsThreadsOutput limits cycles input output) →
     AreAsWritten limits domain streams written
-    (deliveries_of (run_of_history told.scenario.domain told.entries told.scenario.offers told.scenario.background cycles) planned told.book)
+    (deliveries_of (run_of_history reported.scenario.domain reported.entries reported.scenario.offers reported.scenario.background cycles) planned reported.book)
 
 -- ---- summaries
 
@@ -149,20 +149,20 @@ ThreadsAreAsWritten =
 -- together
 abbrev pub WrittenRowsAddUp : Type 0
 WrittenRowsAddUp =
-    (limits : Limits) (cycles : ℕ) (input output : List ℕ) (fare : Fare) (way : ListenerWay) → cycles ≤ most_cycles →
-    (told : IsSummaryOutput limits cycles input output) → IsRowOf cycles told.found.0 told.found.1 told.book fare way →
-    fare.offered ≡ way.tally.delivered + way.tally.late + fare.dropped + way.tally.under_way
+    (limits : Limits) (cycles : ℕ) (input output : List ℕ) (fare : Fare) (path : ListenerPath) → cycles ≤ most_cycles →
+    (reported : IsSummaryOutput limits cycles input output) → IsRowOf cycles reported.found.0 reported.found.1 reported.book fare path →
+    fare.offered ≡ path.tally.delivered + path.tally.late + fare.dropped + path.tally.under_way
 
 -- each number of such a row is that of the offers that end in one way, and each of these ends in exactly one
 abbrev pub WrittenOffersCountOnce : Type 0
 WrittenOffersCountOnce =
-    (limits : Limits) (cycles : ℕ) (input output : List ℕ) (fare : Fare) (way : ListenerWay) → cycles ≤ most_cycles →
-    (told : IsSummaryOutput limits cycles input output) → IsRowOf cycles told.found.0 told.found.1 told.book fare way →
-    CountsEachOnce (run_of_scenario cycles told.found.0) told.found.1 told.book fare way
+    (limits : Limits) (cycles : ℕ) (input output : List ℕ) (fare : Fare) (path : ListenerPath) → cycles ≤ most_cycles →
+    (reported : IsSummaryOutput limits cycles input output) → IsRowOf cycles reported.found.0 reported.found.1 reported.book fare path →
+    CountsEachOnce (run_of_scenario cycles reported.found.0) reported.found.1 reported.book fare path
 
 -- and its times are within the bounds of `latency`
 abbrev pub WrittenLatenciesAreBounded : Type 0
 WrittenLatenciesAreBounded =
-    (limits : Limits) (cycles : ℕ) (input output : List ℕ) (fare : Fare) (way : ListenerWay) (taken : LatencySummary) → cycles ≤ most_cycles →
-    (told : IsSummaryOutput limits cycles input output) → IsRowOf cycles told.found.0 told.found.1 told.book fare way →
-    way.tally.taken ≡ Some taken → AreWithinBounds told.found.0.domain (asked_in told.found.1) fare way taken
+    (limits : Limits) (cycles : ℕ) (input output : List ℕ) (fare : Fare) (path : ListenerPath) (taken : LatencySummary) → cycles ≤ most_cycles →
+    (reported : IsSummaryOutput limits cycles input output) → IsRowOf cycles reported.found.0 reported.found.1 reported.book fare path →
+    path.tally.taken ≡ Some taken → AreWithinBounds reported.found.0.domain (asked_in reported.found.1) fare path taken

@@ -14,10 +14,10 @@ use Rattle.cqf_model.specs.HistoryBook.{run_of_history}
 use Rattle.cqf_model.specs.Limits.{most_cycles}
 use Rattle.cqf_model.specs.Loose.{slack_of}
 use Rattle.cqf_model.specs.Network.{Network}
-use Rattle.cqf_model.specs.Paces.{is_turn}
+use Rattle.cqf_model.specs.Paces.{is_active}
 use Rattle.cqf_model.specs.Run.{Run}
 use Rattle.cqf_model.specs.Shift.{IsCovered, offer_cycle}
-use Rattle.cqf_model.specs.Traffic.{Carried, whole_at}
+use Rattle.cqf_model.specs.Policing.{Carried, whole_at}
 use Rattle.cqf_laws_timing.specs.Latency.{whole_of}
 use Rattle.cqf_laws_timing.specs.Listeners.{EndsAtListener}
 use Rattle.cqf_laws_timing.specs.Covered.{IsAtItsEdge, own_offers}
@@ -31,7 +31,7 @@ use Rattle.cqf_traffic.specs.TrafficText.{TrafficText, promise_of}
 use Rattle.cqf_program_scenario.specs.Books.{IsBookOfScenario}
 use Rattle.cqf_program_scenario.specs.Closing.{MayBeRun}
 use Rattle.cqf_program_scenario.specs.Opening.{opening_history}
-use Rattle.cqf_program_scenario.specs.Parting.{AreCommandsBehind}
+use Rattle.cqf_program_scenario.specs.Parting.{AreCommandsAfter}
 use Rattle.cqf_program_scenario.specs.Scenario.{Scenario}
 use Rattle.cqf_program_plans.specs.declared.latency.latencies.Latency.{Latency}
 use Rattle.cqf_program_plans.specs.Compile.Output.{admitted_from}
@@ -44,7 +44,7 @@ use Rattle.cqf_program_runs.specs.Deliveries.PlannedScenario.{planned_scenario, 
 pub record IsKeptPlan (d : Domain) (flows : List FlowText) : Type 0 where
   pub entries : List Recorded
   pub admitted : admitted_from d [] 1 (map asked_in flows) ≡ Ok entries
-  pub enough : All (λ (flow : FlowText). ForSome flow.1 (λ (t : TrafficText). needed d.cycle_time (promise_of t) ≤ flow.0.0.octets)) flows
+  pub enough : All (λ (flow : FlowText). ForSome flow.1 (λ (t : TrafficText). needed d.overhead d.cycle_time (promise_of t) ≤ flow.0.0.octets)) flows
   pub in_time : All (λ (latency : Latency). is_not_sure latency ≡ false)
       (latencies_of d (held_in d entries 0) (map (λ (flow : FlowText). flow.0.1) flows))
 
@@ -56,13 +56,13 @@ pub record IsPromised (run : Run) (flows : List FlowText) (flow : FlowText) (t :
   pub is_traffic : IsTraffic (promise_of t)
   pub name : row.name ≡ flow.0.0.name
   pub at_edge : IsAtItsEdge run x row
-  pub in_turn : is_turn (pace_of (asked_in flow)) 0 (offer_cycle run.domain x) ≡ true
+  pub in_turn : is_active (pace_of (asked_in flow)) 0 (offer_cycle run.domain x) ≡ true
   pub keeps : Conforms (promise_of t) (offers_named flow.0.0.name run.offers) ⊎ Conforms (promise_of t) (own_offers run row.no)
 
 -- the frame leaves on a link with this hop number as many cycles after its own cycle, and is whole at the link's end within the plan's
 -- bounds; and within the given deadline after an instant, if there is a deadline
-pub record ArrivesWithin (d : Domain) (streams : List Asked) (asked : Asked) (book : Contents) (x : Offered) (depth link since : ℕ) (deadline : Option ℕ) : Type 0 where
-  pub arrival : ArrivesInTime d streams asked book x depth link
+pub record ArrivesWithin (d : Domain) (streams : List Asked) (asked : Asked) (book : Contents) (x : Offered) (hop_number link since : ℕ) (deadline : Option ℕ) : Type 0 where
+  pub arrival : ArrivesInTime d streams asked book x hop_number link
   pub within : ForSome deadline (λ (most : ℕ). whole_of d arrival.start ≤ since + most)
 
 -- the last link of a branch, after `bridges` bridges, ends in its listener's station, and the frame arrives there within the deadline, if
@@ -100,9 +100,9 @@ PlansKeepTheirWord =
 
 -- in a loose network the frame leaves on a link with this hop number as many cycles after its own cycle, and is whole at the link's end, by the
 -- clock there, within the plan's bounds; and within the given deadline after an instant by the edge bridge's clock, if there is a deadline
-pub record HearsWithin (d : Domain) (streams : List Asked) (asked : Asked) (net : Network) (heard : Carried) (x : Offered) (depth link since : ℕ)
+pub record HearsWithin (d : Domain) (streams : List Asked) (asked : Asked) (net : Network) (heard : Carried) (x : Offered) (hop_number link since : ℕ)
     (deadline : Option ℕ) : Type 0 where
-  pub hearing : IsHeardInTime d streams asked net heard x depth link
+  pub hearing : IsHeardInTime d streams asked net heard x hop_number link
   pub within : ForSome deadline (λ (most : ℕ). whole_at d link hearing.h ≤ since + most)
 
 -- the same at the listener of a branch, if the run is long enough
@@ -138,6 +138,6 @@ PlansKeepTheirWordOnThreads =
     (limits : Limits) (cycles : ℕ) (input : List ℕ) (s : Scenario) (flows : List FlowText) (entries : List Recorded) (asked : List (List Act))
     (book : Contents) →
     planned_scenario limits cycles input ≡ Ok (s, map (λ (flow : FlowText). flow.0) flows) → IsAccepted s.domain → MayBeRun cycles s →
-    IsKeptPlan s.domain flows → AreCommandsBehind s.calls s.sealer asked →
+    IsKeptPlan s.domain flows → AreCommandsAfter s.calls s.sealer asked →
     IsAccountOf s.domain (opening_history s) s.offers s.background cycles asked entries book →
     PlanKeepsItsWord (run_of_history s.domain entries s.offers s.background cycles) flows cycles book

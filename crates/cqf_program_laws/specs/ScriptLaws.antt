@@ -12,7 +12,7 @@ use Rattle.cqf_laws_timing.specs.Streams.{AdmitsOnly}
 use Rattle.cqf_laws_timing.specs.Asking.{AsksOnly}
 use Rattle.cqf_program_scenario.specs.Calls.{HasRoom, history_of}
 use Rattle.cqf_program_scenario.specs.Opening.{opening_history}
-use Rattle.cqf_program_scenario.specs.Parting.{AreCommandsBehind}
+use Rattle.cqf_program_scenario.specs.Parting.{AreCommandsAfter}
 use Rattle.cqf_program_scenario.specs.Parts.{RunTexts}
 use Rattle.cqf_program_scenario.specs.Scenario.{Scenario, scenario_of}
 use Rattle.cqf_program_plans.specs.Latency.Input.{asked_in}
@@ -47,7 +47,7 @@ HistoriesAdmitOnly = (cycles : ℕ) (s : Scenario) (streams : List Asked) → As
 -- calls after that Seal
 abbrev pub AccountsAdmitOnly : Type 0
 AccountsAdmitOnly = (cycles : ℕ) (s : Scenario) (streams : List Asked) (asked : List (List Act)) (entries : List Recorded) → AskOnly streams s.calls →
-    AreCommandsBehind s.calls s.sealer asked → IsHistoryOf s.domain (opening_history s) asked cycles entries → AdmitsOnly streams entries
+    AreCommandsAfter s.calls s.sealer asked → IsHistoryOf s.domain (opening_history s) asked cycles entries → AdmitsOnly streams entries
 
 -- if there is room for the calls, their history is legal
 abbrev pub HistoriesAreLegal : Type 0

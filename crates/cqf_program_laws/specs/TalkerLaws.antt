@@ -13,10 +13,10 @@ use Rattle.cqf_model.specs.HistoryBook.{run_of_history}
 use Rattle.cqf_model.specs.Limits.{most_cycles}
 use Rattle.cqf_model.specs.Loose.{slack_of}
 use Rattle.cqf_model.specs.Network.{Network}
-use Rattle.cqf_model.specs.Paces.{is_turn}
+use Rattle.cqf_model.specs.Paces.{is_active}
 use Rattle.cqf_model.specs.Run.{Run}
 use Rattle.cqf_model.specs.Shift.{offer_cycle}
-use Rattle.cqf_model.specs.Traffic.{Carried}
+use Rattle.cqf_model.specs.Policing.{Carried}
 use Rattle.cqf_laws_timing.specs.Covered.{IsAtItsEdge, own_offers}
 use Rattle.cqf_laws_timing.specs.InTime.{IsBookOverList}
 use Rattle.cqf_laws_timing.specs.LooseStreams.{IsLooseHistory}
@@ -40,7 +40,7 @@ use Rattle.cqf_program_scenario.specs.Books.{IsBookOfScenario}
 use Rattle.cqf_program_scenario.specs.Closing.{MayBeRun}
 use Rattle.cqf_program_scenario.specs.Networks.{domain_of}
 use Rattle.cqf_program_scenario.specs.Opening.{opening_history}
-use Rattle.cqf_program_scenario.specs.Parting.{AreCommandsBehind}
+use Rattle.cqf_program_scenario.specs.Parting.{AreCommandsAfter}
 use Rattle.cqf_program_scenario.specs.Scenario.{Scenario}
 use Rattle.cqf_program_runs.specs.Deliveries.PlannedScenario.{planned_scenario, run_of_scenario}
 use Rattle.cqf_program_laws.specs.PlanLaws.{ComesAsPromised, IsHeardLoosely, IsKeptPlan, PlanKeepsItsWord}
@@ -53,7 +53,7 @@ pub record IsByAccess (network : NetworkDomain) (found : List NetworkFlowText) (
   pub there : slice_get found stream ≡ Some one
   pub at_edge : slice_get edge.flows stream ≡ Some flow
   pub hands : slice_get edge.handed stream ≡ Some (Some handed)
-  pub is_link : slice_get network.talkers handed.place ≡ Some link
+  pub is_link : slice_get network.talkers handed.index ≡ Some link
 
 -- what the station sends by that link. Of each stream of the file that is handed to the link and promises something, it hands over frames as
 -- promised; at most one other frame at a time is under way, which no stream promises, and none of these is larger than the link allows. It sends
@@ -61,7 +61,7 @@ pub record IsByAccess (network : NetworkDomain) (found : List NetworkFlowText) (
 pub record UsesAccess (edge : EdgeFlowsText) (handed : Handed) (link : TalkerLink) (streams : List AccessStream) (others : List Other) : Type 0 where
   pub sent : IsSent (link_used edge handed link) streams others
   pub in_turn : (s : AccessStream) → Contains streams s → AreInTurn (link_used edge handed link) s.crossings
-  pub promises : promises_of streams ≡ promises_in (handed_to handed.place edge.handed)
+  pub promises : promises_of streams ≡ promises_in (handed_to handed.index edge.handed)
 
 -- what it hands over of the stream: by the promise of the file, and none of its frames is shorter than the file says
 pub record IsHandedOver (one : NetworkFlowText) (handed : Handed) (streams : List AccessStream) (s : AccessStream) : Type 0 where
@@ -80,12 +80,12 @@ AreOffersOf run flow row offers = (offers ≡ offers_named flow.0.0.name run.off
 -- a frame that is handed over, at a place among those of its stream, comes as an offer in a cycle of the stream, at its edge bridge, while the stream
 -- is live
 pub record IsOfferedThere (run : Run) (edge : EdgeFlowsText) (handed : Handed) (link : TalkerLink) (flow : FlowText) (row : Row) (s : AccessStream)
-    (place : ℕ) (x : Crossing) (o : Offered) : Type 0 where
-  pub crossing : slice_get s.crossings place ≡ Some x
-  pub arrives : Arrives (link_used edge handed link) (delays_of link) 0 s.crossings place o.offer
+    (index : ℕ) (x : Crossing) (o : Offered) : Type 0 where
+  pub crossing : slice_get s.crossings index ≡ Some x
+  pub arrives : Arrives (link_used edge handed link) (delays_of link) 0 s.crossings index o.offer
   pub name : row.name ≡ flow.0.0.name
   pub at_edge : IsAtItsEdge run o row
-  pub in_turn : is_turn (pace_of (asked_in flow)) 0 (offer_cycle run.domain o) ≡ true
+  pub in_turn : is_active (pace_of (asked_in flow)) 0 (offer_cycle run.domain o) ≡ true
 
 -- all of these together
 pub record IsHandedInRun (network : NetworkDomain) (found : List NetworkFlowText) (run : Run) (edge : EdgeFlowsText) (one : NetworkFlowText) (flow : FlowText)
@@ -100,8 +100,8 @@ pub record IsHandedInRun (network : NetworkDomain) (found : List NetworkFlowText
   pub s : AccessStream
   pub over : IsHandedOver one handed streams s
   pub comes : ComesByAccess edge handed link s offers
-  pub place : ℕ
-  pub offered : IsOfferedThere run edge handed link flow row s place x o
+  pub index : ℕ
+  pub offered : IsOfferedThere run edge handed link flow row s index x o
 
 -- ---- what the network promises
 
@@ -154,7 +154,7 @@ abbrev pub NetworksKeepTheirWordOnThreads : Type 0
 NetworksKeepTheirWordOnThreads =
     (limits : Limits) (cycles : ℕ) (input : List ℕ) (network : NetworkDomain) (found : List NetworkFlowText) (edge : EdgeFlowsText) (s : Scenario)
     (entries : List Recorded) (asked : List (List Act)) (book : Contents) → IsKeptNetwork network found edge →
-    IsScenarioOver limits cycles input network edge s → AreCommandsBehind s.calls s.sealer asked →
+    IsScenarioOver limits cycles input network edge s → AreCommandsAfter s.calls s.sealer asked →
     IsAccountOf s.domain (opening_history s) s.offers s.background cycles asked entries book →
     NetworkKeepsItsWord network found edge (run_of_history s.domain entries s.offers s.background cycles) cycles book
 

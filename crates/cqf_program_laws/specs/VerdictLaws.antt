@@ -17,10 +17,10 @@ use Rattle.cqf_laws_timing.specs.Streams.{AdmitsOnly}
 use Rattle.cqf_program_scenario.specs.Books.{IsBookOfScenario}
 use Rattle.cqf_program_scenario.specs.Closing.{MayBeRun}
 use Rattle.cqf_program_scenario.specs.Opening.{opening_history}
-use Rattle.cqf_program_scenario.specs.Parting.{AreCommandsBehind}
+use Rattle.cqf_program_scenario.specs.Parting.{AreCommandsAfter}
 use Rattle.cqf_program_scenario.specs.Scenario.{Scenario}
 use Rattle.cqf_program_plans.specs.declared.latency.latencies.Latency.{Latency}
-use Rattle.cqf_program_plans.specs.declared.latency.latencies.Verdict.TheVariants as told
+use Rattle.cqf_program_plans.specs.declared.latency.latencies.Verdict.TheVariants as reported
 use Rattle.cqf_program_plans.specs.Compile.Output.{admitted_from}
 use Rattle.cqf_program_plans.specs.Latency.Input.{asked_in, deadlines_in}
 use Rattle.cqf_program_plans.specs.Latency.Text.{latencies_of, verdict_on_deadline}
@@ -44,8 +44,8 @@ pub record IsDeliveryTo (latency : Latency) (delivery : Delivery) : Type 0 where
 pub record IsAsJudged (latency : Latency) (delivery : Delivery) : Type 0 where
   pub within : (journey : Journey) (whole : Nanos) → delivery.passage ≡ passage.Goes journey → journey.whole ≡ Some whole →
       (latency.least ≤ latency_of delivery.at.0 whole) × (latency_of delivery.at.0 whole ≤ latency.most)
-  pub in_time : verdict_on_deadline latency ≡ Some told.InTime → fate_of delivery ≢ fate.Late
-  pub late : verdict_on_deadline latency ≡ Some told.Late → has_come (fate_of delivery) ≡ true → fate_of delivery ≡ fate.Late
+  pub in_time : verdict_on_deadline latency ≡ Some reported.InTime → fate_of delivery ≢ fate.Late
+  pub late : verdict_on_deadline latency ≡ Some reported.Late → has_come (fate_of delivery) ≡ true → fate_of delivery ≡ fate.Late
 
 -- each of some deliveries to a listener of one of some latencies is so
 abbrev pub AreAsJudged : List Latency → List Delivery → Type 0
@@ -54,8 +54,8 @@ AreAsJudged latencies deliveries = (latency : Latency) (delivery : Delivery) →
 
 -- the latencies of streams from their edge bridges, with their deadlines from there, if this is the history of their plan. If no stream enters by an
 -- access link, `latency` writes these
-abbrev pub latencies_told : Domain → List Recorded → List PlannedText → List Latency
-latencies_told d plan streams = latencies_of d (held_in d plan 0) (deadlines_in streams)
+abbrev pub printed_latencies : Domain → List Recorded → List PlannedText → List Latency
+printed_latencies d plan streams = latencies_of d (held_in d plan 0) (deadlines_in streams)
 
 -- if all streams of a plan are admitted, the deliveries in the book of each history that admits streams of the plan alone are as these
 -- latencies say, with any other calls, any offers and any background frames
@@ -65,7 +65,7 @@ VerdictsHoldOfDeliveries =
     (book : Contents) → IsDomain d → admitted_from d [] 1 (asked_in streams) ≡ Ok plan → IsLegalHistory d entries →
     AdmitsOnly (asked_in streams) entries → AreOffers d offers → AreBackground d background →
     IsBookOfHistory d entries offers background cycles book →
-    AreAsJudged (latencies_told d plan streams) (deliveries_of (run_of_history d entries offers background cycles) streams book)
+    AreAsJudged (printed_latencies d plan streams) (deliveries_of (run_of_history d entries offers background cycles) streams book)
 
 -- the same in the book of a script over the plan's streams
 abbrev pub VerdictsHoldOfScripts : Type 0
@@ -73,7 +73,7 @@ VerdictsHoldOfScripts =
     (limits : Limits) (cycles : ℕ) (input : List ℕ) (s : Scenario) (streams : List PlannedText) (plan : List Recorded) (book : Contents) →
     cycles ≤ most_cycles → planned_scenario limits cycles input ≡ Ok (s, streams) → IsDomain s.domain → MayBeRun cycles s →
     admitted_from s.domain [] 1 (asked_in streams) ≡ Ok plan → IsBookOfScenario cycles s book →
-    AreAsJudged (latencies_told s.domain plan streams) (deliveries_of (run_of_scenario cycles s) streams book)
+    AreAsJudged (printed_latencies s.domain plan streams) (deliveries_of (run_of_scenario cycles s) streams book)
 
 -- and in the book of each account of its run on threads
 abbrev pub VerdictsHoldOfAccounts : Type 0
@@ -81,7 +81,7 @@ VerdictsHoldOfAccounts =
     (limits : Limits) (cycles : ℕ) (input : List ℕ) (s : Scenario) (streams : List PlannedText) (plan entries : List Recorded)
     (asked : List (List Act)) (book : Contents) →
     planned_scenario limits cycles input ≡ Ok (s, streams) → IsDomain s.domain → MayBeRun cycles s →
-    admitted_from s.domain [] 1 (asked_in streams) ≡ Ok plan → AreCommandsBehind s.calls s.sealer asked →
+    admitted_from s.domain [] 1 (asked_in streams) ≡ Ok plan → AreCommandsAfter s.calls s.sealer asked →
     IsAccountOf s.domain (opening_history s) s.offers s.background cycles asked entries book →
-    AreAsJudged (latencies_told s.domain plan streams)
+    AreAsJudged (printed_latencies s.domain plan streams)
     (deliveries_of (run_of_history s.domain entries s.offers s.background cycles) streams book)

@@ -4,12 +4,12 @@
 //!
 //! ```
 //! // from here on, a proof knows that no delivery of a script over a plan is late if `latency` says `in-time`
-//! cqf_program_laws::told_verdicts_hold();
+//! cqf_program_laws::written_verdicts_hold();
 //! ```
 #![tactic(auto)]
 
 ghost use Rattle.cqf_program_laws.specs.CostLaws.{HeldCostsRepeat, ListedCostsRepeat};
-ghost use Rattle.cqf_program_laws.specs.OutputLaws.{DeliveriesAreAsWritten, RunsKeepToldPlans, ThreadsAreAsWritten, ThreadsKeepToldPlans};
+ghost use Rattle.cqf_program_laws.specs.OutputLaws.{DeliveriesAreAsWritten, RunsKeepWrittenPlans, ThreadsAreAsWritten, ThreadsKeepWrittenPlans};
 ghost use Rattle.cqf_program_laws.specs.OutputLaws.{WrittenLatenciesAreBounded, WrittenOffersCountOnce, WrittenRowsAddUp};
 ghost use Rattle.cqf_program_laws.specs.PlanLaws.{PlansKeepTheirWord, PlansKeepTheirWordLoosely, PlansKeepTheirWordOnThreads, PlansKeepTheirWordToScripts};
 ghost use Rattle.cqf_program_laws.specs.ReaderLaws.{EdgesArePlanned, FlowsArePlanned, NetworkFlowsAreFlows, PlannedPartsArePaced};
@@ -19,7 +19,7 @@ ghost use Rattle.cqf_program_laws.specs.ScriptLaws.{PlannedScenariosAskOnly, Sce
 ghost use Rattle.cqf_program_laws.specs.SummaryLaws.{EachListenerHasARow, EachOfferCountsOnce, LatenciesAreBounded, RowsAddUp};
 ghost use Rattle.cqf_program_laws.specs.TalkerLaws.{NetworksKeepTheirWord, NetworksKeepTheirWordLoosely, NetworksKeepTheirWordOnThreads};
 ghost use Rattle.cqf_program_laws.specs.TalkerLaws.{NetworksKeepTheirWordToScripts, WordsHoldFromTalkers};
-ghost use Rattle.cqf_program_laws.specs.ToldPlans.{ToldPlansRun};
+ghost use Rattle.cqf_program_laws.specs.WrittenPlans.{WrittenPlansRun};
 ghost use Rattle.cqf_program_laws.specs.VerdictLaws.{VerdictsHoldOfAccounts, VerdictsHoldOfDeliveries, VerdictsHoldOfScripts};
 
 /// The calls of a script request no stream but those of its streams text. So its history admits no other, on one thread and in each account
@@ -39,13 +39,13 @@ pub fn scripts_admit_only()
 /// If the verdict on the latency from a stream's edge bridge to a listener is `in-time`, no delivery of a frame of that stream to that listener is late; if
 /// it is `late`, each delivery that has arrived is late. This holds in the book of each history that admits streams of the plan alone, as those
 /// of a script over them do, on one thread and on threads, with any withdrawals, offers and background frames.
-pub fn told_verdicts_hold()
+pub fn written_verdicts_hold()
     ensures deliveries { VerdictsHoldOfDeliveries }
     ensures scripts { VerdictsHoldOfScripts }
     ensures accounts { VerdictsHoldOfAccounts }
 {
     scripts_admit_only();
-    cqf_laws_timing::told_of_streams_holds();
+    cqf_laws_timing::reported_bounds_hold();
     cqf_laws_timing::lists_bound_costs();
     cqf_laws_history::tables_are_orderly();
     cqf_laws_shift::book_of_history_says_the_shift();
@@ -65,7 +65,7 @@ pub fn told_verdicts_hold()
 /// time, and it is no larger than the file allows. Each frame that is whole at its edge bridge in a cycle of its stream, while the stream is
 /// live, is covered. It is whole at each listener within the deadline in the file, counted from its hand-over, if the run is long enough. So
 /// it doesn't matter what the station's other streams, other stations and administrators do.
-pub fn told_plans_keep_their_word()
+pub fn written_plans_keep_their_word()
     ensures runs { PlansKeepTheirWord }
     ensures scripts { PlansKeepTheirWordToScripts }
     ensures accounts { PlansKeepTheirWordOnThreads }
@@ -89,7 +89,7 @@ pub fn told_plans_keep_their_word()
 /// stream's name keep its talker's word, each of them in a cycle of the stream while it is live is whole at each of its listeners, by the
 /// clock there, within the plan's deadline after its offer by the edge bridge's clock, if the run is long enough. If they come by an access
 /// link, each is there within the deadline in the file, counted from its hand-over by the edge bridge's clock.
-pub fn told_plans_keep_their_word_loosely()
+pub fn written_plans_keep_their_word_loosely()
     ensures edges { PlansKeepTheirWordLoosely }
     ensures talkers { NetworksKeepTheirWordLoosely }
 {
@@ -110,7 +110,7 @@ pub fn summaries_add_up()
     scripts_admit_only();
     cqf_laws_timing::lists_bound_costs();
     cqf_laws_history::tables_are_orderly();
-    cqf_program_runs::each_is_told_once();
+    cqf_program_runs::each_is_written_once();
 }
 
 /// Each number of a row of `summary` is the number of the stream's offers that end that way at the row's listener, and each of these offers
@@ -122,7 +122,7 @@ pub fn each_offer_counts_once()
     scripts_admit_only();
     cqf_laws_timing::lists_bound_costs();
     cqf_laws_history::tables_are_orderly();
-    cqf_program_runs::each_is_told_once();
+    cqf_program_runs::each_is_written_once();
 }
 
 /// The times that frames took to the listener of a row of `summary` are between the least that `latency` has for the last link of their
@@ -156,10 +156,10 @@ pub fn readers_agree()
 /// and no access link is full. Its streams are those that were placed, with the same deadlines at their edge bridges. They are all admitted before cycle 0,
 /// each reserves as much as its talker needs in a cycle, and none may miss its deadline. So the laws about plans that keep their word need only that
 /// `plan` wrote the text, that cycle times which it was given are in their range, and that its file's tables are nested no deeper than 80.
-pub fn told_plans_run()
-    ensures { ToldPlansRun }
+pub fn written_plans_run()
+    ensures { WrittenPlansRun }
 {
-    cqf_program_planning::told_plans_read_back();
+    cqf_program_planning::written_plans_read_back();
 }
 
 /// A plan keeps its word in each output of `run` and of `run --threads` whose input begins with a text, for its domain and its streams, that `plan`
@@ -167,13 +167,13 @@ pub fn told_plans_run()
 /// is required of the plan or of the scenario.
 /// Each frame that the plan promises is covered, and whole at each of its stream's listeners in time, if the run is long enough: from its offer at its
 /// edge bridge, and from its hand-over to an access link. A run has at most 100,000 cycles.
-pub fn outputs_keep_told_plans()
-    ensures runs { RunsKeepToldPlans }
-    ensures threads { ThreadsKeepToldPlans }
+pub fn outputs_keep_written_plans()
+    ensures runs { RunsKeepWrittenPlans }
+    ensures threads { ThreadsKeepWrittenPlans }
 {
     readers_agree();
-    told_plans_run();
-    told_plans_keep_their_word();
+    written_plans_run();
+    written_plans_keep_their_word();
 }
 
 /// What an output of `latency` says about a domain's text and its streams holds for each output of `deliveries` whose input begins with these
@@ -186,7 +186,7 @@ pub fn deliveries_are_as_written()
 {
     cqf_edge::streams_come_by_links();
     readers_agree();
-    told_verdicts_hold();
+    written_verdicts_hold();
 }
 
 /// Each number of a row of an output of `summary` is that of the offers that end in one way, each of these ends in exactly one, and the times are

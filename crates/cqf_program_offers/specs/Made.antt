@@ -13,7 +13,7 @@ use Rattle.cqf_admission.specs.Asking.{asked_by}
 use Rattle.cqf_admission.specs.Script.{script_of}
 use Rattle.cqf_traffic.specs.FlowsText.{FlowText}
 use Rattle.cqf_output.specs.Stops.{or_line}
-use Rattle.cqf_program_words.specs.Composing.{first_text, text_behind}
+use Rattle.cqf_program_words.specs.Composing.{first_text, text_after}
 use Rattle.cqf_program_words.specs.declared.words.Job.{Job}
 use Rattle.cqf_program_words.specs.declared.words.Job.TheVariants as job
 use Rattle.cqf_program_files.specs.Front.{begins_as_offers, cycles_of}
@@ -49,7 +49,7 @@ made_offers d cycles flows = offered_of d ((cycles - bridges_of flows) * d.cycle
 
 -- parts as an input
 abbrev pub input_of : List ℕ → List (List ℕ) → List ℕ
-input_of first rest = first_text false first ++ flat_map text_behind rest
+input_of first rest = first_text false first ++ flat_map text_after rest
 
 -- the requests for the streams of a part of a network. If their deadlines are read and a station has an access link, they are those at
 -- their edge bridges

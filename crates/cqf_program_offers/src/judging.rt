@@ -1,7 +1,7 @@
 //! Streams that are judged one after the other, as `load` judges them.
 ghost use Rattle.std.specs.Prelude.{◌≡◌, ◌++◌, ◌∷◌, [], ◌<◌, ◌^◌, List, IfErr, IfOk, false, map, string_bytes};
 ghost use Rattle.cqf_admission.specs.Asking.{asked_paced};
-ghost use Rattle.cqf_admission.specs.Branches.{branches_of, places_of};
+ghost use Rattle.cqf_admission.specs.Branches.{branches_of, indices_of};
 ghost use Rattle.std.specs.List.{list_any};
 ghost use Rattle.cqf_model.specs.Domain.{is_text};
 ghost use Rattle.cqf_model.specs.History.{Asked};
@@ -11,7 +11,7 @@ ghost use Rattle.cqf_program_plans.specs.Load.Listing.{Weighs};
 ghost use Rattle.cqf_program_plans.specs.Load.Output.{listed_from};
 ghost use Rattle.cqf_output.specs.Stops.{IsRefused};
 
-use cqf_admission::{JudgedRequest, count_places, judge_paced};
+use cqf_admission::{JudgedRequest, count_indices, judge_paced};
 use cqf_model::{Refused, Row};
 use cqf_output::Stop;
 use cqf_program_plans::stream_stop;
@@ -27,7 +27,7 @@ fn has_name(names: &NameList, rows: &[Row], name: &Name) -> bool
     names.contains(name)
 }
 
-/// Weighs a request of fewer than 2^64 places together with others of these names. Returns the first reason to refuse it, except that a
+/// Weighs a request of fewer than 2^64 nodes in its paths together with others of these names. Returns the first reason to refuse it, except that a
 /// link has no room; or else what it is by itself.
 fn weigh(
     domain: &Domain,
@@ -35,10 +35,12 @@ fn weigh(
     rows: &[Row],
     request: &PacedRequest,
 ) -> Result<JudgedRequest, Refused>
-    requires places { places_of (branches_of request.now.paths.items) < 2 ^ 64 }
+    requires indices { indices_of (branches_of request.now.paths.items) < 2 ^ 64 }
     requires named { names.now.keys ≡ map (λ (row : ARow). row.name) rows.now }
     ensures { Weighs domain.now rows.now (asked_paced request.now) result }
 {
+    // the domain is accepted: its gates leave few octets uncounted
+    domain.know();
     let judged = judge_paced(domain, request)?;
     if has_name(names, rows, &judged.name) {
         return Err(Refused::NameHeld);
@@ -64,7 +66,7 @@ pub(crate) fn row_of(
     ensures free { IfOk result (λ row. is_among row.name names.now.keys ≡ false) }
     ensures err { IfErr result (λ stop. (more : List Asked) → IsRefused (listed_from domain.now rows.now (asked_paced request.now ∷ more)) stop) }
 {
-    if count_places(request.paths.as_slice()).is_none() {
+    if count_indices(request.paths.as_slice()).is_none() {
         return Err(Stop::memory(alloc));
     }
     match weigh(domain, names, rows, request) {

@@ -34,9 +34,9 @@ pub refusal_entered : (refused : Refused) → refused ≢ HistoryFull → refuse
 refusal_entered BadName full memory = refl
 refusal_entered BadOctets full memory = refl
 refusal_entered BadPace full memory = refl
-refusal_entered (UnknownNode place) full memory = refl
-refusal_entered (BrokenPath place) full memory = refl
-refusal_entered (LoopingPath place) full memory = refl
+refusal_entered (UnknownNode index) full memory = refl
+refusal_entered (BrokenPath index) full memory = refl
+refusal_entered (LoopingPath index) full memory = refl
 refusal_entered (NotATree branch) full memory = refl
 refusal_entered TooManyHops full memory = refl
 refusal_entered NameHeld full memory = refl
@@ -103,17 +103,17 @@ short_is_there d rows asked l left e =
     let a = skip_if l left _ BadName _ (λ h. cc) e in
     let b = skip_if l left _ BadOctets _ (λ h. cc) a in
     let c = skip_if l left _ BadPace _ (λ h. cc) b in
-    let f = skip_at l left (λ place. UnknownNode place) _ _ (λ k h. cc) c in
-    let g = skip_at l left (λ place. BrokenPath place) _ _ (λ k h. cc) f in
-    let i = skip_at l left (λ place. LoopingPath place) _ _ (λ k h. cc) g in
+    let f = skip_at l left (λ index. UnknownNode index) _ _ (λ k h. cc) c in
+    let g = skip_at l left (λ index. BrokenPath index) _ _ (λ k h. cc) f in
+    let i = skip_at l left (λ index. LoopingPath index) _ _ (λ k h. cc) g in
     let j = skip_at l left (λ branch. NotATree branch) _ _ (λ k h. cc) i in
     let o = skip_if l left _ TooManyHops _ (λ h. cc) j in
     let k = skip_if l left _ NameHeld _ (λ h. cc) o in
     let m = skip_if l left _ TooManyStreams _ (λ h. cc) k in
     let pace : Pace = pace_of asked in
-    let short : short_link d rows (cost_of asked.octets) pace tree ≡ Some l = short_at d rows tree pace l left _ m in
+    let short : short_link d rows (cost_of d.overhead asked.octets) pace tree ≡ Some l = short_at d rows tree pace l left _ m in
     let member : Contains (map (λ (hop : Hop). hop.link) tree) l =
-    (find_member (λ x. nat_lt (left_on d rows tree pace x) (cost_of asked.octets)) _ l short).0 in
+    (find_member (λ x. nat_lt (left_on d rows tree pace x) (cost_of d.overhead asked.octets)) _ l short).0 in
     let (hop, among, same) = contains_from_map (λ (hop : Hop). hop.link) tree l member in
     let inside : hop.link < length d.links =
     subst (λ (x : Hop). x.link < length d.links) among.2 (hops_inside d asked.paths among.0 hop among.1) in

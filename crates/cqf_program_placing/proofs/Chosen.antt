@@ -15,24 +15,24 @@ use Rattle.cqf_model.specs.declared.topology.Hop.{Hop}
 use Rattle.cqf_model.specs.declared.topology.Pace.{Pace}
 use Rattle.cqf_model.specs.declared.topology.Row.{Row}
 use Rattle.cqf_model.specs.Domain.{Domain, node_named}
-use Rattle.cqf_model.specs.History.{Branch, broken_place, first_place, is_loop_at, is_stray, left_on, refused_at, refused_if, tree_of}
+use Rattle.cqf_model.specs.History.{Branch, broken_index, first_index, is_loop_at, is_stray, left_on, refused_at, refused_if, tree_of}
 use Rattle.cqf_model.specs.Limits.{hops_within}
 use Rattle.cqf_admission.specs.Branches.{branches_of, tree_refusal}
-use Rattle.cqf_admission.specs.Costs.{left_in_turns}
-use Rattle.cqf_admission.specs.Turns.{IsGoodPace}
+use Rattle.cqf_admission.specs.Costs.{left_in_active_cycles}
+use Rattle.cqf_admission.specs.ActiveCycles.{IsGoodPace}
 use Rattle.cqf_program_placing.specs.declared.choosing.Route.{Route}
 use Rattle.cqf_program_placing.specs.declared.faults.PlanFault.{PlanFault}
 use Rattle.cqf_program_placing.specs.declared.routes.Unrouted.{Unrouted}
 use Rattle.cqf_program_placing.specs.declared.routes.Unrouted.TheVariants as unrouted
-use Rattle.cqf_program_placing.specs.declared.turns.Turns.{Turns}
-use Rattle.cqf_program_placing.specs.declared.turns.Turns.TheVariants.{Given, Chosen}
+use Rattle.cqf_program_placing.specs.declared.active_cycles.ActiveCycles.{ActiveCycles}
+use Rattle.cqf_program_placing.specs.declared.active_cycles.ActiveCycles.TheVariants.{Given, Chosen}
 use Rattle.cqf_program_placing.specs.Placing.{AreRoomy, AreTaken, AreTakenBy, AreTakenFor, FindsRoom, IsFirstRoomy, IsRouted, given_or_chosen, has_room_at, is_roomy}
 use Rattle.cqf_program_placing.specs.Room.{HasRoomIn}
 use Rattle.cqf_program_placing.specs.Routes.{IsFirstRoute, IsGoodRoute, IsRoomyRoute, IsRoute, IsTakenRoute, IsUnrouted, IsUntaken}
-use Rattle.cqf_program_placing.specs.Settled.{Along, Between, SettledWay}
-use Rattle.cqf_program_placing.specs.Turns.{AreGoodTurns, IsPhaseAlong, MayBeFirst, every_in, pace_by}
+use Rattle.cqf_program_placing.specs.Settled.{Along, Between, SettledPath}
+use Rattle.cqf_program_placing.specs.ActiveCycles.{AreGoodActiveCycles, IsPhaseAlong, MayBeFirst, every_in, pace_by}
 use Rattle.cqf_program_placing.proofs.Emptiest.{left_of_hop}
-use Rattle.cqf_program_placing.proofs.Stepping.{first_along, pace_is_good, paced_so, turns_are_good}
+use Rattle.cqf_program_placing.proofs.Stepping.{active_cycles_are_good, first_along, pace_is_good, paced_so}
 
 -- ---- elements that pass a test
 
@@ -67,12 +67,12 @@ module _ {X : Type 0} (test : X → Bool) where
 -- ---- branches with room
 
 -- the pace of a phase along branches is a good one
-pub good_pace_along : (d : Domain) (rows : List Row) (cost : ℕ) (paths : List Branch) (turns : Turns) (first : ℕ) → AreGoodTurns turns →
-    IsPhaseAlong d rows cost paths turns first → IsGoodPace (pace_by (every_in turns) first)
-good_pace_along d rows cost paths turns first good is =
-    let paced = paced_so turns first good (first_along d rows cost paths turns first good is) in
-    let fine = pace_is_good (every_in turns) first paced in
-    turns_are_good (every_in turns) first fine.0 fine.1
+pub good_pace_along : (d : Domain) (rows : List Row) (cost : ℕ) (paths : List Branch) (active_cycles : ActiveCycles) (first : ℕ) → AreGoodActiveCycles active_cycles →
+    IsPhaseAlong d rows cost paths active_cycles first → IsGoodPace (pace_by (every_in active_cycles) first)
+good_pace_along d rows cost paths active_cycles first good is =
+    let paced = paced_so active_cycles first good (first_along d rows cost paths active_cycles first good is) in
+    let fine = pace_is_good (every_in active_cycles) first paced in
+    active_cycles_are_good (every_in active_cycles) first fine.0 fine.1
 
 none_is_none : (o : Option Refused) → is_none o ≡ true → o ≡ None
 none_is_none None e = refl
@@ -88,9 +88,9 @@ few_on_tree d paths e = by (nat_lt (hops_within d.limits) (length (tree_of d pat
     last : hops ≡ None
     last =
         let together = refused_at (λ branch. refused.NotATree branch) (least (is_stray paths) (length paths)) in
-        let simple = refused_at (λ place. refused.LoopingPath place) (first_place (is_loop_at d) paths) in
-        let whole = refused_at (λ place. refused.BrokenPath place) (broken_place d paths) in
-        let one = or_else_none (refused_at (λ place. refused.UnknownNode place) (position (λ name. is_none (node_named d name)) (flat_map (λ branch. branch) paths)))
+        let simple = refused_at (λ index. refused.LoopingPath index) (first_index (is_loop_at d) paths) in
+        let whole = refused_at (λ index. refused.BrokenPath index) (broken_index d paths) in
+        let one = or_else_none (refused_at (λ index. refused.UnknownNode index) (position (λ name. is_none (node_named d name)) (flat_map (λ branch. branch) paths)))
         (or_else whole (or_else simple (or_else together hops))) e in
         let two = or_else_none whole (or_else simple (or_else together hops)) one.1 in
         let three = or_else_none simple (or_else together hops) two.1 in
@@ -131,7 +131,7 @@ module _ (d : Domain) (rows : List Row) (cost : ℕ) (pace : Pace) (paths : List
       let all = (and_parts (is_none (tree_refusal d paths)) (list_all (has_room_at d rows cost pace) (tree_of d paths)) roomy).1 in
       let (hop, among, same) = contains_from_map (λ (h : Hop). h.link) (tree_of d paths) l c in
       let has : has_room_at d rows cost pace hop ≡ true = member_passes (has_room_at d rows cost pace) (tree_of d paths) hop all among in
-      let enough : cost ≤ left_in_turns d rows pace hop = leb-true cost (left_in_turns d rows pace hop) has in
+      let enough : cost ≤ left_in_active_cycles d rows pace hop = leb-true cost (left_in_active_cycles d rows pace hop) has in
       subst (λ k. cost ≤ left_on d rows (tree_of d paths) pace k) same
       (subst (λ n. cost ≤ n) (sym (left_of_hop d rows paths pace hop among)) enough)
 
@@ -141,69 +141,69 @@ module _ (d : Domain) (rows : List Row) (cost : ℕ) (pace : Pace) (paths : List
       and_from (is_none (tree_refusal d paths)) (list_all (has_room_at d rows cost pace) (tree_of d paths)) (ap is_none none)
       (members_pass (has_room_at d rows cost pace) (tree_of d paths) (λ hop among.
       let there : cost ≤ left_on d rows (tree_of d paths) pace hop.link = room hop.link (contains_map (λ (h : Hop). h.link) (tree_of d paths) hop among) in
-      let here : cost ≤ left_in_turns d rows pace hop = subst (λ n. cost ≤ n) (left_of_hop d rows paths pace hop among) there in
-      le-leb cost (left_in_turns d rows pace hop) here))
+      let here : cost ≤ left_in_active_cycles d rows pace hop = subst (λ n. cost ≤ n) (left_of_hop d rows paths pace hop among) there in
+      le-leb cost (left_in_active_cycles d rows pace hop) here))
 
 -- ---- routes
 
 -- the route along the branches of a stream is its route
-pub route_is : (d : Domain) (rows : List Row) (turns : Turns) (cost : ℕ) (way : SettledWay) (route : Route) (paths : Vec (Vec (String Global) Global) Global) →
-    route.turns ≡ turns → route.branched.paths ≡ paths → IsGoodRoute d rows cost route → IsRouted d rows turns cost way (Ok (branches_of paths.items)) →
-    IsRoute d rows turns cost way route
-route_is d rows turns cost way route paths same_turns same_paths good routed = record {
-  same_turns = same_turns;
-  routed = subst (λ (given : Vec (Vec (String Global) Global) Global). IsRouted d rows turns cost way (Ok (branches_of given.items))) (sym same_paths) routed;
+pub route_is : (d : Domain) (rows : List Row) (active_cycles : ActiveCycles) (cost : ℕ) (path : SettledPath) (route : Route) (paths : Vec (Vec (String Global) Global) Global) →
+    route.active_cycles ≡ active_cycles → route.branched.paths ≡ paths → IsGoodRoute d rows cost route → IsRouted d rows active_cycles cost path (Ok (branches_of paths.items)) →
+    IsRoute d rows active_cycles cost path route
+route_is d rows active_cycles cost path route paths same_active_cycles same_paths good routed = record {
+  same_active_cycles = same_active_cycles;
+  routed = subst (λ (given : Vec (Vec (String Global) Global) Global). IsRouted d rows active_cycles cost path (Ok (branches_of given.items))) (sym same_paths) routed;
   good = good;
 }
 
-module _ (d : Domain) (rows : List Row) (turns : Turns) (cost : ℕ) (way : SettledWay) where
+module _ (d : Domain) (rows : List Row) (active_cycles : ActiveCycles) (cost : ℕ) (path : SettledPath) where
   -- a stream finds room if its route has room
-  pub roomy_by : (route : Route) (roomy : Bool) → IsRoute d rows turns cost way route →
-      roomy ≡ is_roomy d rows cost (pace_by (every_in route.turns) route.phase) (branches_of route.branched.paths.items) →
-      AreRoomy d rows turns cost (Ok (branches_of route.branched.paths.items)) roomy
+  pub roomy_by : (route : Route) (roomy : Bool) → IsRoute d rows active_cycles cost path route →
+      roomy ≡ is_roomy d rows cost (pace_by (every_in route.active_cycles) route.phase) (branches_of route.branched.paths.items) →
+      AreRoomy d rows active_cycles cost (Ok (branches_of route.branched.paths.items)) roomy
   roomy_by route roomy is same =
       let paths : List Branch = branches_of route.branched.paths.items in (
         route.phase,
-        subst (λ (t : Turns). IsPhaseAlong d rows cost paths t route.phase) is.same_turns is.good.phase,
-        same ∙ ap (λ (t : Turns). is_roomy d rows cost (pace_by (every_in t) route.phase) paths) is.same_turns,
+        subst (λ (t : ActiveCycles). IsPhaseAlong d rows cost paths t route.phase) is.same_active_cycles is.good.phase,
+        same ∙ ap (λ (t : ActiveCycles). is_roomy d rows cost (pace_by (every_in t) route.phase) paths) is.same_active_cycles,
       )
 
-  pub finds_by : (route : Route) (roomy : Bool) → IsRoute d rows turns cost way route →
-      roomy ≡ is_roomy d rows cost (pace_by (every_in route.turns) route.phase) (branches_of route.branched.paths.items) →
-      FindsRoom d rows turns cost way roomy
+  pub finds_by : (route : Route) (roomy : Bool) → IsRoute d rows active_cycles cost path route →
+      roomy ≡ is_roomy d rows cost (pace_by (every_in route.active_cycles) route.phase) (branches_of route.branched.paths.items) →
+      FindsRoom d rows active_cycles cost path roomy
   finds_by route roomy is same =
       record { routed = Ok (branches_of route.branched.paths.items); is_routed = is.routed; are_roomy = roomy_by route roomy is same }
 
   -- and doesn't if it has none
-  pub finds_none : (found : PlanFault) → IsRouted d rows turns cost way (Err found) → FindsRoom d rows turns cost way false
+  pub finds_none : (found : PlanFault) → IsRouted d rows active_cycles cost path (Err found) → FindsRoom d rows active_cycles cost path false
   finds_none found is = record { routed = Err found; is_routed = is; are_roomy = refl }
 
-  pub finds_no_route : (why : Unrouted) (found : PlanFault) → why ≡ unrouted.Fault found → IsUnrouted d rows turns cost way why →
-      FindsRoom d rows turns cost way false
-  finds_no_route why found is unrouted_is = finds_none found (subst (IsUnrouted d rows turns cost way) is unrouted_is)
+  pub finds_no_route : (why : Unrouted) (found : PlanFault) → why ≡ unrouted.Fault found → IsUnrouted d rows active_cycles cost path why →
+      FindsRoom d rows active_cycles cost path false
+  finds_no_route why found is unrouted_is = finds_none found (subst (IsUnrouted d rows active_cycles cost path) is unrouted_is)
 
 -- one more phase is tried, without a route
-pub no_route : (d : Domain) (rows : List Row) (every cost : ℕ) (way : SettledWay) (k : ℕ) (found : Option Route) →
-    ((route : Route) → found ≡ Some route → ⊥) → IsRoomyRoute d rows (Given every k) cost way found →
-    ((other : ℕ) → other < k → FindsRoom d rows (Given every other) cost way false) → (other : ℕ) → other < k + 1 →
-    FindsRoom d rows (Given every other) cost way false
-no_route d rows every cost way k None none here before other low = elim (cases_lt other k) [
+pub no_route : (d : Domain) (rows : List Row) (every cost : ℕ) (path : SettledPath) (k : ℕ) (found : Option Route) →
+    ((route : Route) → found ≡ Some route → ⊥) → IsRoomyRoute d rows (Given every k) cost path found →
+    ((other : ℕ) → other < k → FindsRoom d rows (Given every other) cost path false) → (other : ℕ) → other < k + 1 →
+    FindsRoom d rows (Given every other) cost path false
+no_route d rows every cost path k None none here before other low = elim (cases_lt other k) [
   | inl less ↦ before other less
   | inr more ↦
-      let same : k ≡ other = omega (arith, low, more) in subst (λ (n : ℕ). FindsRoom d rows (Given every n) cost way false) same here
+      let same : k ≡ other = omega (arith, low, more) in subst (λ (n : ℕ). FindsRoom d rows (Given every n) cost path false) same here
 ]
-no_route d rows every cost way k (Some route) none here before other low = absurd (none route refl)
+no_route d rows every cost path k (Some route) none here before other low = absurd (none route refl)
 
 module _ (d : Domain) (rows : List Row) (every cost bridge : ℕ) (stations : List ℕ) where
-  abbrev own_way : SettledWay
-  own_way = Between bridge stations
+  abbrev own_path : SettledPath
+  own_path = Between bridge stations
 
   abbrev are_roomy_on : Route → Bool → Type 0
   are_roomy_on route roomy = AreRoomy d rows (Chosen every) cost (Ok (branches_of route.branched.paths.items)) roomy
 
   -- a stream whose phase is to be chosen takes its route by the emptiest phases if it finds room there
-  pub takes_chosen : (route : Route) → IsRoute d rows (Chosen every) cost own_way route → are_roomy_on route true →
-      IsTakenRoute d rows (Chosen every) cost own_way route
+  pub takes_chosen : (route : Route) → IsRoute d rows (Chosen every) cost own_path route → are_roomy_on route true →
+      IsTakenRoute d rows (Chosen every) cost own_path route
   takes_chosen route is roomy = record {
     taken = Chosen every;
     are_taken = record { routed = Ok (branches_of route.branched.paths.items); is_routed = is.routed; are_taken = (true, roomy, refl) };
@@ -211,8 +211,8 @@ module _ (d : Domain) (rows : List Row) (every cost bridge : ℕ) (stations : Li
   }
 
   -- else that in the first phase in which it does; and if there is none, the first again
-  pub takes_either : (first : Option Route) (route : Route) → IsRoute d rows (Chosen every) cost own_way route → are_roomy_on route false →
-      IsFirstRoute d rows every cost own_way first → IsTakenRoute d rows (Chosen every) cost own_way (unwrap_or first route)
+  pub takes_either : (first : Option Route) (route : Route) → IsRoute d rows (Chosen every) cost own_path route → are_roomy_on route false →
+      IsFirstRoute d rows every cost own_path first → IsTakenRoute d rows (Chosen every) cost own_path (unwrap_or first route)
   takes_either None route is none first_is = record {
     taken = Chosen every;
     are_taken = record {
@@ -233,7 +233,7 @@ module _ (d : Domain) (rows : List Row) (every cost bridge : ℕ) (stations : Li
   }
 
   -- or has the fault of these phases
-  pub fails_chosen : (why : Unrouted) → IsUnrouted d rows (Chosen every) cost own_way why → IsUntaken d rows (Chosen every) cost own_way why
+  pub fails_chosen : (why : Unrouted) → IsUnrouted d rows (Chosen every) cost own_path why → IsUntaken d rows (Chosen every) cost own_path why
   fails_chosen (unrouted.Fault found) is = (Chosen every, record { routed = Err found; is_routed = is; are_taken = refl }, is)
   fails_chosen unrouted.Memory is = tt
 
@@ -253,27 +253,27 @@ module _ (d : Domain) (rows : List Row) (cost : ℕ) where
   fails_given every phase bridge stations (Err unrouted.Memory) is = tt
 
   -- for equal cycles and paths
-  pub takes_as : (turns others : Turns) (way other : SettledWay) (found : Result Route Unrouted) → turns ≡ others → way ≡ other →
-      IfOk found (IsTakenRoute d rows turns cost way) → IfOk found (IsTakenRoute d rows others cost other)
-  takes_as turns others way other found same_turns same_way is =
-      subst₂ (λ (t : Turns) (w : SettledWay). IfOk found (IsTakenRoute d rows t cost w)) same_turns same_way is
+  pub takes_as : (active_cycles others : ActiveCycles) (path other : SettledPath) (found : Result Route Unrouted) → active_cycles ≡ others → path ≡ other →
+      IfOk found (IsTakenRoute d rows active_cycles cost path) → IfOk found (IsTakenRoute d rows others cost other)
+  takes_as active_cycles others path other found same_active_cycles same_path is =
+      subst₂ (λ (t : ActiveCycles) (w : SettledPath). IfOk found (IsTakenRoute d rows t cost w)) same_active_cycles same_path is
 
-  pub fails_as : (turns others : Turns) (way other : SettledWay) (found : Result Route Unrouted) → turns ≡ others → way ≡ other →
-      IfErr found (IsUntaken d rows turns cost way) → IfErr found (IsUntaken d rows others cost other)
-  fails_as turns others way other found same_turns same_way is =
-      subst₂ (λ (t : Turns) (w : SettledWay). IfErr found (IsUntaken d rows t cost w)) same_turns same_way is
+  pub fails_as : (active_cycles others : ActiveCycles) (path other : SettledPath) (found : Result Route Unrouted) → active_cycles ≡ others → path ≡ other →
+      IfErr found (IsUntaken d rows active_cycles cost path) → IfErr found (IsUntaken d rows others cost other)
+  fails_as active_cycles others path other found same_active_cycles same_path is =
+      subst₂ (λ (t : ActiveCycles) (w : SettledPath). IfErr found (IsUntaken d rows t cost w)) same_active_cycles same_path is
 
   -- and so is one along given branches
-  pub takes_along : (turns : Turns) (given : List Branch) (route : Route) → IsRoute d rows turns cost (Along given) route →
-      IsTakenRoute d rows turns cost (Along given) route
-  takes_along turns given route is = record { taken = turns; are_taken = refl; is_route = is }
+  pub takes_along : (active_cycles : ActiveCycles) (given : List Branch) (route : Route) → IsRoute d rows active_cycles cost (Along given) route →
+      IsTakenRoute d rows active_cycles cost (Along given) route
+  takes_along active_cycles given route is = record { taken = active_cycles; are_taken = refl; is_route = is }
 
 -- ---- the cycles that are taken
 
 -- a stream is offered as often as its cycles say
-pub taken_every : (d : Domain) (rows : List Row) (turns : Turns) (cost : ℕ) (way : SettledWay) (taken : Turns) → AreTaken d rows turns cost way taken →
-    every_in taken ≡ every_in turns
-taken_every d rows turns cost (Along given) taken are = ap every_in are
+pub taken_every : (d : Domain) (rows : List Row) (active_cycles : ActiveCycles) (cost : ℕ) (path : SettledPath) (taken : ActiveCycles) → AreTaken d rows active_cycles cost path taken →
+    every_in taken ≡ every_in active_cycles
+taken_every d rows active_cycles cost (Along given) taken are = ap every_in are
 taken_every d rows (Given every phase) cost (Between bridge stations) taken are = ap every_in are
 taken_every d rows (Chosen every) cost (Between bridge stations) taken are = by_routed are.routed are.are_taken
   where
@@ -290,21 +290,21 @@ taken_every d rows (Chosen every) cost (Between bridge stations) taken are = by_
     by_routed (Ok paths) is = by is.0 is.2
 
 -- and its first cycle is one that may be the first
-pub taken_first : (d : Domain) (rows : List Row) (turns : Turns) (cost own : ℕ) (way : SettledWay) (taken : Turns) (paths : List Branch) (first : ℕ) →
-    AreTaken d rows turns cost way taken → (IsPhaseAlong d rows own paths turns first → MayBeFirst turns first) →
-    IsPhaseAlong d rows own paths taken first → MayBeFirst turns first
-taken_first d rows turns cost own (Along given) taken paths first are may is = may (subst (λ (t : Turns). IsPhaseAlong d rows own paths t first) are is)
+pub taken_first : (d : Domain) (rows : List Row) (active_cycles : ActiveCycles) (cost own : ℕ) (path : SettledPath) (taken : ActiveCycles) (paths : List Branch) (first : ℕ) →
+    AreTaken d rows active_cycles cost path taken → (IsPhaseAlong d rows own paths active_cycles first → MayBeFirst active_cycles first) →
+    IsPhaseAlong d rows own paths taken first → MayBeFirst active_cycles first
+taken_first d rows active_cycles cost own (Along given) taken paths first are may is = may (subst (λ (t : ActiveCycles). IsPhaseAlong d rows own paths t first) are is)
 taken_first d rows (Given every phase) cost own (Between bridge stations) taken paths first are may is =
-    may (subst (λ (t : Turns). IsPhaseAlong d rows own paths t first) are is)
+    may (subst (λ (t : ActiveCycles). IsPhaseAlong d rows own paths t first) are is)
 taken_first d rows (Chosen every) cost own (Between bridge stations) taken paths first are may is = by_routed are.routed are.are_taken
   where
     chosen : taken ≡ Chosen every → first < every
-    chosen same = may (subst (λ (t : Turns). IsPhaseAlong d rows own paths t first) same is)
+    chosen same = may (subst (λ (t : ActiveCycles). IsPhaseAlong d rows own paths t first) same is)
 
     by_first : (o : Option ℕ) → IsFirstRoomy d rows every cost (Between bridge stations) o → taken ≡ given_or_chosen every o → first < every
     by_first None none same = chosen same
     by_first (Some phase) found same =
-        let here : first ≡ phase = subst (λ (t : Turns). IsPhaseAlong d rows own paths t first) same is in omega (arith, here, found.within)
+        let here : first ≡ phase = subst (λ (t : ActiveCycles). IsPhaseAlong d rows own paths t first) same is in omega (arith, here, found.within)
 
     by : (roomy : Bool) → AreTakenBy d rows every cost (Between bridge stations) roomy taken → first < every
     by true same = chosen same

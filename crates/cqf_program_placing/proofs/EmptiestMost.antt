@@ -14,31 +14,31 @@ use Rattle.cqf_model.specs.declared.topology.Node.TheVariants.{Bridge, Station}
 use Rattle.cqf_model.specs.declared.topology.Row.{Row}
 use Rattle.cqf_model.specs.Domain.{Domain, bridge_of, budget}
 use Rattle.cqf_model.specs.Limits.{most_every}
-use Rattle.cqf_model.specs.Paces.{is_turn}
+use Rattle.cqf_model.specs.Paces.{is_active}
 use Rattle.cqf_model.specs.Table.{link_cost}
-use Rattle.cqf_network.specs.Ways.{IsWay, has_room}
-use Rattle.cqf_admission.specs.Costs.{left_in_turns}
+use Rattle.cqf_network.specs.Paths.{IsPath, has_room}
+use Rattle.cqf_admission.specs.Costs.{left_in_active_cycles}
 use Rattle.cqf_program_placing.specs.declared.faults.PlanFault.{PlanFault}
-use Rattle.cqf_program_placing.specs.Hops.{AreLeftBehind, hop_of, left_behind, left_where}
+use Rattle.cqf_program_placing.specs.Hops.{AreLeftAfter, hop_of, left_after, left_where}
 use Rattle.cqf_program_placing.specs.Placing.{IsFull}
 use Rattle.cqf_program_placing.specs.Room.{HasRoomInPhase}
-use Rattle.cqf_program_placing.specs.Turns.{hop_at, left_emptiest, lefts_on, pace_by}
+use Rattle.cqf_program_placing.specs.ActiveCycles.{hop_at, left_emptiest, lefts_on, pace_by}
 use Rattle.cqf_program_placing.proofs.RouteLemmas.{left_there, lefts_many}
 
 -- at a later hop, the cycles of a pace are those of another phase at hop number 0
-turned : (every phase depth cycle : ℕ) → is_turn (pace_by every phase) depth cycle ≡ is_turn (pace_by every ((phase + depth) % (every - 1 + 1))) 0 cycle
-turned every phase depth cycle =
+turned : (every phase hop_number cycle : ℕ) → is_active (pace_by every phase) hop_number cycle ≡ is_active (pace_by every ((phase + hop_number) % (every - 1 + 1))) 0 cycle
+turned every phase hop_number cycle =
     let n : ℕ = every - 1 + 1 in
-    let other : ℕ = (phase + depth) % (every - 1 + 1) in
-    ap (λ z. z == cycle % n) (sym (ap (λ z. z % n) (add-zero other) ∙ mod-mod (phase + depth) n))
+    let other : ℕ = (phase + hop_number) % (every - 1 + 1) in
+    ap (λ z. z == cycle % n) (sym (ap (λ z. z % n) (add-zero other) ∙ mod-mod (phase + hop_number) n))
 
-left_turned : (d : Domain) (rows : List Row) (every phase k l : ℕ) → left_behind d rows (pace_by every phase) k l
-    ≡ left_in_turns d rows (pace_by every ((phase + (k + 1)) % (every - 1 + 1))) (hop_at l)
+left_turned : (d : Domain) (rows : List Row) (every phase k l : ℕ) → left_after d rows (pace_by every phase) k l
+    ≡ left_in_active_cycles d rows (pace_by every ((phase + (k + 1)) % (every - 1 + 1))) (hop_at l)
 left_turned d rows every phase k l =
     let taken : Bool → ℕ → List ℕ = λ b cycle. if b then link_cost rows l cycle ∷ [] else [] in
     let other : ℕ = (phase + (k + 1)) % (every - 1 + 1) in
     ap (λ most. budget d l - fold max 0 most)
-    (same_below (λ cycle. taken (is_turn (pace_by every phase) (k + 1) cycle) cycle) (λ cycle. taken (is_turn (pace_by every other) 0 cycle) cycle) most_every
+    (same_below (λ cycle. taken (is_active (pace_by every phase) (k + 1) cycle) cycle) (λ cycle. taken (is_active (pace_by every other) 0 cycle) cycle) most_every
     (λ cycle low. ap (λ b. taken b cycle) (turned every phase (k + 1) cycle)))
 
 -- one of some numbers is no more than the greatest
@@ -62,21 +62,21 @@ within_most f (suc n) k low =
 
 -- so no link has more left at any hop in any phase
 no_more_left : (d : Domain) (rows : List Row) (every phase k l : ℕ) → 1 ≤ every →
-    left_behind d rows (pace_by every phase) k l ≤ left_emptiest d rows every l
+    left_after d rows (pace_by every phase) k l ≤ left_emptiest d rows every l
 no_more_left d rows every phase k l some =
     let other : ℕ = (phase + (k + 1)) % (every - 1 + 1) in
     let below : other < every - 1 + 1 = mod-lt (phase + (k + 1)) (omega arith) in
     let low : other < every = omega (arith, below, some) in
     subst (λ x. x ≤ left_emptiest d rows every l) (sym (left_turned d rows every phase k l))
-    (within_most (λ p. left_in_turns d rows (pace_by every p) (hop_at l)) every other low)
+    (within_most (λ p. left_in_active_cycles d rows (pace_by every p) (hop_at l)) every other low)
 
 module _ (d : Domain) (rows : List Row) (every phase cost bridge : ℕ) (some : 1 ≤ every) (left : List ℕ)
-    (are : AreLeftBehind d rows (pace_by every phase) cost bridge left) where
+    (are : AreLeftAfter d rows (pace_by every phase) cost bridge left) where
   -- a link that has room in a phase has room by its emptiest one
   link_has_room : (l : ℕ) → has_room left cost l ≡ true → has_room (lefts_on d rows every) cost l ≡ true
   link_has_room l h = by (slice_get left l) refl h
     where
-      by_hop : (o : Option ℕ) → option_map_or (λ k. left_behind d rows (pace_by every phase) k l) o 0 ≤ left_emptiest d rows every l
+      by_hop : (o : Option ℕ) → option_map_or (λ k. left_after d rows (pace_by every phase) k l) o 0 ≤ left_emptiest d rows every l
       by_hop None = omega arith
       by_hop (Some k) = no_more_left d rows every phase k l some
 
@@ -97,23 +97,23 @@ module _ (d : Domain) (rows : List Row) (every phase cost bridge : ℕ) (some : 
           ap (λ (o : Option ℕ). option_map_or (λ octets. nat_le cost octets) o false) at_most ∙ le-leb cost (left_emptiest d rows every l) enough
 
   -- so have all links of a path
-  links_have_room : (way : List ℕ) → list_all (has_room left cost) way ≡ true → list_all (has_room (lefts_on d rows every) cost) way ≡ true
+  links_have_room : (path : List ℕ) → list_all (has_room left cost) path ≡ true → list_all (has_room (lefts_on d rows every) cost) path ≡ true
   links_have_room [] all = refl
-  links_have_room (l ∷ way) all =
-      let parts = and_parts (has_room left cost l) (list_all (has_room left cost) way) all in
-      and_from (has_room (lefts_on d rows every) cost l) (list_all (has_room (lefts_on d rows every) cost) way) (link_has_room l parts.0)
-      (links_have_room way parts.1)
+  links_have_room (l ∷ path) all =
+      let parts = and_parts (has_room left cost l) (list_all (has_room left cost) path) all in
+      and_from (has_room (lefts_on d rows every) cost l) (list_all (has_room (lefts_on d rows every) cost) path) (link_has_room l parts.0)
+      (links_have_room path parts.1)
 
-  way_has_room : (from to : Node) (way : List ℕ) → IsWay d.links (has_room left cost) from to way → IsWay d.links (has_room (lefts_on d rows every) cost) from to way
-  way_has_room from to way is = record { leads = is.leads; roomy = links_have_room way is.roomy; few = is.few }
+  path_has_room : (from to : Node) (path : List ℕ) → IsPath d.links (has_room left cost) from to path → IsPath d.links (has_room (lefts_on d rows every) cost) from to path
+  path_has_room from to path is = record { leads = is.leads; roomy = links_have_room path is.roomy; few = is.few }
 
 -- and if no path to some station has room by the emptiest phases, none has room in any phase
 pub full_in_each : (d : Domain) (rows : List Row) (every phase cost bridge : ℕ) (stations : List ℕ) (found : PlanFault) → 1 ≤ every →
     IsFull d (lefts_on d rows every) cost bridge stations found → HasRoomInPhase d rows every cost bridge stations phase → ⊥
 full_in_each d rows every phase cost bridge stations found some full has =
     let without = full.without in
-    let place : ℕ = full.place in
-    let low : place < length has.ways = omega (arith, slice_get_within stations place without.station without.stands, has.roomy.one_each) in
-    let way : List ℕ = get_or has.ways place [] in
-    let there = has.roomy.each place without.station way without.stands (slice_get-get_or has.ways place [] low) in
-    without.none way (way_has_room d rows every phase cost bridge some has.left has.are_left (Bridge bridge) (Station without.station) way there.is_way)
+    let index : ℕ = full.index in
+    let low : index < length has.link_paths = omega (arith, slice_get_within stations index without.station without.stands, has.roomy.one_each) in
+    let path : List ℕ = get_or has.link_paths index [] in
+    let there = has.roomy.each index without.station path without.stands (slice_get-get_or has.link_paths index [] low) in
+    without.none path (path_has_room d rows every phase cost bridge some has.left has.are_left (Bridge bridge) (Station without.station) path there.is_path)

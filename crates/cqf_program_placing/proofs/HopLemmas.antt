@@ -9,8 +9,8 @@ use Rattle.cqf_model.specs.declared.topology.Node.{Node}
 use Rattle.cqf_model.specs.declared.topology.Node.TheVariants.{Bridge, Station}
 use Rattle.cqf_model.specs.Domain.{Domain, IsAccepted, IsNode}
 use Rattle.cqf_model.proofs.Represented.{few_bridges}
-use Rattle.cqf_network.specs.Ways.{most_links}
-use Rattle.cqf_program_placing.specs.Hops.{AreHops, AreReachedBy, IsReachedBy, LeadsBehind, hop_of}
+use Rattle.cqf_network.specs.Paths.{most_links}
+use Rattle.cqf_program_placing.specs.Hops.{AreHops, AreReachedBy, IsReachedBy, LeadsAfter, hop_of}
 use Rattle.cqf_program_placing.proofs.RouteLemmas.{to_node}
 
 -- frames don't leave a bridge
@@ -24,7 +24,7 @@ some_there (Some j) e = (j, refl)
 
 -- a link that leads to a bridge leads to one that is represented
 pub ends_inside : (d : Domain) (room : ℕ → ℕ → Bool) (hops : List (Option ℕ)) (k l bridge : ℕ) → IsAccepted d →
-    LeadsBehind d.links room hops k l bridge → bridge < 1024
+    LeadsAfter d.links room hops k l bridge → bridge < 1024
 ends_inside d room hops k l bridge accepted leads =
     let inside : bridge < length d.bridges = subst (IsNode d) leads.ends (to_node d l leads.link accepted leads.stands) in
     omega (arith, inside, few_bridges d accepted)
@@ -33,36 +33,36 @@ ends_inside d room hops k l bridge accepted leads =
 
 module _ (links : List Link) (room : ℕ → ℕ → Bool) (hops : List (Option ℕ)) (k l : ℕ) (it : Link) (stands : slice_get links l ≡ Some it) where
   -- it is the link that leads there
-  same_link : (bridge : ℕ) (leads : LeadsBehind links room hops k l bridge) → leads.link ≡ it
+  same_link : (bridge : ℕ) (leads : LeadsAfter links room hops k l bridge) → leads.link ≡ it
   same_link bridge leads = same_Some leads.link it (sym leads.stands ∙ stands)
 
   -- frames don't leave its bridge, or do so after another number of links
-  pub not_left : hop_of hops it.from ≡ None → (bridge : ℕ) → ¬ LeadsBehind links room hops k l bridge
+  pub not_left : hop_of hops it.from ≡ None → (bridge : ℕ) → ¬ LeadsAfter links room hops k l bridge
   not_left none bridge leads =
       let there : hop_of hops it.from ≡ Some k = subst (λ (x : Link). hop_of hops x.from ≡ Some k) (same_link bridge leads) leads.leaves in absurd cc
 
-  pub left_elsewhere : (hop : ℕ) → hop_of hops it.from ≡ Some hop → hop ≢ k → (bridge : ℕ) → ¬ LeadsBehind links room hops k l bridge
+  pub left_elsewhere : (hop : ℕ) → hop_of hops it.from ≡ Some hop → hop ≢ k → (bridge : ℕ) → ¬ LeadsAfter links room hops k l bridge
   left_elsewhere hop other differ bridge leads =
       let there : hop_of hops it.from ≡ Some k = subst (λ (x : Link). hop_of hops x.from ≡ Some k) (same_link bridge leads) leads.leaves in
       differ (same_Some hop k (sym other ∙ there))
 
   -- it has no room
-  pub without_room : room k l ≡ false → (bridge : ℕ) → ¬ LeadsBehind links room hops k l bridge
+  pub without_room : room k l ≡ false → (bridge : ℕ) → ¬ LeadsAfter links room hops k l bridge
   without_room full bridge leads = let roomy = leads.roomy in absurd cc
 
   -- it ends in a station
-  pub to_station : (station : ℕ) → it.to ≡ Station station → (bridge : ℕ) → ¬ LeadsBehind links room hops k l bridge
+  pub to_station : (station : ℕ) → it.to ≡ Station station → (bridge : ℕ) → ¬ LeadsAfter links room hops k l bridge
   to_station station ends bridge leads =
       let there : it.to ≡ Bridge bridge = subst (λ (x : Link). x.to ≡ Bridge bridge) (same_link bridge leads) leads.ends in absurd cc
 
   -- or else it leads
-  pub to_bridge : (hop bridge : ℕ) → hop_of hops it.from ≡ Some hop → hop ≡ k → room k l ≡ true → it.to ≡ Bridge bridge → LeadsBehind links room hops k l bridge
+  pub to_bridge : (hop bridge : ℕ) → hop_of hops it.from ≡ Some hop → hop ≡ k → room k l ≡ true → it.to ≡ Bridge bridge → LeadsAfter links room hops k l bridge
   to_bridge hop bridge leaves same roomy ends =
       record { link = it; stands = stands; leaves = leaves ∙ ap (λ n. Some n) same; roomy = roomy; ends = ends }
 
 -- a link leads to one bridge
-one_bridge : (links : List Link) (room : ℕ → ℕ → Bool) (hops : List (Option ℕ)) (k l bridge other : ℕ) → LeadsBehind links room hops k l bridge →
-    LeadsBehind links room hops k l other → other ≡ bridge
+one_bridge : (links : List Link) (room : ℕ → ℕ → Bool) (hops : List (Option ℕ)) (k l bridge other : ℕ) → LeadsAfter links room hops k l bridge →
+    LeadsAfter links room hops k l other → other ≡ bridge
 one_bridge links room hops k l bridge other leads also =
     let same : also.link ≡ leads.link = same_Some also.link leads.link (sym also.stands ∙ leads.stands) in
     let there : leads.link.to ≡ Bridge other = subst (λ (x : Link). x.to ≡ Bridge other) same also.ends in
@@ -71,7 +71,7 @@ one_bridge links room hops k l bridge other leads also =
 
 module _ (links : List Link) (room : ℕ → ℕ → Bool) (k l : ℕ) (before : List (Option ℕ)) where
   -- it leads nowhere
-  pub none_reached : ((bridge : ℕ) → ¬ LeadsBehind links room before k l bridge) → IsReachedBy links room k l before before
+  pub none_reached : ((bridge : ℕ) → ¬ LeadsAfter links room before k l bridge) → IsReachedBy links room k l before before
   none_reached none = record {
     kept = λ j bridge is. is;
     added = λ bridge leads. absurd (none bridge leads);
@@ -79,7 +79,7 @@ module _ (links : List Link) (room : ℕ → ℕ → Bool) (k l : ℕ) (before :
   }
 
   -- to a bridge that frames leave after fewer links
-  pub old_reached : (bridge j : ℕ) → LeadsBehind links room before k l bridge → hop_of before bridge ≡ Some j → IsReachedBy links room k l before before
+  pub old_reached : (bridge j : ℕ) → LeadsAfter links room before k l bridge → hop_of before bridge ≡ Some j → IsReachedBy links room k l before before
   old_reached bridge j leads is = record {
     kept = λ i other at. at;
     added = λ other also. (j, ap (hop_of before) (one_bridge links room before k l bridge other leads also) ∙ is);
@@ -87,7 +87,7 @@ module _ (links : List Link) (room : ℕ → ℕ → Bool) (k l : ℕ) (before :
   }
 
   -- to a bridge that isn't reached yet
-  pub new_reached : (bridge : ℕ) (after : List (Option ℕ)) → LeadsBehind links room before k l bridge → hop_of before bridge ≡ None → bridge < length before →
+  pub new_reached : (bridge : ℕ) (after : List (Option ℕ)) → LeadsAfter links room before k l bridge → hop_of before bridge ≡ None → bridge < length before →
       after ≡ set before bridge (Some (k + 1)) → IsReachedBy links room k l before after
   new_reached bridge after leads none inside is = record {
     kept = λ j other at. elim (cases_eq other bridge) [
@@ -98,7 +98,7 @@ module _ (links : List Link) (room : ℕ → ℕ → Bool) (k l : ℕ) (before :
     others = λ j other at. elim (cases_eq other bridge) [
       | inl same ↦ inr (
         same_Some j (k + 1) (sym at ∙ ap (hop_of after) same ∙ here),
-        subst (λ (v : ℕ). LeadsBehind links room before k l v) (sym same) leads,
+        subst (λ (v : ℕ). LeadsAfter links room before k l v) (sym same) leads,
       )
       | inr apart ↦ inl (sym (elsewhere other apart) ∙ at)
     ];
@@ -120,15 +120,15 @@ module _ (links : List Link) (room : ℕ → ℕ → Bool) (k : ℕ) (before : L
   }
 
   -- a link leads on as it did before
-  leads_as_before : (count l bridge : ℕ) (now : List (Option ℕ)) → AreReachedBy links room k count before now → LeadsBehind links room now k l bridge →
-      LeadsBehind links room before k l bridge
+  leads_as_before : (count l bridge : ℕ) (now : List (Option ℕ)) → AreReachedBy links room k count before now → LeadsAfter links room now k l bridge →
+      LeadsAfter links room before k l bridge
   leads_as_before count l bridge now so_far leads = elim (so_far.others k leads.link.from leads.leaves) [
     | inl was ↦ record { link = leads.link; stands = leads.stands; leaves = was; roomy = leads.roomy; ends = leads.ends }
     | inr new ↦ absurd (omega (arith, new.0))
   ]
 
-  leads_as_now : (count l bridge : ℕ) (now : List (Option ℕ)) → AreReachedBy links room k count before now → LeadsBehind links room before k l bridge →
-      LeadsBehind links room now k l bridge
+  leads_as_now : (count l bridge : ℕ) (now : List (Option ℕ)) → AreReachedBy links room k count before now → LeadsAfter links room before k l bridge →
+      LeadsAfter links room now k l bridge
   leads_as_now count l bridge now so_far leads =
       record { link = leads.link; stands = leads.stands; leaves = so_far.kept k leads.link.from leads.leaves; roomy = leads.roomy; ends = leads.ends }
 
@@ -140,7 +140,7 @@ module _ (links : List Link) (room : ℕ → ℕ → Bool) (k : ℕ) (before : L
       | inl earlier ↦ let there = so_far.added l bridge earlier leads in (there.0, by.kept there.0 bridge there.1)
       | inr last ↦
           let same : l ≡ count = omega (arith, low, last) in
-          by.added bridge (leads_as_now count count bridge now so_far (subst (λ (n : ℕ). LeadsBehind links room before k n bridge) same leads))
+          by.added bridge (leads_as_now count count bridge now so_far (subst (λ (n : ℕ). LeadsAfter links room before k n bridge) same leads))
     ];
     others = λ j bridge is. elim (by.others j bridge is) [
       | inl was ↦ so_far.others j bridge was
@@ -163,8 +163,8 @@ none_in_layer d room k hops accepted none = record {
 pub record AreHopsSoFar (links : List Link) (room : ℕ → ℕ → Bool) (bridge rounds : ℕ) (hops : List (Option ℕ)) : Type 0 where
   pub begins : hop_of hops bridge ≡ Some 0
   pub alone : (other : ℕ) → hop_of hops other ≡ Some 0 → other ≡ bridge
-  pub comes : (k other : ℕ) → hop_of hops other ≡ Some (k + 1) → (l : ℕ) × LeadsBehind links room hops k l other
-  pub goes_on : (k l other : ℕ) → k < rounds → LeadsBehind links room hops k l other → (j : ℕ) × (hop_of hops other ≡ Some j) × (j ≤ k + 1)
+  pub comes : (k other : ℕ) → hop_of hops other ≡ Some (k + 1) → (l : ℕ) × LeadsAfter links room hops k l other
+  pub goes_on : (k l other : ℕ) → k < rounds → LeadsAfter links room hops k l other → (j : ℕ) × (hop_of hops other ≡ Some j) × (j ≤ k + 1)
   pub few : (j other : ℕ) → hop_of hops other ≡ Some j → j ≤ rounds
 
 module _ (links : List Link) (room : ℕ → ℕ → Bool) (bridge : ℕ) where
@@ -218,16 +218,16 @@ module _ (links : List Link) (room : ℕ → ℕ → Bool) (bridge : ℕ) where
       | inl was ↦ let there = so_far.comes i other was in (there.0, as_now i there.0 other there.1)
       | inr new ↦
           let same : k ≡ i = omega (arith, new.0) in
-          let there = new.1 in (there.0, subst (λ (n : ℕ). LeadsBehind links room after n there.0 other) same (as_now k there.0 other there.1))
+          let there = new.1 in (there.0, subst (λ (n : ℕ). LeadsAfter links room after n there.0 other) same (as_now k there.0 other there.1))
     ];
     goes_on = λ i l other low leads.
-        let was : LeadsBehind links room before i l other = as_before i l other (omega (arith, low)) leads in
+        let was : LeadsAfter links room before i l other = as_before i l other (omega (arith, low)) leads in
         elim (cases_lt i k) [
           | inl earlier ↦ let there = so_far.goes_on i l other earlier was in (there.0, by.kept there.0 other there.1, there.2)
           | inr last ↦
               let same : i ≡ k = omega (arith, low, last) in
               let inside : l < count = omega (arith, all, slice_get_within links l leads.link leads.stands) in
-              let there = by.added l other inside (subst (λ (n : ℕ). LeadsBehind links room before n l other) same was) in
+              let there = by.added l other inside (subst (λ (n : ℕ). LeadsAfter links room before n l other) same was) in
               (there.0, there.1, omega (arith, few there.0 other there.1, same))
         ];
     few = few;
@@ -235,11 +235,11 @@ module _ (links : List Link) (room : ℕ → ℕ → Bool) (bridge : ℕ) where
     few : (j other : ℕ) → hop_of after other ≡ Some j → j ≤ k + 1
     few j other at = elim (by.others j other at) [ inl was ↦ omega (arith, so_far.few j other was) | inr new ↦ omega (arith, new.0) ]
 
-    as_now : (i l other : ℕ) → LeadsBehind links room before i l other → LeadsBehind links room after i l other
+    as_now : (i l other : ℕ) → LeadsAfter links room before i l other → LeadsAfter links room after i l other
     as_now i l other leads =
         record { link = leads.link; stands = leads.stands; leaves = by.kept i leads.link.from leads.leaves; roomy = leads.roomy; ends = leads.ends }
 
-    as_before : (i l other : ℕ) → i ≤ k → LeadsBehind links room after i l other → LeadsBehind links room before i l other
+    as_before : (i l other : ℕ) → i ≤ k → LeadsAfter links room after i l other → LeadsAfter links room before i l other
     as_before i l other low leads = elim (by.others i leads.link.from leads.leaves) [
       | inl was ↦ record { link = leads.link; stands = leads.stands; leaves = was; roomy = leads.roomy; ends = leads.ends }
       | inr new ↦ absurd (omega (arith, new.0, low))

@@ -12,7 +12,7 @@ use Rattle.cqf_program_placing.specs.declared.settled.Settled.{Settled}
 use Rattle.cqf_program_placing.specs.Orders.{before_others, in_order}
 use Rattle.cqf_program_placing.specs.Placing.{ArePlacedFrom, IsPlacing, outcome_value}
 use Rattle.cqf_program_placing.specs.Settled.{SettledStream, settled_value}
-use Rattle.cqf_program_placing.proofs.PlaceLemmas.{ArePlacedSoFar, one_placed}
+use Rattle.cqf_program_placing.proofs.IndexLemmas.{ArePlacedSoFar, one_placed}
 
 -- what is at an index below the length comes first
 first_is : {A : Type 0} (all : List A) (index : ℕ) (order : List ℕ) (default : A) → index < length all →
@@ -33,16 +33,16 @@ length_in_order all (index ∷ order) inside =
     ∙ ap (λ n. suc n) (length_in_order all order (All-tail (λ k. k < length all) index order inside))
 
 -- each is what is at its index
-pub at_in_order : {A : Type 0} (all : List A) (order : List ℕ) (place index : ℕ) (default : A) → All (λ k. k < length all) order → place < length order →
-    index ≡ get_or order place index → get_or (in_order all order) place default ≡ get_or all index default
-at_in_order all [] place index default inside low is = absurd (omega (arith, low))
+pub at_in_order : {A : Type 0} (all : List A) (order : List ℕ) (position index : ℕ) (default : A) → All (λ k. k < length all) order → position < length order →
+    index ≡ get_or order position index → get_or (in_order all order) position default ≡ get_or all index default
+at_in_order all [] position index default inside low is = absurd (omega (arith, low))
 at_in_order all (first ∷ order) zero index default inside low is =
     let here = All-head (λ k. k < length all) first order inside in
     ap (λ xs. get_or xs 0 default) (first_is all first order default here) ∙ ap (λ k. get_or all k default) (sym is)
-at_in_order all (first ∷ order) (suc place) index default inside low is =
+at_in_order all (first ∷ order) (suc position) index default inside low is =
     let here = All-head (λ k. k < length all) first order inside in
-    ap (λ xs. get_or xs (suc place) default) (first_is all first order default here)
-    ∙ at_in_order all order place index default (All-tail (λ k. k < length all) first order inside) (omega (arith, low)) is
+    ap (λ xs. get_or xs (suc position) default) (first_is all first order default here)
+    ∙ at_in_order all order position index default (All-tail (λ k. k < length all) first order inside) (omega (arith, low)) is
 
 -- what is made of each, in an order
 made_before : {A B : Type 0} (f : A → B) (found : Option A) (others : List A) → map f (before_others found others) ≡ before_others (option_map f found) (map f others)

@@ -19,17 +19,17 @@ use Rattle.cqf_model.specs.declared.topology.Row.{Row}
 use Rattle.cqf_model.specs.Domain.{Domain, budget, is_text, node_named}
 use Rattle.cqf_units.specs.Name.{is_name}
 use Rattle.cqf_units.specs.Timing.{cost_of}
-use Rattle.cqf_model.specs.History.{Admits, Asked, Branch, IsLegalHistory, Recorded, admit_reply, broken_place, first_place, held_in, is_loop_at, is_pace, is_stray, left_on, next_number, pace_of, refusal_of}
+use Rattle.cqf_model.specs.History.{Admits, Asked, Branch, IsLegalHistory, Recorded, admit_reply, broken_index, first_index, held_in, is_loop_at, is_pace, is_stray, left_on, next_number, pace_of, refusal_of}
 use Rattle.cqf_model.specs.History.{refused_at, refused_if, seals, short_link, tree_of}
 use Rattle.cqf_model.specs.Limits.{hops_within, least_reserved, most_every, most_reserved, streams_within}
-use Rattle.cqf_model.specs.Paces.{is_turn}
+use Rattle.cqf_model.specs.Paces.{is_active}
 use Rattle.cqf_model.specs.Table.{cost_on, link_cost, links_in, uses}
 use Rattle.cqf_admission.specs.Branches.{tree_refusal}
 use Rattle.cqf_program_plans.specs.Compile.Output.{with_asked}
 use Rattle.cqf_program_placing.specs.declared.rooms.Emptiest.{Emptiest}
 use Rattle.cqf_program_placing.specs.declared.rooms.Rooms.{Rooms}
 use Rattle.cqf_program_placing.specs.Known.{AreKnown, AreRenewed, IsFilled, IsKnown, MakeTree, TakesNothingOff}
-use Rattle.cqf_program_placing.specs.Turns.{IsChosenBy, IsGoodEvery, hop_at, left_emptiest, lefts_on, pace_by}
+use Rattle.cqf_program_placing.specs.ActiveCycles.{IsChosenBy, IsGoodEvery, hop_at, left_emptiest, lefts_on, pace_by}
 use Rattle.cqf_program_placing.proofs.RouteLemmas.{left_there, lefts_many}
 
 -- ---- recomputed
@@ -77,7 +77,7 @@ left_alike : (d : Domain) (before after : List Row) (every l : ℕ) → ((cycle 
 left_alike d before after every l alike =
     let costs : (λ (cycle : ℕ). link_cost after l cycle) ≡ (λ (cycle : ℕ). link_cost before l cycle) = λ i. λ cycle. alike cycle i in
     ap (λ (f : ℕ → ℕ). fold max 0 (each_below (λ phase. (budget d l
-    - fold max 0 (each_below (λ cycle. if is_turn (pace_by every phase) 0 cycle then f cycle ∷ [] else []) most_every)) ∷ []) every)) costs
+    - fold max 0 (each_below (λ cycle. if is_active (pace_by every phase) 0 cycle then f cycle ∷ [] else []) most_every)) ∷ []) every)) costs
 
 -- after it is recomputed it is known again
 pub known_again : (d : Domain) (before after : List Row) (links : List ℕ) (old new : Emptiest) → new.every ≡ old.every →
@@ -174,10 +174,10 @@ module _ (d : Domain) (rows : List Row) (links : List ℕ) where
 -- a stream costs nothing on links that aren't its own
 costs_none_off : (one : Row) (l cycle : ℕ) → (Contains (links_in one.tree.items) l → ⊥) → cost_on one l cycle ≡ 0
 costs_none_off one l cycle off =
-    cond-false (uses one.tree.items one.pace l cycle) (cost_of one.octets) 0
-    (list_any_none (λ (hop : Hop). (hop.link == l) && is_turn one.pace hop.depth cycle) one.tree.items (λ k d within.
+    cond-false (uses one.tree.items one.pace l cycle) (cost_of one.overhead one.octets) 0
+    (list_any_none (λ (hop : Hop). (hop.link == l) && is_active one.pace hop.hop_number cycle) one.tree.items (λ k d within.
     let hop : Hop = get_or one.tree.items k d in
-    and_left (hop.link == l) (is_turn one.pace hop.depth cycle) (ne_eqb hop.link l (λ same.
+    and_left (hop.link == l) (is_active one.pace hop.hop_number cycle) (ne_eqb hop.link l (λ same.
     off (subst (λ (n : ℕ). Contains (links_in one.tree.items) n) same (contains_map (λ (h : Hop). h.link) one.tree.items hop (Contains-get_or one.tree.items k d within)))))))
 
 row_takes_off : (rows : List Row) (one : Row) → TakesNothingOff rows (rows ++ one ∷ []) (links_in one.tree.items)
@@ -193,9 +193,9 @@ links_of None = []
 links_of (Some tree) = links_in tree.items
 
 -- if none of several refusals in a row is due, no later one is
-behind_if : (b : Bool) (refused : Refused) (later : Option Refused) → or_else (refused_if b refused) later ≡ None → later ≡ None
-behind_if true refused later e = absurd cc
-behind_if false refused later e = e
+after_if : (b : Bool) (refused : Refused) (later : Option Refused) → or_else (refused_if b refused) later ≡ None → later ≡ None
+after_if true refused later e = absurd cc
+after_if false refused later e = e
 
 first_five : (a b c f g rest : Option Refused) → or_else a (or_else b (or_else c (or_else f (or_else g rest)))) ≡ None →
     or_else a (or_else b (or_else c (or_else f g))) ≡ None
@@ -209,18 +209,18 @@ first_five (Some r) b c f g rest e = absurd cc
 -- branches that make no tree are refused
 tree_by_granted : (d : Domain) (rows : List Row) (asked : Asked) → refusal_of d rows asked ≡ None → tree_refusal d asked.paths ≡ None
 tree_by_granted d rows asked e =
-    first_five (refused_at (λ place. UnknownNode place) (position (λ name. is_none (node_named d name)) (flat_map (λ branch. branch) asked.paths)))
-    (refused_at (λ place. BrokenPath place) (broken_place d asked.paths))
-    (refused_at (λ place. LoopingPath place) (first_place (is_loop_at d) asked.paths))
+    first_five (refused_at (λ index. UnknownNode index) (position (λ name. is_none (node_named d name)) (flat_map (λ branch. branch) asked.paths)))
+    (refused_at (λ index. BrokenPath index) (broken_index d asked.paths))
+    (refused_at (λ index. LoopingPath index) (first_index (is_loop_at d) asked.paths))
     (refused_at (λ branch. NotATree branch) (least (is_stray asked.paths) (length asked.paths)))
     (refused_if (nat_lt (hops_within d.limits) (length (tree_of d asked.paths))) TooManyHops)
     (or_else (refused_if (list_any (λ (row : Row). is_text row.name asked.name) rows) NameHeld)
     (or_else (refused_if (nat_le (streams_within d.limits) (length rows)) TooManyStreams)
     (refused_at (λ l. BudgetShort l (left_on d rows (tree_of d asked.paths) (pace_of asked) l))
-    (short_link d rows (cost_of asked.octets) (pace_of asked) (tree_of d asked.paths)))))
-    (behind_if (not (is_pace asked.every asked.phase)) BadPace _
-    (behind_if (not (nat_le least_reserved asked.octets && nat_le asked.octets most_reserved)) BadOctets _
-    (behind_if (not (is_name asked.name)) BadName _ e)))
+    (short_link d rows (cost_of d.overhead asked.octets) (pace_of asked) (tree_of d asked.paths)))))
+    (after_if (not (is_pace asked.every asked.phase)) BadPace _
+    (after_if (not (nat_le least_reserved asked.octets && nat_le asked.octets most_reserved)) BadOctets _
+    (after_if (not (is_name asked.name)) BadName _ e)))
 
 is_some_none : (o : Option Refused) → o ≡ None → IsSome o → ⊥
 is_some_none None e given = absurd cc
@@ -242,19 +242,19 @@ asked_takes_off d entries after asked tree grants refused legal made is =
     rows : List Row
     rows = held_in d entries (seals entries)
 
-    behind : List Recorded
-    behind = with_asked d entries asked
+    following : List Recorded
+    following = with_asked d entries asked
 
     along : (t : Option (ArrayVec Hop)) → MakeTree d asked.paths t → refusal_of d rows asked ≡ None →
-        held_in d behind (seals behind) ≡ rows ++ granted_row d (next_number d entries) (seals entries) asked ∷ [] →
-        TakesNothingOff rows (held_in d behind (seals behind)) (links_of t)
+        held_in d following (seals following) ≡ rows ++ granted_row d (next_number d entries) (seals entries) asked ∷ [] →
+        TakesNothingOff rows (held_in d following (seals following)) (links_of t)
     along None fails e held = absurd (is_some_none (tree_refusal d asked.paths) (tree_by_granted d rows asked e) fails)
     along (Some hops) makes e held =
         let one : Row = granted_row d (next_number d entries) (seals entries) asked in
         subst (λ (rs : List Row). TakesNothingOff rows rs (links_in hops.items)) (sym held)
         (subst (λ (t : List Hop). TakesNothingOff rows (rows ++ one ∷ []) (links_in t)) (sym makes.1) (row_takes_off rows one))
 
-    by : (refusal : Option Refused) → refusal_of d rows asked ≡ refusal → TakesNothingOff rows (held_in d behind (seals behind)) (links_of tree)
+    by : (refusal : Option Refused) → refusal_of d rows asked ≡ refusal → TakesNothingOff rows (held_in d following (seals following)) (links_of tree)
     by None e =
         let state = grants d entries rows (next_number d entries) 0 asked legal (record { held = refl; number = refl }) e in
         along tree made e state.held

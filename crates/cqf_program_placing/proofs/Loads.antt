@@ -9,7 +9,7 @@ use Rattle.std.proofs.lemmas.List.Sums.{fold-append}
 use Rattle.cqf_lists.proofs.Members.{contains_here, contains_none, contains_one}
 use Rattle.cqf_model.specs.declared.topology.Hop.{Hop}
 use Rattle.cqf_program_placing.specs.declared.phases.BudgetShare.{BudgetShare}
-use Rattle.cqf_program_placing.specs.Turns.{IsLeastLoaded, are_less, is_less_full, loads_down, put_down}
+use Rattle.cqf_program_placing.specs.ActiveCycles.{IsLeastLoaded, are_less, is_less_full, loads_down, put_down}
 
 -- ---- fractions a/b, c/d and e/f, none of them 0/0
 
@@ -227,23 +227,23 @@ module _ (shares : Hop → BudgetShare) (held : (hop : Hop) → 1 ≤ (shares ho
   held_more share (first ∷ loads) some all = held_by (is_less_full first share) share first loads (put_down share loads) some all (held_more share loads some all.1)
 
   -- so of all hops
-  first_behind : (front tree : List Hop) (loads : List BudgetShare) → StandsFirst shares front loads →
+  first_after : (front tree : List Hop) (loads : List BudgetShare) → StandsFirst shares front loads →
       StandsFirst shares (front ++ tree) (fold (λ (done : List BudgetShare) (hop : Hop). put_down (shares hop) done) loads tree)
-  first_behind front [] loads first = subst (λ (hops : List Hop). StandsFirst shares hops loads) (sym (append-nil front)) first
-  first_behind front (hop ∷ tree) loads first =
+  first_after front [] loads first = subst (λ (hops : List Hop). StandsFirst shares hops loads) (sym (append-nil front)) first
+  first_after front (hop ∷ tree) loads first =
       subst (λ (hops : List Hop). StandsFirst shares hops (fold (λ (done : List BudgetShare) (h : Hop). put_down (shares h) done) (put_down (shares hop) loads) tree))
-      (append_assoc front (hop ∷ []) tree) (first_behind (front ++ hop ∷ []) tree (put_down (shares hop) loads) (first_more front hop loads first))
+      (append_assoc front (hop ∷ []) tree) (first_after (front ++ hop ∷ []) tree (put_down (shares hop) loads) (first_more front hop loads first))
 
-  held_behind : (tree : List Hop) (loads : List BudgetShare) → AreHeld loads →
+  held_after : (tree : List Hop) (loads : List BudgetShare) → AreHeld loads →
       AreHeld (fold (λ (done : List BudgetShare) (hop : Hop). put_down (shares hop) done) loads tree)
-  held_behind [] loads all = all
-  held_behind (hop ∷ tree) loads all = held_behind tree (put_down (shares hop) loads) (held_more (shares hop) loads (held hop) all)
+  held_after [] loads all = all
+  held_after (hop ∷ tree) loads all = held_after tree (put_down (shares hop) loads) (held_more (shares hop) loads (held hop) all)
 
   pub stands_first : (tree : List Hop) → StandsFirst shares tree (loads_down shares tree)
-  stands_first tree = first_behind [] tree [] (λ hop c. contains_none hop c)
+  stands_first tree = first_after [] tree [] (λ hop c. contains_none hop c)
 
   pub loads_held : (tree : List Hop) → AreHeld (loads_down shares tree)
-  loads_held tree = held_behind tree [] tt
+  loads_held tree = held_after tree [] tt
 
 -- if loads aren't less than those of a tree, none of the tree's hops is fuller than some hop of theirs
 pub some_as_full : (shares others : Hop → BudgetShare) (tree : List Hop) → ((hop : Hop) → 1 ≤ (shares hop).held) → ((hop : Hop) → 1 ≤ (others hop).held) →
@@ -269,41 +269,41 @@ some_as_full shares others tree held also isnt hop c =
 module _ (share : BudgetShare) (loads : List BudgetShare) where
   -- those before an index are no less
   abbrev pub AreNoLess : ℕ → Type 0
-  AreNoLess place = put_down share loads ≡ take place loads ++ put_down share (drop place loads)
+  AreNoLess index = put_down share loads ≡ take index loads ++ put_down share (drop index loads)
 
   -- one more is no less
-  pub no_less_next : (place : ℕ) (none : BudgetShare) → place < length loads → AreNoLess place → is_less_full (get_or loads place none) share ≡ false →
-      AreNoLess (place + 1)
-  no_less_next place none inside so_far isnt =
-      let first : BudgetShare = get_or loads place none in
-      let rest : List BudgetShare = drop (place + 1) loads in
-      let behind : put_down share (first ∷ rest) ≡ first ∷ put_down share rest =
+  pub no_less_next : (index : ℕ) (none : BudgetShare) → index < length loads → AreNoLess index → is_less_full (get_or loads index none) share ≡ false →
+      AreNoLess (index + 1)
+  no_less_next index none inside so_far isnt =
+      let first : BudgetShare = get_or loads index none in
+      let rest : List BudgetShare = drop (index + 1) loads in
+      let following : put_down share (first ∷ rest) ≡ first ∷ put_down share rest =
       cond-false (is_less_full first share) (share ∷ (first ∷ rest)) (first ∷ put_down share rest) isnt in
-      so_far ∙ ap (λ (xs : List BudgetShare). take place loads ++ put_down share xs) (drop_more loads place none inside)
-      ∙ ap (λ (xs : List BudgetShare). take place loads ++ xs) behind
-      ∙ sym (append_assoc (take place loads) (first ∷ []) (put_down share rest))
-      ∙ ap (λ (xs : List BudgetShare). xs ++ put_down share rest) (sym (take_more loads place none inside))
+      so_far ∙ ap (λ (xs : List BudgetShare). take index loads ++ put_down share xs) (drop_more loads index none inside)
+      ∙ ap (λ (xs : List BudgetShare). take index loads ++ xs) following
+      ∙ sym (append_assoc (take index loads) (first ∷ []) (put_down share rest))
+      ∙ ap (λ (xs : List BudgetShare). xs ++ put_down share rest) (sym (take_more loads index none inside))
 
   -- the first that is less
-  pub put_before : (place : ℕ) (none : BudgetShare) → place < length loads → AreNoLess place → is_less_full (get_or loads place none) share ≡ true →
-      insert loads place share ≡ put_down share loads
-  put_before place none inside so_far less =
-      let first : BudgetShare = get_or loads place none in
-      let rest : List BudgetShare = drop (place + 1) loads in
+  pub put_before : (index : ℕ) (none : BudgetShare) → index < length loads → AreNoLess index → is_less_full (get_or loads index none) share ≡ true →
+      insert loads index share ≡ put_down share loads
+  put_before index none inside so_far less =
+      let first : BudgetShare = get_or loads index none in
+      let rest : List BudgetShare = drop (index + 1) loads in
       let before : put_down share (first ∷ rest) ≡ share ∷ (first ∷ rest) =
       cond-true (is_less_full first share) (share ∷ (first ∷ rest)) (first ∷ put_down share rest) less in
-      let next : drop place loads ≡ first ∷ rest = drop_more loads place none inside in
-      ap (λ (xs : List BudgetShare). take place loads ++ share ∷ xs) next
-      ∙ ap (λ (xs : List BudgetShare). take place loads ++ xs) (sym before)
-      ∙ ap (λ (xs : List BudgetShare). take place loads ++ put_down share xs) (sym next)
+      let next : drop index loads ≡ first ∷ rest = drop_more loads index none inside in
+      ap (λ (xs : List BudgetShare). take index loads ++ share ∷ xs) next
+      ∙ ap (λ (xs : List BudgetShare). take index loads ++ xs) (sym before)
+      ∙ ap (λ (xs : List BudgetShare). take index loads ++ put_down share xs) (sym next)
       ∙ sym so_far
 
   -- none is
-  pub put_last : (place count : ℕ) → length loads ≤ place → count ≡ place → AreNoLess place → insert loads count share ≡ put_down share loads
-  put_last place count past same so_far =
+  pub put_last : (index count : ℕ) → length loads ≤ index → count ≡ index → AreNoLess index → insert loads count share ≡ put_down share loads
+  put_last index count past same so_far =
       ap (λ n. insert loads n share) same
-      ∙ ap (λ (xs : List BudgetShare). take place loads ++ share ∷ xs) (drop_all place loads past)
-      ∙ ap (λ (xs : List BudgetShare). take place loads ++ put_down share xs) (sym (drop_all place loads past))
+      ∙ ap (λ (xs : List BudgetShare). take index loads ++ share ∷ xs) (drop_all index loads past)
+      ∙ ap (λ (xs : List BudgetShare). take index loads ++ put_down share xs) (sym (drop_all index loads past))
       ∙ sym so_far
 
 -- one hop more
@@ -320,44 +320,44 @@ loads_more shares tree k none loads after share inside so_far is more =
 
 module _ (loads others : List BudgetShare) where
   -- what follows an index decides
-  pub record AreAlikeSoFar (place : ℕ) : Type 0 where
-    pub few : place ≤ length loads
-    pub rest : are_less loads others ≡ are_less (drop place loads) (drop place others)
+  pub record AreAlikeSoFar (index : ℕ) : Type 0 where
+    pub few : index ≤ length loads
+    pub rest : are_less loads others ≡ are_less (drop index loads) (drop index others)
 
-  module _ (place : ℕ) (none : BudgetShare) (inside : place < length others) (so_far : AreAlikeSoFar place) where
+  module _ (index : ℕ) (none : BudgetShare) (inside : index < length others) (so_far : AreAlikeSoFar index) where
     -- there are fewer
-    pub fewer_there : place ≡ length loads → true ≡ are_less loads others
+    pub fewer_there : index ≡ length loads → true ≡ are_less loads others
     fewer_there same =
-        sym (so_far.rest ∙ (λ i. are_less (drop_all place loads (omega (arith, same)) i) (drop_more others place none inside i)))
+        sym (so_far.rest ∙ (λ i. are_less (drop_all index loads (omega (arith, same)) i) (drop_more others index none inside i)))
 
-    module _ (within : place < length loads) where
+    module _ (within : index < length loads) where
       abbrev x : BudgetShare
-      x = get_or loads place none
+      x = get_or loads index none
 
       abbrev y : BudgetShare
-      y = get_or others place none
+      y = get_or others index none
 
       opened : are_less loads others
-          ≡ (is_less_full x y || (not (is_less_full y x) && are_less (drop (place + 1) loads) (drop (place + 1) others)))
-      opened = so_far.rest ∙ (λ i. are_less (drop_more loads place none within i) (drop_more others place none inside i))
+          ≡ (is_less_full x y || (not (is_less_full y x) && are_less (drop (index + 1) loads) (drop (index + 1) others)))
+      opened = so_far.rest ∙ (λ i. are_less (drop_more loads index none within i) (drop_more others index none inside i))
 
       -- the first that differ decide
       pub less_there : is_less_full x y ≡ true → true ≡ are_less loads others
-      less_there less = sym (opened ∙ less_at_once (is_less_full x y) (is_less_full y x) (are_less (drop (place + 1) loads) (drop (place + 1) others)) less)
+      less_there less = sym (opened ∙ less_at_once (is_less_full x y) (is_less_full y x) (are_less (drop (index + 1) loads) (drop (index + 1) others)) less)
 
       pub more_there : is_less_full x y ≡ false → is_less_full y x ≡ true → false ≡ are_less loads others
       more_there isnt more =
-          sym (opened ∙ more_at_once (is_less_full x y) (is_less_full y x) (are_less (drop (place + 1) loads) (drop (place + 1) others)) isnt more)
+          sym (opened ∙ more_at_once (is_less_full x y) (is_less_full y x) (are_less (drop (index + 1) loads) (drop (index + 1) others)) isnt more)
 
       -- and if these don't differ, those after them decide
-      pub alike_there : is_less_full x y ≡ false → is_less_full y x ≡ false → AreAlikeSoFar (place + 1)
+      pub alike_there : is_less_full x y ≡ false → is_less_full y x ≡ false → AreAlikeSoFar (index + 1)
       alike_there isnt also = record {
         few = omega (arith, within);
-        rest = opened ∙ (λ i. isnt i || (not (also i) && are_less (drop (place + 1) loads) (drop (place + 1) others)));
+        rest = opened ∙ (λ i. isnt i || (not (also i) && are_less (drop (index + 1) loads) (drop (index + 1) others)));
       }
 
-  pub none_less : (place : ℕ) → length others ≤ place → AreAlikeSoFar place → false ≡ are_less loads others
-  none_less place past so_far = sym (so_far.rest ∙ ap (are_less (drop place loads)) (drop_all place others past))
+  pub none_less : (index : ℕ) → length others ≤ index → AreAlikeSoFar index → false ≡ are_less loads others
+  none_less index past so_far = sym (so_far.rest ∙ ap (are_less (drop index loads)) (drop_all index others past))
 
 -- ---- phases
 

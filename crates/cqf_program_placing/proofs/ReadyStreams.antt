@@ -1,6 +1,7 @@
 -- What settled streams have that were read from a network file's text.
 use Rattle.std.proofs.Common.{◌≡◌, ◌≢◌, ◌∙◌, ◌+◌, ◌-◌, ◌<◌, ◌≤◌, ◌==◌, ℕ, zero, suc, Bool, true, false, ◌&&◌, ◌||◌, List, [], ◌∷◌, Option, Some, None, Ok, Err}
-use Rattle.std.proofs.Common.{AllPairs, Contains, IfSome, cond, length, ok_or, option_map, position, refl, ap, subst, sym, inl, inr, arith}
+use Rattle.std.proofs.Common.{AllPairs, Contains, IfSome, cond, length, max, ok_or, option_map, position, refl, ap, subst, sym, inl, inr, arith}
+use Rattle.std.proofs.Math.Nat.{le-max_right}
 use Rattle.std.specs.Prelude.{is_none, nat_le, nat_lt}
 use Rattle.std.specs.List.{flat_map}
 use Rattle.std.proofs.lemmas.Bool.{and_parts, leb-true, ltb-false}
@@ -16,9 +17,9 @@ use Rattle.cqf_model.specs.declared.topology.Hop.{Hop}
 use Rattle.cqf_model.specs.declared.topology.Node.{Node}
 use Rattle.cqf_model.specs.declared.topology.Node.TheVariants.{Bridge, Station}
 use Rattle.cqf_model.specs.Domain.{Domain, node_named}
-use Rattle.cqf_model.specs.History.{Branch, begins_elsewhere, broken_place, ends_at_bridge, first_place, hop_to, hops_along}
+use Rattle.cqf_model.specs.History.{Branch, begins_elsewhere, broken_index, ends_at_bridge, first_index, hop_to, hops_along}
 use Rattle.cqf_model.specs.History.{is_beyond_most, is_broken_at, is_loop_at, is_stray, link_before, link_from, node_at, refused_at, refused_if, tree_of}
-use Rattle.cqf_model.specs.Limits.{hops_within, most_reserved}
+use Rattle.cqf_model.specs.Limits.{hops_within, least_reserved, most_reserved}
 use Rattle.cqf_model.proofs.Texts.{named_once}
 use Rattle.cqf_topology.proofs.Refusals.{and_then-Ok, ok_or-Ok, refuse-Ok}
 use Rattle.cqf_network.specs.NetworkDomain.{HasTalkerLinks, NetworkDomain, domain_at}
@@ -29,10 +30,10 @@ use Rattle.cqf_network.proofs.StreamParts.{and_first-Ok}
 use Rattle.cqf_program_placing.specs.declared.faults.PlanFault.TheVariants as fault
 use Rattle.cqf_program_placing.specs.Placing.{if_enough, reserved_by, reserved_on}
 use Rattle.cqf_program_placing.specs.Room.{AreListeners, IsReadStream}
-use Rattle.cqf_program_placing.specs.Settled.{Along, Between, SettledStream, SettledWay, are_reservable, entrance_at, first_apart, is_paced, settled_next, settled_way}
+use Rattle.cqf_program_placing.specs.Settled.{Along, Between, SettledPath, SettledStream, are_reservable, entrance_at, first_apart, is_paced, settled_next, settled_path}
 use Rattle.cqf_program_placing.specs.Settled.{station_by_name, stations_by_name}
 use Rattle.cqf_program_placing.proofs.FirstBranches.{AreBranches, AreFew}
-use Rattle.cqf_program_placing.proofs.PlaceLemmas.{needed_least, reserved_there}
+use Rattle.cqf_program_placing.proofs.IndexLemmas.{reserved_there}
 use Rattle.cqf_program_placing.proofs.SettledLemmas.{entrance_there, settled_by, station_named_by}
 
 -- from a bridge of the domain to some stations, all different
@@ -42,9 +43,9 @@ pub record IsToStations (d : Domain) (bridge : ℕ) (stations : List ℕ) : Type
   pub apart : AllPairs (λ a b. a ≢ b) stations
 
 -- or along the branches of a tree
-abbrev pub IsGoodWay : Domain → SettledWay → Type 0
-IsGoodWay d (Along paths) = AreBranches d paths × AreFew d paths
-IsGoodWay d (Between bridge stations) = IsToStations d bridge stations
+abbrev pub IsGoodPath : Domain → SettledPath → Type 0
+IsGoodPath d (Along paths) = AreBranches d paths × AreFew d paths
+IsGoodPath d (Between bridge stations) = IsToStations d bridge stations
 
 -- what a settled stream has of this
 pub record IsReady (d : Domain) (stream : SettledStream) : Type 0 where
@@ -53,7 +54,7 @@ pub record IsReady (d : Domain) (stream : SettledStream) : Type 0 where
   pub paced : is_paced stream.pacing ≡ true
   pub reserves : stream.octets ≡ None → stream.traffic ≡ None → ⊥
   pub traffic : IfSome stream.traffic IsTrafficText
-  pub good_way : IsGoodWay d stream.way
+  pub good_path : IsGoodPath d stream.path
 
 -- ---- its reservation
 
@@ -62,14 +63,14 @@ least_octets : (octets : ℕ) → are_reservable (Some octets) ≡ true → 64 �
 least_octets octets may = leb-true 64 octets (and_parts (nat_le 64 octets) (nat_le octets most_reserved) may).0
 
 -- and so is what is reserved
-least_by : (octets needs : Option ℕ) (reserved : ℕ) → are_reservable octets ≡ true → (octets ≡ None → needs ≡ None → ⊥) → IfSome needs (λ n. 64 ≤ n) →
+least_by : (octets needs : Option ℕ) (reserved : ℕ) → are_reservable octets ≡ true → (octets ≡ None → needs ≡ None → ⊥) →
     reserved_by octets needs ≡ Ok reserved → 64 ≤ reserved
-least_by None None reserved may reserves least e = absurd (reserves refl refl)
-least_by (Some octets) None reserved may reserves least e = let same : octets ≡ reserved = cc in omega (arith, same, least_octets octets may)
-least_by octets (Some needs) reserved may reserves least e = by_needs (nat_lt most_reserved needs) e
+least_by None None reserved may reserves e = absurd (reserves refl refl)
+least_by (Some octets) None reserved may reserves e = let same : octets ≡ reserved = cc in omega (arith, same, least_octets octets may)
+least_by octets (Some needs) reserved may reserves e = by_needs (nat_lt most_reserved needs) e
   where
     by_octets : (o : Option ℕ) → are_reservable o ≡ true → if_enough o needs ≡ Ok reserved → 64 ≤ reserved
-    by_octets None may e = let same : needs ≡ reserved = cc in omega (arith, same, least)
+    by_octets None may e = let same : max needs least_reserved ≡ reserved = cc in omega (arith, same, le-max_right needs least_reserved)
     by_octets (Some asked) may e = by_asked (nat_lt asked needs) e
       where
         by_asked : (b : Bool) → cond b (Err (fault.TooLittle needs)) (Ok asked) ≡ Ok reserved → 64 ≤ reserved
@@ -80,22 +81,17 @@ least_by octets (Some needs) reserved may reserves least e = by_needs (nat_lt mo
     by_needs true e = absurd cc
     by_needs false e = by_octets octets may e
 
-pub reserved_least : (d : Domain) (stream : SettledStream) (cycle_time sync octets : ℕ) → 1 ≤ cycle_time → IsReady d stream →
-    reserved_on cycle_time sync stream ≡ Ok octets → 64 ≤ octets
-reserved_least d stream cycle_time sync octets some ready e = least_by stream.octets (option_map needs stream.traffic) octets ready.reservable
-    (λ none_asked none_needed. ready.reserves none_asked (unmapped stream.traffic none_needed)) (each stream.traffic ready.traffic)
-    (reserved_there cycle_time sync stream octets e).1
+pub reserved_least : (d : Domain) (stream : SettledStream) (overhead cycle_time sync octets : ℕ) → IsReady d stream →
+    reserved_on overhead cycle_time sync stream ≡ Ok octets → 64 ≤ octets
+reserved_least d stream overhead cycle_time sync octets ready e = least_by stream.octets (option_map needs stream.traffic) octets ready.reservable
+    (λ none_asked none_needed. ready.reserves none_asked (unmapped stream.traffic none_needed)) (reserved_there overhead cycle_time sync stream octets e).1
   where
     needs : TrafficText → ℕ
-    needs = λ (t : TrafficText). needed cycle_time (promise_of t)
+    needs = λ (t : TrafficText). needed overhead cycle_time (promise_of t)
 
     unmapped : (o : Option TrafficText) → option_map needs o ≡ None → o ≡ None
     unmapped None none = refl
     unmapped (Some t) none = absurd cc
-
-    each : (o : Option TrafficText) → IfSome o IsTrafficText → IfSome (option_map needs o) (λ n. 64 ≤ n)
-    each None inside = tt
-    each (Some t) inside = needed_least cycle_time t some inside
 
 -- ---- its listeners
 
@@ -149,26 +145,26 @@ module _ (network : NetworkDomain) (cycle other : ℕ) where
   same_link (Some (Station s)) (Some to) = refl
 
   -- so a branch is broken at the same positions
-  same_broken : (branch : Branch) (place : ℕ) → is_broken_at (domain_at network cycle) branch place ≡ is_broken_at (domain_at network other) branch place
-  same_broken branch place =
+  same_broken : (branch : Branch) (index : ℕ) → is_broken_at (domain_at network cycle) branch index ≡ is_broken_at (domain_at network other) branch index
+  same_broken branch index =
       let d : Domain = domain_at network other in
-      (λ i. begins_elsewhere d branch place
-      || (nat_le 1 place && nat_lt place (length branch) && is_none (same_link (node_at d branch (place - 1)) (node_at d branch (place - 1 + 1)) i))
-      || ends_at_bridge d branch place || is_beyond_most d branch place)
+      (λ i. begins_elsewhere d branch index
+      || (nat_le 1 index && nat_lt index (length branch) && is_none (same_link (node_at d branch (index - 1)) (node_at d branch (index - 1 + 1)) i))
+      || ends_at_bridge d branch index || is_beyond_most d branch index)
 
-  same_place : (paths : List Branch) → broken_place (domain_at network cycle) paths ≡ broken_place (domain_at network other) paths
-  same_place [] = refl
-  same_place (branch ∷ paths) = (λ i. first_place (λ b place. same_broken b place i) (branch ∷ paths))
+  same_index : (paths : List Branch) → broken_index (domain_at network cycle) paths ≡ broken_index (domain_at network other) paths
+  same_index [] = refl
+  same_index (branch ∷ paths) = (λ i. first_index (λ b index. same_broken b index i) (branch ∷ paths))
 
   -- and has the same hops
-  same_before : (branch : Branch) (place : ℕ) → link_before (domain_at network cycle) branch place ≡ link_before (domain_at network other) branch place
+  same_before : (branch : Branch) (index : ℕ) → link_before (domain_at network cycle) branch index ≡ link_before (domain_at network other) branch index
   same_before branch zero = refl
-  same_before branch (suc place) = same_link (node_at (domain_at network cycle) branch place) (node_at (domain_at network cycle) branch (place + 1))
+  same_before branch (suc index) = same_link (node_at (domain_at network cycle) branch index) (node_at (domain_at network cycle) branch (index + 1))
 
   same_hops : (branch : Branch) → hops_along (domain_at network cycle) branch ≡ hops_along (domain_at network other) branch
   same_hops branch =
       let d : Domain = domain_at network cycle in
-      (λ i. each_below (λ place. hop_to (place + 1) (same_before branch place i) (same_link (node_at d branch place) (node_at d branch (place + 1)) i))
+      (λ i. each_below (λ index. hop_to (index + 1) (same_before branch index i) (same_link (node_at d branch index) (node_at d branch (index + 1)) i))
       (length branch - 1))
 
   same_tree : (paths : List Branch) → tree_of (domain_at network cycle) paths ≡ tree_of (domain_at network other) paths
@@ -183,43 +179,43 @@ module _ (network : NetworkDomain) (cycle other : ℕ) where
       let unknown = position (λ name. is_none (node_named d name)) (flat_map (λ branch. branch) paths) in
       let hops = refused_if many refused.TooManyHops in
       let stray = or_else (refused_at (λ branch. refused.NotATree branch) (least (is_stray paths) (length paths))) hops in
-      let looping = or_else (refused_at (λ place. refused.LoopingPath place) (first_place (is_loop_at d) paths)) stray in
-      let broken = or_else (refused_at (λ place. refused.BrokenPath place) (broken_place d paths)) looping in
-      let a = or_else_none (refused_at (λ place. refused.UnknownNode place) unknown) broken e in
-      let b = or_else_none (refused_at (λ place. refused.BrokenPath place) (broken_place d paths)) looping a.1 in
-      let c = or_else_none (refused_at (λ place. refused.LoopingPath place) (first_place (is_loop_at d) paths)) stray b.1 in
+      let looping = or_else (refused_at (λ index. refused.LoopingPath index) (first_index (is_loop_at d) paths)) stray in
+      let broken = or_else (refused_at (λ index. refused.BrokenPath index) (broken_index d paths)) looping in
+      let a = or_else_none (refused_at (λ index. refused.UnknownNode index) unknown) broken e in
+      let b = or_else_none (refused_at (λ index. refused.BrokenPath index) (broken_index d paths)) looping a.1 in
+      let c = or_else_none (refused_at (λ index. refused.LoopingPath index) (first_index (is_loop_at d) paths)) stray b.1 in
       let s = or_else_none (refused_at (λ branch. refused.NotATree branch) (least (is_stray paths) (length paths))) hops c.1 in
       let few : length (tree_of d paths) ≤ hops_within d.limits =
       ltb-false (hops_within d.limits) (length (tree_of d paths)) (refused_if_none many refused.TooManyHops s.1) in
       let are : AreBranches (domain_at network other) paths = record {
-        known = refused_at_none (λ place. refused.UnknownNode place) unknown a.0;
-        whole = sym (same_place paths) ∙ refused_at_none (λ place. refused.BrokenPath place) (broken_place d paths) b.0;
-        simple = refused_at_none (λ place. refused.LoopingPath place) (first_place (is_loop_at d) paths) c.0;
+        known = refused_at_none (λ index. refused.UnknownNode index) unknown a.0;
+        whole = sym (same_index paths) ∙ refused_at_none (λ index. refused.BrokenPath index) (broken_index d paths) b.0;
+        simple = refused_at_none (λ index. refused.LoopingPath index) (first_index (is_loop_at d) paths) c.0;
         together = refused_at_none (λ branch. refused.NotATree branch) (least (is_stray paths) (length paths)) s.0;
       } in
       (are, subst (λ (tree : List Hop). length tree ≤ hops_within d.limits) (same_tree paths) few)
 
   -- ---- the stream
 
-  way_ready : (wanted : WantedText) (way : SettledWay) → HasTalkerLinks network → AreListeners wanted →
-      settled_way network (domain_at network cycle) wanted ≡ Ok way → IsGoodWay (domain_at network other) way
-  way_ready (AlongText paths) way talkers listeners e =
-      let parts = refuse-Ok (tree_refusal (domain_at network cycle) paths) fault.Refused (Ok (Along paths)) way e in
-      let is : Along paths ≡ way = let h = parts.1 in cc in
-      subst (IsGoodWay (domain_at network other)) is (same_branches paths parts.0)
-  way_ready (BetweenText from to) way talkers listeners e =
+  path_ready : (wanted : WantedText) (path : SettledPath) → HasTalkerLinks network → AreListeners wanted →
+      settled_path network (domain_at network cycle) wanted ≡ Ok path → IsGoodPath (domain_at network other) path
+  path_ready (AlongText paths) path talkers listeners e =
+      let parts = refuse-Ok (tree_refusal (domain_at network cycle) paths) fault.Refused (Ok (Along paths)) path e in
+      let is : Along paths ≡ path = let h = parts.1 in cc in
+      subst (IsGoodPath (domain_at network other)) is (same_branches paths parts.0)
+  path_ready (BetweenText from to) path talkers listeners e =
       let d : Domain = domain_at network cycle in
-      let (entrance, entered, rest) = and_then-Ok (ok_or (entrance_at network (node_named d from)) fault.NoTalker) _ way e in
-      let (stations, named, more) = and_then-Ok (stations_by_name d to) _ way rest in
-      let parts = refuse-Ok (first_apart d entrance.bridge to) fault.NoWay (Ok (Between entrance.bridge stations)) way more in
-      let is : Between entrance.bridge stations ≡ way = let h = parts.1 in cc in
+      let (entrance, entered, rest) = and_then-Ok (ok_or (entrance_at network (node_named d from)) fault.NoTalker) _ path e in
+      let (stations, named, more) = and_then-Ok (stations_by_name d to) _ path rest in
+      let parts = refuse-Ok (first_apart d entrance.bridge to) fault.NoWay (Ok (Between entrance.bridge stations)) path more in
+      let is : Between entrance.bridge stations ≡ path = let h = parts.1 in cc in
       let many : length stations ≡ length to = so_many d to stations named in
       let good : IsToStations (domain_at network other) entrance.bridge stations = record {
         inside = entrance_there network d from entrance talkers refl (ok_or-Ok _ fault.NoTalker entrance entered);
         some = omega (arith, listeners.0, many);
         apart = stations_apart d to stations named listeners.1;
       } in
-      subst (IsGoodWay (domain_at network other)) is good
+      subst (IsGoodPath (domain_at network other)) is good
 
   -- a stream that was read, and is settled after others, is ready
   pub next_ready : (before : List (List ℕ)) (text : StreamText) (one : SettledStream) → HasTalkerLinks network → IsReadStream text →
@@ -232,5 +228,5 @@ module _ (network : NetworkDomain) (cycle other : ℕ) where
         paced = so.paced;
         reserves = λ none_asked none_needed. read.reserves (so.octets_are ∙ none_asked) (so.traffic_is ∙ none_needed);
         traffic = subst (λ (t : Option TrafficText). IfSome t IsTrafficText) so.traffic_is read.traffic;
-        good_way = way_ready text.way one.way talkers read.listeners so.way_is;
+        good_path = path_ready text.path one.path talkers read.listeners so.path_is;
       }

@@ -16,10 +16,10 @@ use Rattle.cqf_model.specs.Domain.{Domain, IsAccepted, IsNode, bridge_of}
 use Rattle.cqf_model.specs.History.{Branch}
 use Rattle.cqf_model.proofs.Represented.{few_links, few_bridges}
 use Rattle.arrayvec.specs.ArrayVec.{ArrayVec}
-use Rattle.cqf_network.specs.Listeners.{AreFirstWays, IsFirstWithout}
-use Rattle.cqf_network.specs.WayLaws.{FullWaysHaveAShortLink, NothingHasRoomEverywhere}
+use Rattle.cqf_network.specs.Listeners.{AreFirstPaths, IsFirstWithout}
+use Rattle.cqf_network.specs.PathLaws.{FullPathsHaveAShortLink, NothingHasRoomEverywhere}
 use Rattle.cqf_network.specs.Steps.{led_along}
-use Rattle.cqf_network.specs.Ways.{AreLinks, IsFirstWay, NoWay, has_room, led_by, led_to, most_links, short_link}
+use Rattle.cqf_network.specs.Paths.{AreLinks, IsFirstPath, NoWay, has_room, led_by, led_to, most_links, short_link}
 use Rattle.cqf_topology.specs.NodeNames.{name_of_bridge, name_of_node}
 use Rattle.cqf_program_plans.specs.EndNames.{name_of_end}
 use Rattle.cqf_program_placing.specs.declared.faults.PlanFault.{PlanFault}
@@ -27,12 +27,12 @@ use Rattle.cqf_program_placing.specs.declared.faults.PlanFault.TheVariants as fa
 use Rattle.cqf_program_placing.specs.Placing.{AreFound, IsFull, IsFullTo, IsRouted, names_along}
 use Rattle.cqf_program_placing.specs.declared.routes.Unrouted.{Unrouted}
 use Rattle.cqf_program_placing.specs.declared.routes.Unrouted.TheVariants as unrouted
-use Rattle.cqf_program_placing.specs.declared.turns.Turns.TheVariants.{Given, Chosen}
-use Rattle.cqf_program_placing.specs.Hops.{AreLeftBehind}
+use Rattle.cqf_program_placing.specs.declared.active_cycles.ActiveCycles.TheVariants.{Given, Chosen}
+use Rattle.cqf_program_placing.specs.Hops.{AreLeftAfter}
 use Rattle.cqf_program_placing.specs.Routes.{AreReached, IsFullFor, IsReached, IsUnrouted}
-use Rattle.cqf_program_placing.specs.Settled.{Between, IsOnWay, is_led}
-use Rattle.cqf_program_placing.specs.Turns.{left_emptiest, lefts_on, pace_by}
-use Rattle.cqf_program_placing.proofs.LedLemmas.{led_has_way}
+use Rattle.cqf_program_placing.specs.Settled.{Between, IsOnPath, is_led}
+use Rattle.cqf_program_placing.specs.ActiveCycles.{left_emptiest, lefts_on, pace_by}
+use Rattle.cqf_program_placing.proofs.LedLemmas.{led_has_path}
 
 -- what is made of the elements so far, and then of one more
 pub made_more : {X Y Z : Type 0} (value : Z → Y) (f : X → Y) (xs : List X) (k : ℕ) (x d : X) (front : List Y) (done after : List Z) (new : Z) → k < length xs →
@@ -68,23 +68,23 @@ link_there links node end l e = by_link (slice_get links l) refl e
     by_link (Some link) is some = slice_get_within links l link is
 
 -- so the links of a path are
-way_inside : (links : List Link) (from to : Node) (way : List ℕ) → led_along (led_to links) from way ≡ Some to → (l : ℕ) → Contains way l → l < length links
-way_inside links from to [] leads l c = absurd (contains_none l c)
-way_inside links from to (step ∷ way) leads l c = by_step (λ end more later. way_inside links end to way more l later) (led_to links from step) refl leads
+path_inside : (links : List Link) (from to : Node) (path : List ℕ) → led_along (led_to links) from path ≡ Some to → (l : ℕ) → Contains path l → l < length links
+path_inside links from to [] leads l c = absurd (contains_none l c)
+path_inside links from to (step ∷ path) leads l c = by_step (λ end more later. path_inside links end to path more l later) (led_to links from step) refl leads
   where
-    by_step : ((end : Node) → led_along (led_to links) end way ≡ Some to → Contains way l → l < length links) → (o : Option Node) → led_to links from step ≡ o →
-        option_and_then (λ end. led_along (led_to links) end way) o ≡ Some to → l < length links
+    by_step : ((end : Node) → led_along (led_to links) end path ≡ Some to → Contains path l → l < length links) → (o : Option Node) → led_to links from step ≡ o →
+        option_and_then (λ end. led_along (led_to links) end path) o ≡ Some to → l < length links
     by_step rest None is none = absurd cc
-    by_step rest (Some end) is more = elim (contains_cases step way l c) [
+    by_step rest (Some end) is more = elim (contains_cases step path l c) [
       | inl here ↦ subst (λ (k : ℕ). k < length links) here (link_there links from end step is)
       | inr later ↦ rest end more later
     ]
 
 -- and so is the first that lacks room
-pub short_inside : (links : List Link) (left : List ℕ) (cost : ℕ) (from to : Node) (way : List ℕ) (l : ℕ) → led_along (led_to links) from way ≡ Some to →
-    short_link left cost way ≡ Some l → l < length links
-short_inside links left cost from to way l leads short =
-    way_inside links from to way leads l (find_member (λ k. not (has_room left cost k)) way l short).0
+pub short_inside : (links : List Link) (left : List ℕ) (cost : ℕ) (from to : Node) (path : List ℕ) (l : ℕ) → led_along (led_to links) from path ≡ Some to →
+    short_link left cost path ≡ Some l → l < length links
+short_inside links left cost from to path l leads short =
+    path_inside links from to path leads l (find_member (λ k. not (has_room left cost k)) path l short).0
 
 -- an accepted domain has no more links than are represented, and they leave no more bridges than are represented
 pub are_links : (d : Domain) (links : List Link) → links ≡ d.links → IsAccepted d → AreLinks links
@@ -103,26 +103,26 @@ pub left_there : (d : Domain) (rows : List Row) (every l : ℕ) → l < length d
 left_there d rows every l inside = get_or-singles (left_emptiest d rows every) (length d.links) l 0 inside
 
 -- a path costs nothing if each link has room
-all_pass : (way : List ℕ) → list_all (λ l. true) way ≡ true
+all_pass : (path : List ℕ) → list_all (λ l. true) path ≡ true
 all_pass [] = refl
-all_pass (l ∷ way) = all_pass way
+all_pass (l ∷ path) = all_pass path
 
 -- if links lead to a station, it is reached
 led_reached : (d : Domain) (most bridge station : ℕ) → most ≡ most_links → station < length d.stations →
     is_led d.links most (Bridge bridge) (Station station) ≡ true → IsReached d bridge station
 led_reached d most bridge station is inside led =
-    let w = led_has_way d.links most (Bridge bridge) (Station station) led in
+    let w = led_has_path d.links most (Bridge bridge) (Station station) led in
     record {
       is_there = inside;
-      way = w.way;
-      is_way = record { leads = w.leads; roomy = all_pass w.way; few = omega (arith, w.few, is) };
+      path = w.path;
+      is_path = record { leads = w.leads; roomy = all_pass w.path; few = omega (arith, w.few, is) };
     }
 
 -- so the stations of a settled stream are
-pub all_reached : (d : Domain) (bridge : ℕ) (stations : List ℕ) → IsOnWay d (Between bridge stations) → AreReached d bridge stations
-all_reached d bridge stations on_way k station stands =
+pub all_reached : (d : Domain) (bridge : ℕ) (stations : List ℕ) → IsOnPath d (Between bridge stations) → AreReached d bridge stations
+all_reached d bridge stations on_path k station stands =
     let below = slice_get_within stations k station stands in
-    let here = on_way.1 k station below in
+    let here = on_path.1 k station below in
     let same : get_or stations k station ≡ station = get_or_from_slice_get stations k station station stands in
     led_reached d 16 bridge station refl (subst (λ (s : ℕ). s < length d.stations) same here.0)
     (subst (λ (s : ℕ). is_led d.links 16 (Bridge bridge) (Station s) ≡ true) same here.1)
@@ -133,80 +133,80 @@ pub must_lead : (d : Domain) (links : List Link) (left : List ℕ) (bridge stati
 must_lead d links left bridge station for_nothing are many reached none =
     let none_there : NoWay d.links (has_room left 0) (Bridge bridge) (Station station) =
     subst (λ (ls : List Link). NoWay ls (has_room left 0) (Bridge bridge) (Station station)) are none in
-    (for_nothing d.links left (Bridge bridge) (Station station) [] many).1 none_there reached.way reached.is_way
+    (for_nothing d.links left (Bridge bridge) (Station station) [] many).1 none_there reached.path reached.is_path
 
 -- the first path at no cost is the first of all
-pub first_of_all : (d : Domain) (links : List Link) (left : List ℕ) (bridge station : ℕ) (way : List ℕ) → NothingHasRoomEverywhere → links ≡ d.links →
-    length left ≡ length d.links → IsFirstWay links (has_room left 0) (Bridge bridge) (Station station) way →
-    IsFirstWay d.links (λ l. true) (Bridge bridge) (Station station) way
-first_of_all d links left bridge station way for_nothing are many first =
-    (for_nothing d.links left (Bridge bridge) (Station station) way many).0
-    (subst (λ (ls : List Link). IsFirstWay ls (has_room left 0) (Bridge bridge) (Station station) way) are first)
+pub first_of_all : (d : Domain) (links : List Link) (left : List ℕ) (bridge station : ℕ) (path : List ℕ) → NothingHasRoomEverywhere → links ≡ d.links →
+    length left ≡ length d.links → IsFirstPath links (has_room left 0) (Bridge bridge) (Station station) path →
+    IsFirstPath d.links (λ l. true) (Bridge bridge) (Station station) path
+first_of_all d links left bridge station path for_nothing are many first =
+    (for_nothing d.links left (Bridge bridge) (Station station) path many).0
+    (subst (λ (ls : List Link). IsFirstPath ls (has_room left 0) (Bridge bridge) (Station station) path) are first)
 
 -- if no path has room, the first of all lacks room
-pub must_lack : (d : Domain) (left : List ℕ) (cost bridge station : ℕ) (way : List ℕ) → FullWaysHaveAShortLink →
-    NoWay d.links (has_room left cost) (Bridge bridge) (Station station) → IsFirstWay d.links (λ l. true) (Bridge bridge) (Station station) way →
-    short_link left cost way ≡ None → ⊥
-must_lack d left cost bridge station way short none first all =
-    let (link, lacks) = short d.links left cost (Bridge bridge) (Station station) way none first.is_way in absurd cc
+pub must_lack : (d : Domain) (left : List ℕ) (cost bridge station : ℕ) (path : List ℕ) → FullPathsHaveAShortLink →
+    NoWay d.links (has_room left cost) (Bridge bridge) (Station station) → IsFirstPath d.links (λ l. true) (Bridge bridge) (Station station) path →
+    short_link left cost path ≡ None → ⊥
+must_lack d left cost bridge station path short none first all =
+    let (link, lacks) = short d.links left cost (Bridge bridge) (Station station) path none first.is_path in absurd cc
 
 -- and the station is full
-pub full_found : (d : Domain) (left : List ℕ) (cost bridge station : ℕ) (way : List ℕ) (link : ℕ) (found : PlanFault) →
-    IsFirstWay d.links (λ l. true) (Bridge bridge) (Station station) way → short_link left cost way ≡ Some link →
+pub full_found : (d : Domain) (left : List ℕ) (cost bridge station : ℕ) (path : List ℕ) (link : ℕ) (found : PlanFault) →
+    IsFirstPath d.links (λ l. true) (Bridge bridge) (Station station) path → short_link left cost path ≡ Some link →
     found ≡ fault.Full (name_of_node d (Station station)) cost (name_of_bridge d (bridge_of d link)) (name_of_end d link) (get_or left link 0) →
     IsFullTo d left cost bridge station found
-full_found d left cost bridge station way link found first short is =
-    record { way = way; is_first = first; link = link; lacks = short; is = is }
+full_found d left cost bridge station path link found first short is =
+    record { path = path; is_first = first; link = link; lacks = short; is = is }
 
 -- it is the first station that is full
-pub first_full : (d : Domain) (links : List Link) (left : List ℕ) (cost bridge : ℕ) (stations : List ℕ) (place station : ℕ) (found : PlanFault) →
-    links ≡ d.links → IsFirstWithout links (has_room left cost) (Bridge bridge) stations place → slice_get stations place ≡ Some station →
+pub first_full : (d : Domain) (links : List Link) (left : List ℕ) (cost bridge : ℕ) (stations : List ℕ) (index station : ℕ) (found : PlanFault) →
+    links ≡ d.links → IsFirstWithout links (has_room left cost) (Bridge bridge) stations index → slice_get stations index ≡ Some station →
     IsFullTo d left cost bridge station found → IsFull d left cost bridge stations found
-first_full d links left cost bridge stations place station found are without stands full = record {
-  place = place;
+first_full d links left cost bridge stations index station found are without stands full = record {
+  index = index;
   station = station;
-  without = subst (λ (ls : List Link). IsFirstWithout ls (has_room left cost) (Bridge bridge) stations place) are without;
+  without = subst (λ (ls : List Link). IsFirstWithout ls (has_room left cost) (Bridge bridge) stations index) are without;
   stands = stands;
   is_full = full;
 }
 
 -- there is a station at the index of the first one without a path
-pub stands_there : (links : List Link) (room : ℕ → Bool) (from : Node) (stations : List ℕ) (place : ℕ) → IsFirstWithout links room from stations place →
-    slice_get stations place ≡ Some (get_or stations place 0)
-stands_there links room from stations place without =
-    slice_get-get_or stations place 0 (slice_get_within stations place without.station without.stands)
+pub stands_there : (links : List Link) (room : ℕ → Bool) (from : Node) (stations : List ℕ) (index : ℕ) → IsFirstWithout links room from stations index →
+    slice_get stations index ≡ Some (get_or stations index 0)
+stands_there links room from stations index without =
+    slice_get-get_or stations index 0 (slice_get_within stations index without.station without.stands)
 
 -- and it has no path
-pub none_there : (d : Domain) (links : List Link) (left : List ℕ) (cost bridge : ℕ) (stations : List ℕ) (place station : ℕ) → links ≡ d.links →
-    IsFirstWithout links (has_room left cost) (Bridge bridge) stations place → slice_get stations place ≡ Some station →
+pub none_there : (d : Domain) (links : List Link) (left : List ℕ) (cost bridge : ℕ) (stations : List ℕ) (index station : ℕ) → links ≡ d.links →
+    IsFirstWithout links (has_room left cost) (Bridge bridge) stations index → slice_get stations index ≡ Some station →
     NoWay d.links (has_room left cost) (Bridge bridge) (Station station)
-none_there d links left cost bridge stations place station are without stands =
+none_there d links left cost bridge stations index station are without stands =
     let stood = without.stands in
     let same : without.station ≡ station = cc in
     subst (λ (ls : List Link). NoWay ls (has_room left cost) (Bridge bridge) (Station station)) are
     (subst (λ (s : ℕ). NoWay links (has_room left cost) (Bridge bridge) (Station s)) same without.none)
 
 -- the branches of the first paths are found
-pub ways_found : (d : Domain) (links : List Link) (left : List ℕ) (cost bridge : ℕ) (stations : List ℕ) (ways : List (ArrayVec ℕ))
-    (paths : List Branch) → links ≡ d.links → AreFirstWays links (has_room left cost) (Bridge bridge) stations (map (λ (way : ArrayVec ℕ). way.items) ways) →
-    paths ≡ map (λ (way : ArrayVec ℕ). names_along d bridge way.items) ways → AreFound d left cost bridge stations paths
-ways_found d links left cost bridge stations ways paths are first paths_are =
-    let items = λ (way : ArrayVec ℕ). way.items in
+pub paths_found : (d : Domain) (links : List Link) (left : List ℕ) (cost bridge : ℕ) (stations : List ℕ) (link_paths : List (ArrayVec ℕ))
+    (paths : List Branch) → links ≡ d.links → AreFirstPaths links (has_room left cost) (Bridge bridge) stations (map (λ (path : ArrayVec ℕ). path.items) link_paths) →
+    paths ≡ map (λ (path : ArrayVec ℕ). names_along d bridge path.items) link_paths → AreFound d left cost bridge stations paths
+paths_found d links left cost bridge stations link_paths paths are first paths_are =
+    let items = λ (path : ArrayVec ℕ). path.items in
     record {
-      ways = map items ways;
-      first = subst (λ (ls : List Link). AreFirstWays ls (has_room left cost) (Bridge bridge) stations (map items ways)) are first;
-      are = paths_are ∙ sym (map-map (names_along d bridge) items ways);
+      link_paths = map items link_paths;
+      first = subst (λ (ls : List Link). AreFirstPaths ls (has_room left cost) (Bridge bridge) stations (map items link_paths)) are first;
+      are = paths_are ∙ sym (map-map (names_along d bridge) items link_paths);
     }
 
 -- ---- by what links have left
 
 module _ (d : Domain) (rows : List Row) (cost bridge : ℕ) (stations : List ℕ) where
   -- in the given cycles
-  pub given_routed : (every phase : ℕ) (paths : List Branch) (left : List ℕ) → AreLeftBehind d rows (pace_by every phase) cost bridge left →
+  pub given_routed : (every phase : ℕ) (paths : List Branch) (left : List ℕ) → AreLeftAfter d rows (pace_by every phase) cost bridge left →
       AreFound d left cost bridge stations paths → IsRouted d rows (Given every phase) cost (Between bridge stations) (Ok paths)
   given_routed every phase paths left are found = record { left = left; are_left = are; found = found }
 
-  pub given_unrouted : (every phase : ℕ) (why : Unrouted) (left : List ℕ) → AreLeftBehind d rows (pace_by every phase) cost bridge left →
+  pub given_unrouted : (every phase : ℕ) (why : Unrouted) (left : List ℕ) → AreLeftAfter d rows (pace_by every phase) cost bridge left →
       IsFullFor d left cost bridge stations why → IsUnrouted d rows (Given every phase) cost (Between bridge stations) why
   given_unrouted every phase (unrouted.Fault found) left are full = record { left = left; are_left = are; found = full }
   given_unrouted every phase unrouted.Memory left are full = tt

@@ -8,8 +8,8 @@ use Rattle.cqf_model.specs.declared.topology.Link.{Link}
 use Rattle.cqf_model.specs.declared.topology.Pace.{Pace}
 use Rattle.cqf_model.specs.declared.topology.Row.{Row}
 use Rattle.cqf_model.specs.Domain.{Domain, bridge_of}
-use Rattle.cqf_network.specs.Ways.{most_links}
-use Rattle.cqf_program_placing.specs.Hops.{AreHops, AreLeftBehind, LeadsBehind, has_room_behind, hop_of, left_behind, left_where}
+use Rattle.cqf_network.specs.Paths.{most_links}
+use Rattle.cqf_program_placing.specs.Hops.{AreHops, AreLeftAfter, LeadsAfter, has_room_after, hop_of, left_after, left_where}
 
 module _ (links : List Link) (room : ℕ → ℕ → Bool) (bridge : ℕ) where
   -- bridges that frames leave after at most k links by one, they leave after as many by the other
@@ -27,7 +27,7 @@ module _ (links : List Link) (room : ℕ → ℕ → Bool) (bridge : ℕ) where
       AreSameUpTo k hops others → AreSameUpTo k others hops → hop_of hops other ≡ Some (k + 1) → hop_of others other ≡ Some (k + 1)
   same_next hops others k other one two there back is =
       let (l, leads) = one.comes k other is in
-      let also : LeadsBehind links room others k l other = record {
+      let also : LeadsAfter links room others k l other = record {
         link = leads.link;
         stands = leads.stands;
         leaves = there k leads.link.from (omega arith) leads.leaves;
@@ -73,11 +73,11 @@ module _ (links : List Link) (room : ℕ → ℕ → Bool) (bridge : ℕ) where
           let there : hop_of others other ≡ Some j = (same_up_to hops others j one two).0 j other (omega arith) is in sym there ∙ also
 
 -- so what links have left for a stream is one list
-pub left_is_one : (d : Domain) (rows : List Row) (pace : Pace) (cost bridge : ℕ) (left other : List ℕ) → AreLeftBehind d rows pace cost bridge left →
-    AreLeftBehind d rows pace cost bridge other → left ≡ other
+pub left_is_one : (d : Domain) (rows : List Row) (pace : Pace) (cost bridge : ℕ) (left other : List ℕ) → AreLeftAfter d rows pace cost bridge left →
+    AreLeftAfter d rows pace cost bridge other → left ≡ other
 left_is_one d rows pace cost bridge left other are also =
     are.left_is
     ∙ same_below (λ l. left_where d rows pace are.hops l ∷ []) (λ l. left_where d rows pace also.hops l ∷ []) (length d.links) (λ l low.
-    ap (λ (o : Option ℕ). option_map_or (λ k. left_behind d rows pace k l) o 0 ∷ [])
-    (same_hops d.links (has_room_behind d rows pace cost) bridge are.hops also.hops (bridge_of d l) are.are also.are))
+    ap (λ (o : Option ℕ). option_map_or (λ k. left_after d rows pace k l) o 0 ∷ [])
+    (same_hops d.links (has_room_after d rows pace cost) bridge are.hops also.hops (bridge_of d l) are.are also.are))
     ∙ sym also.left_is

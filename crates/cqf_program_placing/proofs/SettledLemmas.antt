@@ -16,10 +16,10 @@ use Rattle.cqf_model.specs.declared.topology.Node.TheVariants.{Bridge, Station}
 use Rattle.cqf_model.specs.Domain.{Domain, node_named, node_or}
 use Rattle.cqf_model.specs.Limits.{most_streams, streams_within}
 use Rattle.std.proofs.Math.Nat.{min-le_right}
-use Rattle.cqf_network.specs.Ways.{most_links}
+use Rattle.cqf_network.specs.Paths.{most_links}
 use Rattle.cqf_topology.specs.Fields.{Gives, and_first}
-use Rattle.cqf_topology.specs.DomainText.{if_so, is_among, place_of, with_front}
-use Rattle.cqf_topology.proofs.Accepted.{place-within}
+use Rattle.cqf_topology.specs.DomainText.{if_so, index_of, is_among, with_front}
+use Rattle.cqf_topology.proofs.Accepted.{index-within}
 use Rattle.cqf_topology.proofs.Passed.{not_so}
 use Rattle.cqf_topology.proofs.Refusals.{and_then-Ok, ok_or-Ok, refuse-Ok}
 use Rattle.cqf_network.specs.declared.domain.TalkerLink.{TalkerLink}
@@ -33,9 +33,9 @@ use Rattle.cqf_program_placing.specs.declared.faults.PlanFault.TheVariants as fa
 use Rattle.cqf_program_placing.specs.declared.settled.Settled.{Settled}
 use Rattle.cqf_program_placing.specs.declared.settled.Unsettled.{Unsettled}
 use Rattle.cqf_program_placing.specs.declared.settled.Unsettled.TheVariants as unsettled
-use Rattle.cqf_program_placing.specs.Settled.{Along, Between, IsOnWay, IsPlaceable, SettledStream, SettledWay, are_reservable, deadline_behind}
-use Rattle.cqf_program_placing.specs.Settled.{deadline_of_stream, entrance_at, entrance_behind, first_apart, has_way, is_led, is_paced, open_domain, or_unsettled}
-use Rattle.cqf_program_placing.specs.Settled.{refusal_behind, settled_behind, settled_next, settled_of, settled_stream, settled_value, settled_way, station_at}
+use Rattle.cqf_program_placing.specs.Settled.{Along, Between, IsOnPath, IsPlaceable, SettledPath, SettledStream, are_reservable, deadline_after}
+use Rattle.cqf_program_placing.specs.Settled.{deadline_of_stream, entrance_after, entrance_at, first_apart, has_path, is_led, is_paced, open_domain, or_unsettled}
+use Rattle.cqf_program_placing.specs.Settled.{refusal_after, settled_after, settled_next, settled_of, settled_path, settled_stream, settled_value, station_at}
 use Rattle.cqf_program_placing.specs.Settled.{station_by_name, stations_by_name, wanted_stream}
 
 -- what is there was right
@@ -58,19 +58,19 @@ found_none {X} test x xs e = by (test x) refl e
 
 -- the node of a name is one of the domain's
 bridge_there : (d : Domain) (name : List ℕ) (b : ℕ) → node_named d name ≡ Some (Bridge b) → b < length d.bridges
-bridge_there d name b e = by (place_of name d.bridges) (place_of name d.stations) refl e
+bridge_there d name b e = by (index_of name d.bridges) (index_of name d.stations) refl e
   where
-    by : (o p : Option ℕ) → place_of name d.bridges ≡ o → node_or o p ≡ Some (Bridge b) → b < length d.bridges
-    by (Some k) p at h = let same : k ≡ b = cc in subst (λ (n : ℕ). n < length d.bridges) same (place-within name d.bridges k at)
+    by : (o p : Option ℕ) → index_of name d.bridges ≡ o → node_or o p ≡ Some (Bridge b) → b < length d.bridges
+    by (Some k) p at h = let same : k ≡ b = cc in subst (λ (n : ℕ). n < length d.bridges) same (index-within name d.bridges k at)
     by None (Some k) at h = absurd cc
     by None None at h = absurd cc
 
 station_there : (d : Domain) (name : List ℕ) (s : ℕ) → node_named d name ≡ Some (Station s) → s < length d.stations
-station_there d name s e = by (place_of name d.bridges) (place_of name d.stations) refl e
+station_there d name s e = by (index_of name d.bridges) (index_of name d.stations) refl e
   where
-    by : (o p : Option ℕ) → place_of name d.stations ≡ p → node_or o p ≡ Some (Station s) → s < length d.stations
+    by : (o p : Option ℕ) → index_of name d.stations ≡ p → node_or o p ≡ Some (Station s) → s < length d.stations
     by (Some k) p at h = absurd cc
-    by None (Some k) at h = let same : k ≡ s = cc in subst (λ (n : ℕ). n < length d.stations) same (place-within name d.stations k at)
+    by None (Some k) at h = let same : k ≡ s = cc in subst (λ (n : ℕ). n < length d.stations) same (index-within name d.stations k at)
     by None None at h = absurd cc
 
 -- so is an edge bridge
@@ -79,7 +79,7 @@ pub entrance_there : (network : NetworkDomain) (d : Domain) (from : List ℕ) (e
 entrance_there network d from entrance talkers same e = by_node (node_named d from) refl e
   where
     by_talker : (found : Option TalkerLink) (s : ℕ) → find (λ (talker : TalkerLink). talker.station == s) network.talkers ≡ found →
-        option_map entrance_behind found ≡ Some entrance → entrance.bridge < length d.bridges
+        option_map entrance_after found ≡ Some entrance → entrance.bridge < length d.bridges
     by_talker None s is h = absurd cc
     by_talker (Some talker) s is h =
         let member = (find_member (λ (t : TalkerLink). t.station == s) network.talkers talker is).0 in
@@ -112,33 +112,33 @@ stations_reached : (d : Domain) (bridge : ℕ) (names : List (List ℕ)) (statio
 stations_reached d bridge [] stations e none = let nil : [] ≡ stations = cc in subst (All (StationReached d bridge)) nil (All-nil (StationReached d bridge))
 stations_reached d bridge (name ∷ names) stations e none =
     let both = and_first-Ok (station_by_name d name) (stations_by_name d names) stations e in
-    let parts = found_none (λ n. not (has_way d bridge (node_named d n))) name names none in
+    let parts = found_none (λ n. not (has_path d bridge (node_named d n))) name names none in
     let node = station_named_by d name both.one both.first_is in
     let led : is_led d.links most_links (Bridge bridge) (Station both.one) ≡ true =
-    sym (ap (has_way d bridge) node) ∙ not_not (has_way d bridge (node_named d name)) parts.0 in
+    sym (ap (has_path d bridge) node) ∙ not_not (has_path d bridge (node_named d name)) parts.0 in
     subst (All (StationReached d bridge)) (sym both.all)
     (All-cons (StationReached d bridge) both.one both.more (station_there d name both.one node, led)
     (stations_reached d bridge names both.more both.others_are parts.1))
 
 -- a settled path leads through the domain
-on_way : (network : NetworkDomain) (d : Domain) (wanted : WantedText) (way : SettledWay) → HasTalkerLinks network → d.bridges ≡ network.bridges →
-    settled_way network d wanted ≡ Ok way → IsOnWay d way
-on_way network d (AlongText paths) way talkers same e =
-    let parts = refuse-Ok (tree_refusal d paths) fault.Refused (Ok (Along paths)) way e in
-    let is : Along paths ≡ way = let h = parts.1 in cc in
-    subst (IsOnWay d) is tt
-on_way network d (BetweenText from to) way talkers same e =
-    let (entrance, entered, rest) = and_then-Ok (ok_or (entrance_at network (node_named d from)) fault.NoTalker) _ way e in
-    let (stations, named, more) = and_then-Ok (stations_by_name d to) _ way rest in
-    let parts = refuse-Ok (first_apart d entrance.bridge to) fault.NoWay (Ok (Between entrance.bridge stations)) way more in
-    let is : Between entrance.bridge stations ≡ way = let h = parts.1 in cc in
-    subst (IsOnWay d) is (
+on_path : (network : NetworkDomain) (d : Domain) (wanted : WantedText) (path : SettledPath) → HasTalkerLinks network → d.bridges ≡ network.bridges →
+    settled_path network d wanted ≡ Ok path → IsOnPath d path
+on_path network d (AlongText paths) path talkers same e =
+    let parts = refuse-Ok (tree_refusal d paths) fault.Refused (Ok (Along paths)) path e in
+    let is : Along paths ≡ path = let h = parts.1 in cc in
+    subst (IsOnPath d) is tt
+on_path network d (BetweenText from to) path talkers same e =
+    let (entrance, entered, rest) = and_then-Ok (ok_or (entrance_at network (node_named d from)) fault.NoTalker) _ path e in
+    let (stations, named, more) = and_then-Ok (stations_by_name d to) _ path rest in
+    let parts = refuse-Ok (first_apart d entrance.bridge to) fault.NoWay (Ok (Between entrance.bridge stations)) path more in
+    let is : Between entrance.bridge stations ≡ path = let h = parts.1 in cc in
+    subst (IsOnPath d) is (
       entrance_there network d from entrance talkers same (ok_or-Ok _ fault.NoTalker entrance entered),
       stations_reached d entrance.bridge to stations named parts.0,
     )
 
 -- of an accepted deadline something is left
-some_left : (taken : ℕ) (given left : Option ℕ) → deadline_behind taken given ≡ Ok left → ForSome left (λ deadline. 1 ≤ deadline)
+some_left : (taken : ℕ) (given left : Option ℕ) → deadline_after taken given ≡ Ok left → ForSome left (λ deadline. 1 ≤ deadline)
 some_left taken None left e deadline is = absurd (let none : None ≡ left = cc in cc)
 some_left taken (Some whole) left e deadline is = by (nat_lt taken whole) refl e
   where
@@ -154,8 +154,8 @@ pub record IsSettledBy (network : NetworkDomain) (d : Domain) (before : List (Li
   pub named : is_name stream.name ≡ true
   pub reservable : are_reservable one.octets ≡ true
   pub paced : is_paced one.pacing ≡ true
-  pub way_is : settled_way network d stream.way ≡ Ok one.way
-  pub stands : refusal_behind d before stream.name ≡ None
+  pub path_is : settled_path network d stream.path ≡ Ok one.path
+  pub stands : refusal_after d before stream.name ≡ None
   pub deadline_is : deadline_of_stream network d stream ≡ Ok one.deadline
   pub name_is : stream.name ≡ one.name
   pub octets_are : stream.octets ≡ one.octets
@@ -170,11 +170,11 @@ settled_by network d before stream one e =
     let e2 = or_unsettled-Ok stream.name (settled_stream network d before stream) one e1 in
     let (reservable, e3) = refuse-Ok (if_so (not (are_reservable stream.octets))) (λ _. fault.Refused refused.BadOctets) _ one e2 in
     let (paced, p3) = refuse-Ok (if_so (not (is_paced stream.pacing))) (λ _. fault.Refused refused.BadPace) _ one e3 in
-    let (way, way_is, e4) = and_then-Ok (settled_way network d stream.way) _ one p3 in
-    let (stands, e5) = refuse-Ok (refusal_behind d before stream.name) fault.Refused _ one e4 in
+    let (path, path_is, e4) = and_then-Ok (settled_path network d stream.path) _ one p3 in
+    let (stands, e5) = refuse-Ok (refusal_after d before stream.name) fault.Refused _ one e4 in
     let (deadline, deadline_is, e6) = and_then-Ok (deadline_of_stream network d stream) _ one e5 in
     let made : SettledStream =
-    record { name = stream.name; octets = stream.octets; pacing = stream.pacing; way = way; deadline = deadline; traffic = stream.traffic } in
+    record { name = stream.name; octets = stream.octets; pacing = stream.pacing; path = path; deadline = deadline; traffic = stream.traffic } in
     let same : made ≡ one = cc in
     record {
       named = not_not (is_name stream.name) (not_so (not (is_name stream.name)) unnamed);
@@ -182,7 +182,7 @@ settled_by network d before stream one e =
           (not_not (are_reservable stream.octets) (not_so (not (are_reservable stream.octets)) reservable));
       paced = subst (λ (s : SettledStream). is_paced s.pacing ≡ true) same
           (not_not (is_paced stream.pacing) (not_so (not (is_paced stream.pacing)) paced));
-      way_is = way_is ∙ ap (λ (s : SettledStream). Ok s.way) same;
+      path_is = path_is ∙ ap (λ (s : SettledStream). Ok s.path) same;
       stands = stands;
       deadline_is = deadline_is ∙ ap (λ (s : SettledStream). Ok s.deadline) same;
       name_is = ap (λ (s : SettledStream). s.name) same;
@@ -226,38 +226,38 @@ next_is_placeable network d before stream one talkers same e =
     let by_name = settled_by network d before stream one e in
     record {
       named = subst (λ (n : List ℕ). IsTrue (is_name n)) by_name.name_is by_name.named;
-      on_way = on_way network d stream.way one.way talkers same by_name.way_is;
+      on_path = on_path network d stream.path one.path talkers same by_name.path_is;
       reservable = by_name.reservable;
       paced = by_name.paced;
       some_deadline = some_left _ stream.deadline one.deadline by_name.deadline_is;
     }
 
-behind_are_placeable : (network : NetworkDomain) (d : Domain) (before : List (List ℕ)) (streams : List StreamText) (settled : List SettledStream) →
-    HasTalkerLinks network → d.bridges ≡ network.bridges → settled_behind network d before streams ≡ Ok settled → All (IsPlaceable d) settled
-behind_are_placeable network d before [] settled talkers same e =
+after_are_placeable : (network : NetworkDomain) (d : Domain) (before : List (List ℕ)) (streams : List StreamText) (settled : List SettledStream) →
+    HasTalkerLinks network → d.bridges ≡ network.bridges → settled_after network d before streams ≡ Ok settled → All (IsPlaceable d) settled
+after_are_placeable network d before [] settled talkers same e =
     let nil : [] ≡ settled = cc in subst (All (IsPlaceable d)) nil (All-nil (IsPlaceable d))
-behind_are_placeable network d before (stream ∷ streams) settled talkers same e =
-    let both = and_first-Ok (settled_next network d before stream) (settled_behind network d (before ++ stream.name ∷ []) streams) settled e in
+after_are_placeable network d before (stream ∷ streams) settled talkers same e =
+    let both = and_first-Ok (settled_next network d before stream) (settled_after network d (before ++ stream.name ∷ []) streams) settled e in
     subst (All (IsPlaceable d)) (sym both.all)
     (All-cons (IsPlaceable d) both.one both.more (next_is_placeable network d before stream both.one talkers same both.first_is)
-    (behind_are_placeable network d (before ++ stream.name ∷ []) streams both.more talkers same both.others_are))
+    (after_are_placeable network d (before ++ stream.name ∷ []) streams both.more talkers same both.others_are))
 
 -- so can all
 settled_are_placeable : (network : NetworkDomain) (streams : List StreamText) (settled : List SettledStream) → HasTalkerLinks network →
     settled_of network streams ≡ Ok settled → All (IsPlaceable (open_domain network)) settled
-settled_are_placeable network streams settled talkers e = behind_are_placeable network (open_domain network) [] streams settled talkers refl e
+settled_are_placeable network streams settled talkers e = after_are_placeable network (open_domain network) [] streams settled talkers refl e
 
 -- and they are few
-behind_are_few : (network : NetworkDomain) (d : Domain) (before : List (List ℕ)) (streams : List StreamText) (settled : List SettledStream) →
-    length before ≤ most_streams → settled_behind network d before streams ≡ Ok settled → length before + length settled ≤ most_streams
-behind_are_few network d before [] settled few e =
+after_are_few : (network : NetworkDomain) (d : Domain) (before : List (List ℕ)) (streams : List StreamText) (settled : List SettledStream) →
+    length before ≤ most_streams → settled_after network d before streams ≡ Ok settled → length before + length settled ≤ most_streams
+after_are_few network d before [] settled few e =
     let nil : [] ≡ settled = cc in subst (λ (ss : List SettledStream). length before + length ss ≤ most_streams) nil (omega (arith, few))
-behind_are_few network d before (stream ∷ streams) settled few e =
-    let both = and_first-Ok (settled_next network d before stream) (settled_behind network d (before ++ stream.name ∷ []) streams) settled e in
+after_are_few network d before (stream ∷ streams) settled few e =
+    let both = and_first-Ok (settled_next network d before stream) (settled_after network d (before ++ stream.name ∷ []) streams) settled e in
     let next = next_stands network d before stream both.one both.first_is in
     let longer : length (before ++ stream.name ∷ []) ≡ length before + 1 = length-append before (stream.name ∷ []) in
     let room : length (before ++ stream.name ∷ []) ≤ most_streams = omega (arith, longer, next.few) in
-    let rest = behind_are_few network d (before ++ stream.name ∷ []) streams both.more room both.others_are in
+    let rest = after_are_few network d (before ++ stream.name ∷ []) streams both.more room both.others_are in
     subst (λ (ss : List SettledStream). length before + length ss ≤ most_streams) (sym both.all) (omega (arith, rest, longer))
 
 -- one more stream after those that are settled
@@ -268,37 +268,37 @@ with_more done x (Err e) = refl
 pub settled_more : (network : NetworkDomain) (d : Domain) (held held' : List (List ℕ)) (stream : StreamText) (rest : List StreamText)
     (done done' : List SettledStream) (one : SettledStream) → settled_next network d held stream ≡ Ok one → one.name ≡ stream.name →
     held' ≡ held ++ one.name ∷ [] → done' ≡ done ++ one ∷ [] →
-    with_front done' (settled_behind network d held' rest) ≡ with_front done (settled_behind network d held (stream ∷ rest))
+    with_front done' (settled_after network d held' rest) ≡ with_front done (settled_after network d held (stream ∷ rest))
 settled_more network d held held' stream rest done done' one is name holds more =
     let held_is : held' ≡ held ++ stream.name ∷ [] = holds ∙ ap (λ (n : List ℕ). held ++ n ∷ []) name in
-    (λ i. with_front (more i) (settled_behind network d (held_is i) rest))
-    ∙ with_more done one (settled_behind network d (held ++ stream.name ∷ []) rest)
-    ∙ ap (λ r. with_front done (and_first r (settled_behind network d (held ++ stream.name ∷ []) rest))) (sym is)
+    (λ i. with_front (more i) (settled_after network d (held_is i) rest))
+    ∙ with_more done one (settled_after network d (held ++ stream.name ∷ []) rest)
+    ∙ ap (λ r. with_front done (and_first r (settled_after network d (held ++ stream.name ∷ []) rest))) (sym is)
 
 -- a stream whose name has the form of one is settled by what is settled of it
 pub named_settled : (network : NetworkDomain) (d : Domain) (before : List (List ℕ)) (stream : StreamText) (name : List ℕ) → stream.name ≡ name →
     is_name name ≡ true → settled_next network d before stream ≡
-    or_unsettled name (settled_stream network d before (wanted_stream name stream.octets stream.pacing stream.way stream.deadline stream.traffic))
+    or_unsettled name (settled_stream network d before (wanted_stream name stream.octets stream.pacing stream.path stream.deadline stream.traffic))
 named_settled network d before stream name same form =
     ap (λ (b : Bool). refuse (if_so (not b)) (λ _. unsettled.BadName (length before + 1)) (or_unsettled stream.name (settled_stream network d before stream)))
     (ap is_name same ∙ form)
     ∙ ap (λ (n : List ℕ).
-    or_unsettled n (settled_stream network d before (wanted_stream n stream.octets stream.pacing stream.way stream.deadline stream.traffic))) same
+    or_unsettled n (settled_stream network d before (wanted_stream n stream.octets stream.pacing stream.path stream.deadline stream.traffic))) same
 
 -- what is given is settled so
 pub given_are_placeable : (network : NetworkDomain) (plan : Domain) (streams : List StreamText) (given : Result (Vec Settled Global) Unsettled) →
     HasTalkerLinks network → plan ≡ open_domain network →
-    Gives unsettled.Memory (λ settled. map settled_value settled.items) given (settled_behind network plan [] streams) →
+    Gives unsettled.Memory (λ settled. map settled_value settled.items) given (settled_after network plan [] streams) →
     IfOk given (λ settled. All (IsPlaceable (open_domain network)) (map settled_value settled.items))
 given_are_placeable network plan streams (Ok settled) talkers is gives =
     settled_are_placeable network streams (map settled_value settled.items) talkers
-    (subst (λ (d : Domain). settled_behind network d [] streams ≡ Ok (map settled_value settled.items)) is gives)
+    (subst (λ (d : Domain). settled_after network d [] streams ≡ Ok (map settled_value settled.items)) is gives)
 given_are_placeable network plan streams (Err e) talkers is gives = tt
 
 pub given_are_few : (network : NetworkDomain) (plan : Domain) (streams : List StreamText) (given : Result (Vec Settled Global) Unsettled) →
-    Gives unsettled.Memory (λ settled. map settled_value settled.items) given (settled_behind network plan [] streams) →
+    Gives unsettled.Memory (λ settled. map settled_value settled.items) given (settled_after network plan [] streams) →
     IfOk given (λ settled. length settled.items ≤ most_streams)
 given_are_few network plan streams (Ok settled) gives =
-    let all = behind_are_few network plan [] streams (map settled_value settled.items) (omega arith) gives in
+    let all = after_are_few network plan [] streams (map settled_value settled.items) (omega arith) gives in
     omega (arith, all, length-map settled.items settled_value)
 given_are_few network plan streams (Err e) gives = tt

@@ -12,14 +12,14 @@ use Rattle.cqf_model.specs.Domain.{Domain}
 use Rattle.cqf_model.specs.History.{Branch, is_pace}
 use Rattle.cqf_model.specs.Limits.{most_every}
 use Rattle.cqf_admission.specs.Branches.{tree_refusal}
-use Rattle.cqf_admission.specs.Turns.{IsGoodPace}
+use Rattle.cqf_admission.specs.ActiveCycles.{IsGoodPace}
 use Rattle.cqf_traffic.specs.TrafficText.{TrafficText}
 use Rattle.cqf_network.specs.declared.pacing.Pacing.{Pacing}
 use Rattle.cqf_network.specs.declared.pacing.Pacing.TheVariants as pacing
-use Rattle.cqf_program_placing.specs.declared.turns.Turns.{Turns}
-use Rattle.cqf_program_placing.specs.declared.turns.Turns.TheVariants.{Given, Chosen}
+use Rattle.cqf_program_placing.specs.declared.active_cycles.ActiveCycles.{ActiveCycles}
+use Rattle.cqf_program_placing.specs.declared.active_cycles.ActiveCycles.TheVariants.{Given, Chosen}
 use Rattle.cqf_program_placing.specs.Settled.{is_paced}
-use Rattle.cqf_program_placing.specs.Turns.{AreGoodTurns, CostsSome, IsChosenBy, IsGoodEvery, IsPhaseAlong, MayBeFirst, every_in, every_of, keeps_step, pace_by, turns_by}
+use Rattle.cqf_program_placing.specs.ActiveCycles.{AreGoodActiveCycles, CostsSome, IsChosenBy, IsGoodEvery, IsPhaseAlong, MayBeFirst, active_cycles_by, every_in, every_of, keeps_step, pace_by}
 
 -- a divisor of 80 is at most 80
 pub good_every : (every : ℕ) → 1 ≤ every → most_every % every ≡ 0 → IsGoodEvery every
@@ -37,9 +37,9 @@ pub is_good_pace : (every phase : ℕ) → IsGoodEvery every → phase < every �
 is_good_pace every phase good below =
     and_from (most_every % every == 0) (nat_lt phase every) (eq-eqb (most_every % every) 0 good.divides) (lt-ltb phase every below)
 
--- the pace of good turns is a good pace
-pub turns_are_good : (every phase : ℕ) → IsGoodEvery every → phase < every → IsGoodPace (pace_by every phase)
-turns_are_good every phase good below =
+-- the pace of good active cycles is a good pace
+pub active_cycles_are_good : (every phase : ℕ) → IsGoodEvery every → phase < every → IsGoodPace (pace_by every phase)
+active_cycles_are_good every phase good below =
     let same : every - 1 + 1 ≡ every = omega (arith, good.some) in
     record { divides = ap (λ n. most_every % n) same ∙ good.divides; within = omega (arith, below) }
 
@@ -124,31 +124,31 @@ every_is_good cycles =
 
 -- ---- the cycles of a stream
 
-pub turns_good : (cycle_time : ℕ) (given : Pacing) (traffic : Option TrafficText) → is_paced given ≡ true → AreGoodTurns (turns_by cycle_time given traffic)
-turns_good cycle_time (pacing.Given every phase) traffic paced = paced
-turns_good cycle_time pacing.InStep None paced = refl
-turns_good cycle_time pacing.InStep (Some t) paced = every_is_good (t.interval / cycle_time)
+pub active_cycles_good : (cycle_time : ℕ) (given : Pacing) (traffic : Option TrafficText) → is_paced given ≡ true → AreGoodActiveCycles (active_cycles_by cycle_time given traffic)
+active_cycles_good cycle_time (pacing.Given every phase) traffic paced = paced
+active_cycles_good cycle_time pacing.InStep None paced = refl
+active_cycles_good cycle_time pacing.InStep (Some t) paced = every_is_good (t.interval / cycle_time)
 
 -- if a stream costs something whenever it has traffic, it costs something if its first cycle is to be chosen
 pub costs_some : (cycle_time octets : ℕ) (given : Pacing) (traffic : Option TrafficText) → IfSome traffic (λ _. 1 ≤ octets) →
-    CostsSome (turns_by cycle_time given traffic) octets
+    CostsSome (active_cycles_by cycle_time given traffic) octets
 costs_some cycle_time octets (pacing.Given every phase) traffic some = tt
 costs_some cycle_time octets pacing.InStep None some = tt
 costs_some cycle_time octets pacing.InStep (Some t) some = some
 
 -- so it does at no smaller cost
-pub costs_more : (turns : Turns) (octets cost : ℕ) → octets ≤ cost → CostsSome turns octets → CostsSome turns cost
+pub costs_more : (active_cycles : ActiveCycles) (octets cost : ℕ) → octets ≤ cost → CostsSome active_cycles octets → CostsSome active_cycles cost
 costs_more (Given every phase) octets cost more some = tt
 costs_more (Chosen every) octets cost more some = omega (arith, some, more)
 
 -- n if it is offered in one of n cycles
-pub every_is_good_in : (turns : Turns) → AreGoodTurns turns → IsGoodEvery (every_in turns)
+pub every_is_good_in : (active_cycles : ActiveCycles) → AreGoodActiveCycles active_cycles → IsGoodEvery (every_in active_cycles)
 every_is_good_in (Given every phase) good = (pace_is_good every phase good).0
 every_is_good_in (Chosen every) good = good
 
 -- a given or chosen phase may be the first
 pub may_be_first : (d : Domain) (rows : List Row) (cost : ℕ) (paths : List Branch) (cycle_time : ℕ) (given : Pacing) (traffic : Option TrafficText)
-    (first : ℕ) → IsPhaseAlong d rows cost paths (turns_by cycle_time given traffic) first → MayBeFirst (turns_by cycle_time given traffic) first
+    (first : ℕ) → IsPhaseAlong d rows cost paths (active_cycles_by cycle_time given traffic) first → MayBeFirst (active_cycles_by cycle_time given traffic) first
 may_be_first d rows cost paths cycle_time (pacing.Given every phase) traffic first is = is
 may_be_first d rows cost paths cycle_time pacing.InStep None first is = is
 may_be_first d rows cost paths cycle_time pacing.InStep (Some t) first is = by_tree (tree_refusal d paths) is
@@ -161,8 +161,8 @@ may_be_first d rows cost paths cycle_time pacing.InStep (Some t) first is = by_t
     by_tree (Some refusal) none = omega (arith, none, (every_is_good (t.interval / cycle_time)).some)
 
 -- and so may the phase along any branches, also if they are refused
-pub first_along : (d : Domain) (rows : List Row) (cost : ℕ) (paths : List Branch) (turns : Turns) (first : ℕ) → AreGoodTurns turns →
-    IsPhaseAlong d rows cost paths turns first → MayBeFirst turns first
+pub first_along : (d : Domain) (rows : List Row) (cost : ℕ) (paths : List Branch) (active_cycles : ActiveCycles) (first : ℕ) → AreGoodActiveCycles active_cycles →
+    IsPhaseAlong d rows cost paths active_cycles first → MayBeFirst active_cycles first
 first_along d rows cost paths (Given every phase) first good is = is
 first_along d rows cost paths (Chosen every) first good is = by (tree_refusal d paths) is
   where
@@ -171,15 +171,15 @@ first_along d rows cost paths (Chosen every) first good is = by (tree_refusal d 
     by (Some refusal) none = omega (arith, none, good.some)
 
 -- it makes a pace
-pub paced_so : (turns : Turns) (first : ℕ) → AreGoodTurns turns → MayBeFirst turns first → is_pace (every_in turns) first ≡ true
+pub paced_so : (active_cycles : ActiveCycles) (first : ℕ) → AreGoodActiveCycles active_cycles → MayBeFirst active_cycles first → is_pace (every_in active_cycles) first ≡ true
 paced_so (Given every phase) first good is = ap (is_pace every) is ∙ good
 paced_so (Chosen every) first good is = is_good_pace every first good is
 
 -- and is a cycle before all paces repeat
 pub first_is_early : (cycle_time : ℕ) (given : Pacing) (traffic : Option TrafficText) (first : ℕ) → is_paced given ≡ true →
-    MayBeFirst (turns_by cycle_time given traffic) first → first < most_every
-first_is_early cycle_time given traffic first paced may = by (turns_by cycle_time given traffic) (turns_good cycle_time given traffic paced) may
+    MayBeFirst (active_cycles_by cycle_time given traffic) first → first < most_every
+first_is_early cycle_time given traffic first paced may = by (active_cycles_by cycle_time given traffic) (active_cycles_good cycle_time given traffic paced) may
   where
-    by : (turns : Turns) → AreGoodTurns turns → MayBeFirst turns first → first < most_every
+    by : (active_cycles : ActiveCycles) → AreGoodActiveCycles active_cycles → MayBeFirst active_cycles first → first < most_every
     by (Given every phase) good is = let parts = pace_is_good every phase good in omega (arith, is, parts.1, parts.0.few)
     by (Chosen every) good is = omega (arith, is, good.few)

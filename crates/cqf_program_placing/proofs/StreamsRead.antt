@@ -28,7 +28,7 @@ use Rattle.cqf_network_text.proofs.Ranges.{traffic_in_range}
 use Rattle.cqf_network.specs.declared.talkers.Talker.{Talker}
 use Rattle.cqf_network.specs.StreamsText.{Along, Between, StreamText, WantedText, branches_if, first_lack, first_lack_of, first_lack_within, has_path, if_listeners}
 use Rattle.cqf_network.specs.StreamsText.{listeners_by, listeners_if, listeners_read, octets_by, octets_from, owed_keys, pacing_from, shortest_read, network_streams_of_text}
-use Rattle.cqf_network.specs.StreamsText.{stream_from, streams_from, streams_in, streams_of_array, talker_read, way_by}
+use Rattle.cqf_network.specs.StreamsText.{path_by, stream_from, streams_from, streams_in, streams_of_array, talker_read}
 use Rattle.cqf_network.proofs.StreamParts.{each_stream, has_read, map_None, or_None}
 use Rattle.cqf_program_placing.specs.Room.{AreListeners, IsReadStream}
 use Rattle.cqf_program_placing.proofs.SettledLemmas.{found_none}
@@ -78,12 +78,12 @@ any_read (Some d) listeners e =
     subst AreApart same (those_read d to are)
 
 -- the path of a stream, by its branches and its ends
-way_read : (paths : Option (List (List (List ℕ)))) (talker : Option Talker) (listeners : Option (List (List ℕ))) (way : WantedText) → AreApart listeners →
-    way_by paths talker listeners ≡ Ok way → AreListeners way
-way_read (Some paths) talker listeners way apart e = let is : Along paths ≡ way = cc in subst AreListeners is tt
-way_read None None listeners way apart e = absurd cc
-way_read None (Some talker) None way apart e = absurd cc
-way_read None (Some talker) (Some to) way apart e = let is : Between talker.node to ≡ way = cc in subst AreListeners is apart
+path_read : (paths : Option (List (List (List ℕ)))) (talker : Option Talker) (listeners : Option (List (List ℕ))) (path : WantedText) → AreApart listeners →
+    path_by paths talker listeners ≡ Ok path → AreListeners path
+path_read (Some paths) talker listeners path apart e = let is : Along paths ≡ path = cc in subst AreListeners is tt
+path_read None None listeners path apart e = absurd cc
+path_read None (Some talker) None path apart e = absurd cc
+path_read None (Some talker) (Some to) path apart e = let is : Between talker.node to ≡ path = cc in subst AreListeners is apart
 
 module _ (table : Members) where
   -- ---- octets and traffic
@@ -134,7 +134,7 @@ module _ (table : Members) where
       record {
         reserves = some_reserved stream.octets stream.traffic lack was.octets was.traffic;
         traffic = traffic_in_range table stream.traffic was.traffic;
-        listeners = way_read was.given stream.talker stream.listeners stream.way apart was.way;
+        listeners = path_read was.given stream.talker stream.listeners stream.path apart was.path;
       }
 
 -- the streams of a text

@@ -8,29 +8,29 @@ use Rattle.cqf_model.specs.declared.topology.Node.TheVariants.{Bridge}
 use Rattle.cqf_model.specs.declared.topology.Pace.{Pace}
 use Rattle.cqf_model.specs.declared.topology.Row.{Row}
 use Rattle.cqf_model.specs.Domain.{Domain, bridge_of}
-use Rattle.cqf_network.specs.Ways.{most_links}
-use Rattle.cqf_admission.specs.Costs.{left_in_turns}
-use Rattle.cqf_program_placing.specs.declared.turns.Turns.{Turns}
-use Rattle.cqf_program_placing.specs.declared.turns.Turns.TheVariants.{Given, Chosen}
-use Rattle.cqf_program_placing.specs.Turns.{lefts_on, pace_by}
+use Rattle.cqf_network.specs.Paths.{most_links}
+use Rattle.cqf_admission.specs.Costs.{left_in_active_cycles}
+use Rattle.cqf_program_placing.specs.declared.active_cycles.ActiveCycles.{ActiveCycles}
+use Rattle.cqf_program_placing.specs.declared.active_cycles.ActiveCycles.TheVariants.{Given, Chosen}
+use Rattle.cqf_program_placing.specs.ActiveCycles.{lefts_on, pace_by}
 
 -- a link as the hop that follows k links, so with hop number k + 1
-abbrev pub hop_behind : ℕ → ℕ → Hop
-hop_behind k l = record { link = l; depth = k + 1; from = None }
+abbrev pub hop_after : ℕ → ℕ → Hop
+hop_after k l = record { link = l; hop_number = k + 1; from = None }
 
 -- what the link has left, after k links, in the cycles in which frames of a pace pass it, and whether that covers what a stream costs
-abbrev pub left_behind : Domain → List Row → Pace → ℕ → ℕ → ℕ
-left_behind d rows pace k l = left_in_turns d rows pace (hop_behind k l)
+abbrev pub left_after : Domain → List Row → Pace → ℕ → ℕ → ℕ
+left_after d rows pace k l = left_in_active_cycles d rows pace (hop_after k l)
 
-abbrev pub has_room_behind : Domain → List Row → Pace → ℕ → ℕ → ℕ → Bool
-has_room_behind d rows pace cost k l = nat_le cost (left_behind d rows pace k l)
+abbrev pub has_room_after : Domain → List Row → Pace → ℕ → ℕ → ℕ → Bool
+has_room_after d rows pace cost k l = nat_le cost (left_after d rows pace k l)
 
 -- after how many links frames leave a bridge, if they reach it
 abbrev pub hop_of : List (Option ℕ) → ℕ → Option ℕ
 hop_of hops bridge = slice_index_or hops bridge None
 
 -- a link leads to a bridge from one that frames leave after k links, and has room after k links
-pub record LeadsBehind (links : List Link) (room : ℕ → ℕ → Bool) (hops : List (Option ℕ)) (k l bridge : ℕ) : Type 0 where
+pub record LeadsAfter (links : List Link) (room : ℕ → ℕ → Bool) (hops : List (Option ℕ)) (k l bridge : ℕ) : Type 0 where
   pub link : Link
   pub stands : slice_get links l ≡ Some link
   pub leaves : hop_of hops link.from ≡ Some k
@@ -43,45 +43,45 @@ pub record LeadsBehind (links : List Link) (room : ℕ → ℕ → Bool) (hops :
 pub record AreHops (links : List Link) (room : ℕ → ℕ → Bool) (bridge : ℕ) (hops : List (Option ℕ)) : Type 0 where
   pub begins : hop_of hops bridge ≡ Some 0
   pub alone : (other : ℕ) → hop_of hops other ≡ Some 0 → other ≡ bridge
-  pub comes : (k other : ℕ) → hop_of hops other ≡ Some (k + 1) → (l : ℕ) × LeadsBehind links room hops k l other
-  pub goes_on : (k l other : ℕ) → k + 1 < most_links → LeadsBehind links room hops k l other → (j : ℕ) × (hop_of hops other ≡ Some j) × (j ≤ k + 1)
+  pub comes : (k other : ℕ) → hop_of hops other ≡ Some (k + 1) → (l : ℕ) × LeadsAfter links room hops k l other
+  pub goes_on : (k l other : ℕ) → k + 1 < most_links → LeadsAfter links room hops k l other → (j : ℕ) × (hop_of hops other ≡ Some j) × (j ≤ k + 1)
   pub few : (j other : ℕ) → hop_of hops other ≡ Some j → j < most_links
 
 -- what a link has left, after as many links as frames leave its bridge; 0 for a link that no frame reaches
 abbrev pub left_where : Domain → List Row → Pace → List (Option ℕ) → ℕ → ℕ
-left_where d rows pace hops l = option_map_or (λ k. left_behind d rows pace k l) (hop_of hops (bridge_of d l)) 0
+left_where d rows pace hops l = option_map_or (λ k. left_after d rows pace k l) (hop_of hops (bridge_of d l)) 0
 
--- for all links, by number
+-- the same for all links, by number
 abbrev pub lefts_where : Domain → List Row → Pace → List (Option ℕ) → List ℕ
 lefts_where d rows pace hops = each_below (λ l. left_where d rows pace hops l ∷ []) (length d.links)
 
 -- what links have left for a stream of this cost and pace that comes from a bridge
-pub record AreLeftBehind (d : Domain) (rows : List Row) (pace : Pace) (cost bridge : ℕ) (left : List ℕ) : Type 0 where
+pub record AreLeftAfter (d : Domain) (rows : List Row) (pace : Pace) (cost bridge : ℕ) (left : List ℕ) : Type 0 where
   pub hops : List (Option ℕ)
-  pub are : AreHops d.links (has_room_behind d rows pace cost) bridge hops
+  pub are : AreHops d.links (has_room_after d rows pace cost) bridge hops
   pub left_is : left ≡ lefts_where d rows pace hops
 
 -- what links have left for a stream: in its own cycles if they are given; if its phase is to be chosen, in each link's emptiest phase of
 -- `every`
-abbrev pub AreLeft : Domain → List Row → Turns → ℕ → ℕ → List ℕ → Type 0
-AreLeft d rows (Given every phase) cost bridge left = AreLeftBehind d rows (pace_by every phase) cost bridge left
+abbrev pub AreLeft : Domain → List Row → ActiveCycles → ℕ → ℕ → List ℕ → Type 0
+AreLeft d rows (Given every phase) cost bridge left = AreLeftAfter d rows (pace_by every phase) cost bridge left
 AreLeft d rows (Chosen every) cost bridge left = left ≡ lefts_on d rows every
 
 -- ---- what inner functions need
 
--- in addition, a bridge is reached by a link
+-- the bridge to which a link leads is reached in addition, if the link has room
 pub record IsReachedBy (links : List Link) (room : ℕ → ℕ → Bool) (k l : ℕ) (before after : List (Option ℕ)) : Type 0 where
   pub kept : (j bridge : ℕ) → hop_of before bridge ≡ Some j → hop_of after bridge ≡ Some j
-  pub added : (bridge : ℕ) → LeadsBehind links room before k l bridge → (j : ℕ) × (hop_of after bridge ≡ Some j)
+  pub added : (bridge : ℕ) → LeadsAfter links room before k l bridge → (j : ℕ) × (hop_of after bridge ≡ Some j)
   pub others : (j bridge : ℕ) → hop_of after bridge ≡ Some j →
-      (hop_of before bridge ≡ Some j) ⊎ ((j ≡ k + 1) × LeadsBehind links room before k l bridge)
+      (hop_of before bridge ≡ Some j) ⊎ ((j ≡ k + 1) × LeadsAfter links room before k l bridge)
 
--- in addition, bridges are reached by the first `count` links
+-- the bridges to which the first `count` links lead are reached in addition, if the links have room
 pub record AreReachedBy (links : List Link) (room : ℕ → ℕ → Bool) (k count : ℕ) (before after : List (Option ℕ)) : Type 0 where
   pub kept : (j bridge : ℕ) → hop_of before bridge ≡ Some j → hop_of after bridge ≡ Some j
-  pub added : (l bridge : ℕ) → l < count → LeadsBehind links room before k l bridge → (j : ℕ) × (hop_of after bridge ≡ Some j)
+  pub added : (l bridge : ℕ) → l < count → LeadsAfter links room before k l bridge → (j : ℕ) × (hop_of after bridge ≡ Some j)
   pub others : (j bridge : ℕ) → hop_of after bridge ≡ Some j →
-      (hop_of before bridge ≡ Some j) ⊎ ((j ≡ k + 1) × ((l : ℕ) × LeadsBehind links room before k l bridge))
+      (hop_of before bridge ≡ Some j) ⊎ ((j ≡ k + 1) × ((l : ℕ) × LeadsAfter links room before k l bridge))
 
 -- frames leave each bridge that they reach after fewer than 16 links
 abbrev pub AreShallow : List (Option ℕ) → Type 0

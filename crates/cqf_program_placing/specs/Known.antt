@@ -10,7 +10,7 @@ use Rattle.cqf_model.specs.Table.{link_cost}
 use Rattle.cqf_program_placing.specs.declared.branched.Branched.{Branched}
 use Rattle.cqf_program_placing.specs.declared.rooms.Emptiest.{Emptiest}
 use Rattle.cqf_program_placing.specs.declared.rooms.Rooms.{Rooms}
-use Rattle.cqf_program_placing.specs.Turns.{IsGoodEvery, lefts_on}
+use Rattle.cqf_program_placing.specs.ActiveCycles.{IsGoodEvery, lefts_on}
 
 -- there is a number for each link
 pub record IsFilled (d : Domain) (emptiest : Emptiest) : Type 0 where
@@ -26,17 +26,17 @@ abbrev pub AreKnown : Domain → List Row → Rooms → Type 0
 AreKnown d rows rooms = All (IsKnown d rows) rooms.known.items
 
 -- the numbers for this `every` are at an index
-pub record IsKnownAt (rooms : Rooms) (every place : ℕ) : Type 0 where
-  pub within : place < length rooms.known.items
-  pub is : (none : Emptiest) → (get_or rooms.known.items place none).every ≡ every
+pub record IsKnownAt (rooms : Rooms) (every index : ℕ) : Type 0 where
+  pub within : index < length rooms.known.items
+  pub is : (none : Emptiest) → (get_or rooms.known.items index none).every ≡ every
 
--- at the numbers of some links there is the present value, or the former one; at all others the former one
+-- of each of these links the value is the present one; of each other link it is the present one or the former one
 pub record AreRenewed (now : ℕ → ℕ) (links before after : List ℕ) : Type 0 where
   pub as_many : length after ≡ length before
   pub each : (l : ℕ) → l < length before →
       (slice_index_or after l 0 ≡ now l) ⊎ ((slice_index_or after l 0 ≡ slice_index_or before l 0) × (Contains links l → ⊥))
 
--- on all other links, streams cost what they cost before
+-- on all links but these, streams cost what they cost before
 abbrev pub TakesNothingOff : List Row → List Row → List ℕ → Type 0
 TakesNothingOff before after links = (l : ℕ) → (Contains links l → ⊥) → (cycle : ℕ) → link_cost after l cycle ≡ link_cost before l cycle
 

@@ -1,6 +1,6 @@
 pub mod Faults
 pub mod Settled
-pub mod Turns
+pub mod ActiveCycles
 pub mod Hops
 pub mod Placing
 pub mod Known

@@ -1,6 +1,6 @@
 -- Settled streams in an order of their own.
 use Rattle.std.specs.Prelude.{ℕ, List, [], ◌∷◌, Bool, true, false, Option, Some, None, slice_get}
-use Rattle.cqf_program_placing.specs.Settled.{Along, Between, SettledWay}
+use Rattle.cqf_program_placing.specs.Settled.{Along, Between, SettledPath}
 
 -- what is at an index, if there is something, before other values
 abbrev pub before_others : {A : Type 0} → Option A → List A → List A
@@ -13,6 +13,6 @@ in_order all [] = []
 in_order all (index ∷ order) = before_others (slice_get all index) (in_order all order)
 
 -- whether the path of a stream is to be found, not given
-abbrev pub is_open : SettledWay → Bool
+abbrev pub is_open : SettledPath → Bool
 is_open (Along paths) = false
 is_open (Between bridge stations) = true

@@ -16,17 +16,17 @@ use Rattle.cqf_topology.specs.NodeNames.{name_of_bridge}
 use Rattle.cqf_network.specs.NetworkDomain.{IsOpenCycle, IsNetwork, NetworkDomain, domain_at}
 use Rattle.cqf_network.specs.StreamsText.{StreamText, WantedText, Along as AlongText, Between as BetweenText}
 use Rattle.cqf_traffic.specs.TrafficText.{IsTrafficText}
-use Rattle.cqf_network.specs.Listeners.{AreFirstWays, IsFirstWithout}
-use Rattle.cqf_network.specs.Ways.{has_room, most_links}
+use Rattle.cqf_network.specs.Listeners.{AreFirstPaths, IsFirstWithout}
+use Rattle.cqf_network.specs.Paths.{has_room, most_links}
 use Rattle.cqf_program_plans.specs.EndNames.{name_of_end}
 use Rattle.cqf_program_placing.specs.declared.faults.PlanFault.{PlanFault}
 use Rattle.cqf_program_placing.specs.declared.faults.PlanFault.TheVariants as fault
-use Rattle.cqf_program_placing.specs.declared.turns.Turns.{Turns}
-use Rattle.cqf_program_placing.specs.Placing.{ArePlaced, IsFull, IsPlacing, Placed, PlacedOr, PlacedStreams, Unplaced, names_along, reserved_on, turns_on}
-use Rattle.cqf_program_placing.specs.Settled.{Along, Between, SettledStream, SettledWay, settled_of}
-use Rattle.cqf_program_placing.specs.declared.turns.Turns.TheVariants.{Given, Chosen}
-use Rattle.cqf_program_placing.specs.Hops.{AreLeftBehind}
-use Rattle.cqf_program_placing.specs.Turns.{IsLeastLoaded, IsPhaseOnTree, MayBeFirst, every_in, lefts_on, loads_with, pace_by}
+use Rattle.cqf_program_placing.specs.declared.active_cycles.ActiveCycles.{ActiveCycles}
+use Rattle.cqf_program_placing.specs.Placing.{ArePlaced, IsFull, IsPlacing, Placed, PlacedOr, PlacedStreams, Unplaced, active_cycles_on, names_along, reserved_on}
+use Rattle.cqf_program_placing.specs.Settled.{Along, Between, SettledPath, SettledStream, settled_of}
+use Rattle.cqf_program_placing.specs.declared.active_cycles.ActiveCycles.TheVariants.{Given, Chosen}
+use Rattle.cqf_program_placing.specs.Hops.{AreLeftAfter}
+use Rattle.cqf_program_placing.specs.ActiveCycles.{IsLeastLoaded, IsPhaseOnTree, MayBeFirst, every_in, lefts_on, loads_with, pace_by}
 
 -- in the cycles of a pace each link of a tree has left what a stream costs
 abbrev pub HasRoomIn : Domain → List Row → ℕ → List Hop → Pace → Type 0
@@ -36,29 +36,29 @@ HasRoomIn d rows cost tree pace = (l : ℕ) → Contains (links_in tree) l → c
 -- tree's loads are the least. If each link of the tree has left what the stream costs, in the given phase or in any one that may be chosen,
 -- then the stream is placed by these branches in the phase for which it is requested. If a link has less left in that phase, the stream
 -- isn't placed: the fault is `Short`, for the first such link in the tree's order
-pub record IsPlacedAlong (d : Domain) (rows : List Row) (name : List ℕ) (octets : ℕ) (turns : Turns) (paths : List Branch) (become : PlacedOr) : Type 0 where
+pub record IsPlacedAlong (d : Domain) (rows : List Row) (name : List ℕ) (octets : ℕ) (active_cycles : ActiveCycles) (paths : List Branch) (become : PlacedOr) : Type 0 where
   pub phase : ℕ
-  pub is_phase : IsPhaseOnTree d rows (cost_of octets) paths turns phase
-  pub placed : (other : ℕ) → MayBeFirst turns other → HasRoomIn d rows (cost_of octets) (tree_of d paths) (pace_by (every_in turns) other) →
-      become ≡ Placed (asked_with name octets (every_in turns) phase paths)
-  pub unplaced : (l : ℕ) → short_link d rows (cost_of octets) (pace_by (every_in turns) phase) (tree_of d paths) ≡ Some l →
-      become ≡ Unplaced (fault.Short (name_of_bridge d (bridge_of d l)) (name_of_end d l) (left_on d rows (tree_of d paths) (pace_by (every_in turns) phase) l))
+  pub is_phase : IsPhaseOnTree d rows (cost_of d.overhead octets) paths active_cycles phase
+  pub placed : (other : ℕ) → MayBeFirst active_cycles other → HasRoomIn d rows (cost_of d.overhead octets) (tree_of d paths) (pace_by (every_in active_cycles) other) →
+      become ≡ Placed (asked_with name octets (every_in active_cycles) phase paths)
+  pub unplaced : (l : ℕ) → short_link d rows (cost_of d.overhead octets) (pace_by (every_in active_cycles) phase) (tree_of d paths) ≡ Some l →
+      become ≡ Unplaced (fault.Short (name_of_bridge d (bridge_of d l)) (name_of_end d l) (left_on d rows (tree_of d paths) (pace_by (every_in active_cycles) phase) l))
 
 -- the first paths from a bridge to stations on which each link has left what a stream costs
 abbrev pub HaveRoom : Domain → List ℕ → ℕ → ℕ → List ℕ → List (List ℕ) → Type 0
-HaveRoom d left cost bridge stations ways = AreFirstWays d.links (has_room left cost) (Bridge bridge) stations ways
+HaveRoom d left cost bridge stations link_paths = AreFirstPaths d.links (has_room left cost) (Bridge bridge) stations link_paths
 
--- there is no such path to the station at an index, and this is the first such station
+-- there is no path with room to the station at an index, and this is the first such station
 abbrev pub HasNoRoom : Domain → List ℕ → ℕ → ℕ → List ℕ → ℕ → Type 0
-HasNoRoom d left cost bridge stations place = IsFirstWithout d.links (has_room left cost) (Bridge bridge) stations place
+HasNoRoom d left cost bridge stations index = IsFirstWithout d.links (has_room left cost) (Bridge bridge) stations index
 
 -- a branch may have as many nodes as the longest path: so it is with the limits `profile` and `large`
-abbrev pub MayBeWays : Limits → Type 0
-MayBeWays limits = most_links < nodes_within limits
+abbrev pub MayBePaths : Limits → Type 0
+MayBePaths limits = most_links < nodes_within limits
 
 -- how many hops the tree of paths from a bridge has
-abbrev pub hops_on_ways : Domain → ℕ → List (List ℕ) → ℕ
-hops_on_ways d bridge ways = length (tree_of d (map (names_along d bridge) ways))
+abbrev pub hops_on_paths : Domain → ℕ → List (List ℕ) → ℕ
+hops_on_paths d bridge link_paths = length (tree_of d (map (names_along d bridge) link_paths))
 
 -- a stream between a bridge and stations in a given phase, by what links have left for it then. If there are paths with room and their tree
 -- has no more hops than are allowed, it is placed by the first such paths. If their tree has more hops, it isn't placed: the fault is
@@ -68,51 +68,51 @@ hops_on_ways d bridge ways = length (tree_of d (map (names_along d bridge) ways)
 -- hops as there are links, so it isn't refused for its hops
 pub record IsPlacedInPhase (d : Domain) (rows : List Row) (name : List ℕ) (octets every phase bridge : ℕ) (stations : List ℕ) (become : PlacedOr) : Type 0 where
   pub left : List ℕ
-  pub are_left : AreLeftBehind d rows (pace_by every phase) (cost_of octets) bridge left
-  pub placed : (ways : List (List ℕ)) → HaveRoom d left (cost_of octets) bridge stations ways →
-      hops_on_ways d bridge ways ≤ hops_within d.limits → become ≡ Placed (asked_with name octets every phase (map (names_along d bridge) ways))
-  pub wide : (ways : List (List ℕ)) → HaveRoom d left (cost_of octets) bridge stations ways →
-      hops_within d.limits < hops_on_ways d bridge ways → become ≡ Unplaced (fault.Refused refused.TooManyHops)
-  pub unplaced : (place : ℕ) → HasNoRoom d left (cost_of octets) bridge stations place →
-      (found : PlanFault) × (become ≡ Unplaced found) × IsFull d left (cost_of octets) bridge stations found
-  pub either : ((ways : List (List ℕ)) × HaveRoom d left (cost_of octets) bridge stations ways)
-      ⊎ ((place : ℕ) × HasNoRoom d left (cost_of octets) bridge stations place)
+  pub are_left : AreLeftAfter d rows (pace_by every phase) (cost_of d.overhead octets) bridge left
+  pub placed : (link_paths : List (List ℕ)) → HaveRoom d left (cost_of d.overhead octets) bridge stations link_paths →
+      hops_on_paths d bridge link_paths ≤ hops_within d.limits → become ≡ Placed (asked_with name octets every phase (map (names_along d bridge) link_paths))
+  pub wide : (link_paths : List (List ℕ)) → HaveRoom d left (cost_of d.overhead octets) bridge stations link_paths →
+      hops_within d.limits < hops_on_paths d bridge link_paths → become ≡ Unplaced (fault.Refused refused.TooManyHops)
+  pub unplaced : (index : ℕ) → HasNoRoom d left (cost_of d.overhead octets) bridge stations index →
+      (found : PlanFault) × (become ≡ Unplaced found) × IsFull d left (cost_of d.overhead octets) bridge stations found
+  pub either : ((link_paths : List (List ℕ)) × HaveRoom d left (cost_of d.overhead octets) bridge stations link_paths)
+      ⊎ ((index : ℕ) × HasNoRoom d left (cost_of d.overhead octets) bridge stations index)
 
 -- in a phase, a stream has room: there are paths with room then, and their tree has no more hops than are allowed
 pub record HasRoomInPhase (d : Domain) (rows : List Row) (every cost bridge : ℕ) (stations : List ℕ) (phase : ℕ) : Type 0 where
   pub left : List ℕ
-  pub are_left : AreLeftBehind d rows (pace_by every phase) cost bridge left
-  pub ways : List (List ℕ)
-  pub roomy : HaveRoom d left cost bridge stations ways
-  pub few : hops_on_ways d bridge ways ≤ hops_within d.limits
+  pub are_left : AreLeftAfter d rows (pace_by every phase) cost bridge left
+  pub link_paths : List (List ℕ)
+  pub roomy : HaveRoom d left cost bridge stations link_paths
+  pub few : hops_on_paths d bridge link_paths ≤ hops_within d.limits
 
--- by the emptiest phase of each link, a stream has room: there are paths with room so, their tree has no more hops than are allowed, and in
--- some phase each of its links has room
+-- by the emptiest phase of each link, a stream has room: there are paths with this room, their tree has no more hops than are allowed, and
+-- in some phase each of its links has room
 pub record HasEmptiestRoom (d : Domain) (rows : List Row) (every cost bridge : ℕ) (stations : List ℕ) : Type 0 where
-  pub ways : List (List ℕ)
-  pub roomy : HaveRoom d (lefts_on d rows every) cost bridge stations ways
-  pub few : hops_on_ways d bridge ways ≤ hops_within d.limits
+  pub link_paths : List (List ℕ)
+  pub roomy : HaveRoom d (lefts_on d rows every) cost bridge stations link_paths
+  pub few : hops_on_paths d bridge link_paths ≤ hops_within d.limits
   pub phase : ℕ
   pub within : phase < every
-  pub room : HasRoomIn d rows cost (tree_of d (map (names_along d bridge) ways)) (pace_by every phase)
+  pub room : HasRoomIn d rows cost (tree_of d (map (names_along d bridge) link_paths)) (pace_by every phase)
 
 -- the faults of a stream that lacks room by the emptiest phases: `Short`, for the first link that lacks room in the phase in which the loads
 -- are the least; `TooManyHops`; or `Full`
-pub record IsShortOn (d : Domain) (rows : List Row) (every cost bridge : ℕ) (ways : List (List ℕ)) (found : PlanFault) : Type 0 where
+pub record IsShortOn (d : Domain) (rows : List Row) (every cost bridge : ℕ) (link_paths : List (List ℕ)) (found : PlanFault) : Type 0 where
   pub phase : ℕ
-  pub least : IsLeastLoaded (loads_with d rows cost every (tree_of d (map (names_along d bridge) ways))) every phase
+  pub least : IsLeastLoaded (loads_with d rows cost every (tree_of d (map (names_along d bridge) link_paths))) every phase
   pub link : ℕ
-  pub short : short_link d rows cost (pace_by every phase) (tree_of d (map (names_along d bridge) ways)) ≡ Some link
+  pub short : short_link d rows cost (pace_by every phase) (tree_of d (map (names_along d bridge) link_paths)) ≡ Some link
   pub is : found ≡ fault.Short (name_of_bridge d (bridge_of d link)) (name_of_end d link)
-      (left_on d rows (tree_of d (map (names_along d bridge) ways)) (pace_by every phase) link)
+      (left_on d rows (tree_of d (map (names_along d bridge) link_paths)) (pace_by every phase) link)
 
 abbrev pub IsFaultOn : Domain → List Row → ℕ → ℕ → ℕ → List (List ℕ) → PlanFault → Type 0
-IsFaultOn d rows every cost bridge ways found =
-    ((hops_within d.limits < hops_on_ways d bridge ways) × (found ≡ fault.Refused refused.TooManyHops)) ⊎ IsShortOn d rows every cost bridge ways found
+IsFaultOn d rows every cost bridge link_paths found =
+    ((hops_within d.limits < hops_on_paths d bridge link_paths) × (found ≡ fault.Refused refused.TooManyHops)) ⊎ IsShortOn d rows every cost bridge link_paths found
 
 abbrev pub IsEmptiestFault : Domain → List Row → ℕ → ℕ → ℕ → List ℕ → PlanFault → Type 0
 IsEmptiestFault d rows every cost bridge stations found = IsFull d (lefts_on d rows every) cost bridge stations found
-    ⊎ ((ways : List (List ℕ)) × HaveRoom d (lefts_on d rows every) cost bridge stations ways × IsFaultOn d rows every cost bridge ways found)
+    ⊎ ((link_paths : List (List ℕ)) × HaveRoom d (lefts_on d rows every) cost bridge stations link_paths × IsFaultOn d rows every cost bridge link_paths found)
 
 -- a stream is placed with its octets in some phase
 pub record IsPlacedSomehow (name : List ℕ) (octets every : ℕ) (become : PlacedOr) : Type 0 where
@@ -126,37 +126,37 @@ pub record IsPlacedSomehow (name : List ℕ) (octets every : ℕ) (become : Plac
 -- the least; if it is offered in each cycle, paths with room are enough. Else it is placed by the first paths of the first phase in which it
 -- has room. If there is none, it isn't placed, for its fault by the emptiest phases
 pub record IsPlacedInSomePhase (d : Domain) (rows : List Row) (name : List ℕ) (octets every bridge : ℕ) (stations : List ℕ) (become : PlacedOr) : Type 0 where
-  pub placed : (phase : ℕ) → phase < every → HasRoomInPhase d rows every (cost_of octets) bridge stations phase → IsPlacedSomehow name octets every become
-  pub emptiest : (ways : List (List ℕ)) → HaveRoom d (lefts_on d rows every) (cost_of octets) bridge stations ways →
-      hops_on_ways d bridge ways ≤ hops_within d.limits → (phase : ℕ) → phase < every →
-      HasRoomIn d rows (cost_of octets) (tree_of d (map (names_along d bridge) ways)) (pace_by every phase) →
-      IsPlacedAlong d rows name octets (Chosen every) (map (names_along d bridge) ways) become
-  pub each_cycle : every ≡ 1 → (ways : List (List ℕ)) → HaveRoom d (lefts_on d rows every) (cost_of octets) bridge stations ways →
-      hops_on_ways d bridge ways ≤ hops_within d.limits → become ≡ Placed (asked_with name octets 1 0 (map (names_along d bridge) ways))
-  pub first : ¬ HasEmptiestRoom d rows every (cost_of octets) bridge stations → (phase : ℕ) → phase < every →
-      (has : HasRoomInPhase d rows every (cost_of octets) bridge stations phase) →
-      ((other : ℕ) → other < phase → ¬ HasRoomInPhase d rows every (cost_of octets) bridge stations other) →
-      become ≡ Placed (asked_with name octets every phase (map (names_along d bridge) has.ways))
-  pub unplaced : ¬ HasEmptiestRoom d rows every (cost_of octets) bridge stations →
-      ((phase : ℕ) → phase < every → ¬ HasRoomInPhase d rows every (cost_of octets) bridge stations phase) →
-      (found : PlanFault) × (become ≡ Unplaced found) × IsEmptiestFault d rows every (cost_of octets) bridge stations found
+  pub placed : (phase : ℕ) → phase < every → HasRoomInPhase d rows every (cost_of d.overhead octets) bridge stations phase → IsPlacedSomehow name octets every become
+  pub emptiest : (link_paths : List (List ℕ)) → HaveRoom d (lefts_on d rows every) (cost_of d.overhead octets) bridge stations link_paths →
+      hops_on_paths d bridge link_paths ≤ hops_within d.limits → (phase : ℕ) → phase < every →
+      HasRoomIn d rows (cost_of d.overhead octets) (tree_of d (map (names_along d bridge) link_paths)) (pace_by every phase) →
+      IsPlacedAlong d rows name octets (Chosen every) (map (names_along d bridge) link_paths) become
+  pub each_cycle : every ≡ 1 → (link_paths : List (List ℕ)) → HaveRoom d (lefts_on d rows every) (cost_of d.overhead octets) bridge stations link_paths →
+      hops_on_paths d bridge link_paths ≤ hops_within d.limits → become ≡ Placed (asked_with name octets 1 0 (map (names_along d bridge) link_paths))
+  pub first : ¬ HasEmptiestRoom d rows every (cost_of d.overhead octets) bridge stations → (phase : ℕ) → phase < every →
+      (has : HasRoomInPhase d rows every (cost_of d.overhead octets) bridge stations phase) →
+      ((other : ℕ) → other < phase → ¬ HasRoomInPhase d rows every (cost_of d.overhead octets) bridge stations other) →
+      become ≡ Placed (asked_with name octets every phase (map (names_along d bridge) has.link_paths))
+  pub unplaced : ¬ HasEmptiestRoom d rows every (cost_of d.overhead octets) bridge stations →
+      ((phase : ℕ) → phase < every → ¬ HasRoomInPhase d rows every (cost_of d.overhead octets) bridge stations phase) →
+      (found : PlanFault) × (become ≡ Unplaced found) × IsEmptiestFault d rows every (cost_of d.overhead octets) bridge stations found
 
-abbrev pub IsPlacedBetween : Domain → List Row → List ℕ → ℕ → Turns → ℕ → List ℕ → PlacedOr → Type 0
+abbrev pub IsPlacedBetween : Domain → List Row → List ℕ → ℕ → ActiveCycles → ℕ → List ℕ → PlacedOr → Type 0
 IsPlacedBetween d rows name octets (Given every phase) bridge stations become = IsPlacedInPhase d rows name octets every phase bridge stations become
 IsPlacedBetween d rows name octets (Chosen every) bridge stations become = IsPlacedInSomePhase d rows name octets every bridge stations become
 
-abbrev pub IsPlacedOnWay : Domain → List Row → List ℕ → ℕ → Turns → SettledWay → PlacedOr → Type 0
-IsPlacedOnWay d rows name octets turns (Along paths) become = IsPlacedAlong d rows name octets turns paths become
-IsPlacedOnWay d rows name octets turns (Between bridge stations) become = IsPlacedBetween d rows name octets turns bridge stations become
+abbrev pub IsPlacedOnPath : Domain → List Row → List ℕ → ℕ → ActiveCycles → SettledPath → PlacedOr → Type 0
+IsPlacedOnPath d rows name octets active_cycles (Along paths) become = IsPlacedAlong d rows name octets active_cycles paths become
+IsPlacedOnPath d rows name octets active_cycles (Between bridge stations) become = IsPlacedBetween d rows name octets active_cycles bridge stations become
 
 -- by its reservation: a stream that has none isn't placed, for the fault that says why
 abbrev pub IsPlacedWith : Domain → List Row → SettledStream → Result ℕ PlanFault → PlacedOr → Type 0
 IsPlacedWith d rows stream (Err found) become = become ≡ Unplaced found
-IsPlacedWith d rows stream (Ok octets) become = IsPlacedOnWay d rows stream.name octets (turns_on d.cycle_time stream) stream.way become
+IsPlacedWith d rows stream (Ok octets) become = IsPlacedOnPath d rows stream.name octets (active_cycles_on d.cycle_time stream) stream.path become
 
 -- a stream is placed if there is room while these rows are held
 abbrev pub IsPlacedByRoom : Domain → List Row → SettledStream → PlacedOr → Type 0
-IsPlacedByRoom d rows stream become = IsPlacedWith d rows stream (reserved_on d.cycle_time d.sync stream) become
+IsPlacedByRoom d rows stream become = IsPlacedWith d rows stream (reserved_on d.overhead d.cycle_time d.sync stream) become
 
 -- each of some streams after these entries is placed if there is room while the rows of those placed before it are held
 abbrev pub ArePlacedByRoomFrom : Domain → List Recorded → List SettledStream → List PlacedOr → List Recorded → Type 0
@@ -180,12 +180,12 @@ AreListeners (BetweenText from to) = (0 < length to) × AllPairs (λ a b. a ≢ 
 pub record IsReadStream (stream : StreamText) : Type 0 where
   pub reserves : stream.octets ≡ None → stream.traffic ≡ None → ⊥
   pub traffic : IfSome stream.traffic IsTrafficText
-  pub listeners : AreListeners stream.way
+  pub listeners : AreListeners stream.path
 
 -- such streams that are settled are placed if there is room, on each cycle time that is open to their domain, if a branch may have as many
 -- nodes as the longest path
 abbrev pub PlacedWhereThereIsRoom : Type 0
 PlacedWhereThereIsRoom =
     (network : NetworkDomain) (texts : List StreamText) (streams : List SettledStream) (cycle_time : ℕ) (placed : PlacedStreams) →
-    IsNetwork network → MayBeWays network.limits → IsOpenCycle network cycle_time → All IsReadStream texts → settled_of network texts ≡ Ok streams →
+    IsNetwork network → MayBePaths network.limits → IsOpenCycle network cycle_time → All IsReadStream texts → settled_of network texts ≡ Ok streams →
     placed.domain ≡ domain_at network cycle_time → ArePlaced streams placed → ArePlacedByRoom streams placed

@@ -4,21 +4,21 @@ use Rattle.cqf_admission.specs.Branches.{branches_of}
 use Rattle.cqf_model.specs.declared.topology.Row.{Row}
 use Rattle.cqf_model.specs.declared.topology.Node.TheVariants.{Bridge, Station}
 use Rattle.cqf_model.specs.Domain.{Domain}
-use Rattle.cqf_network.specs.Ways.{IsWay}
+use Rattle.cqf_network.specs.Paths.{IsPath}
 use Rattle.cqf_program_placing.specs.declared.choosing.Route.{Route}
 use Rattle.cqf_program_placing.specs.declared.routes.Unrouted.{Unrouted}
 use Rattle.cqf_program_placing.specs.declared.routes.Unrouted.TheVariants as unrouted
-use Rattle.cqf_program_placing.specs.declared.turns.Turns.{Turns}
-use Rattle.cqf_program_placing.specs.declared.turns.Turns.TheVariants.{Given}
+use Rattle.cqf_program_placing.specs.declared.active_cycles.ActiveCycles.{ActiveCycles}
+use Rattle.cqf_program_placing.specs.declared.active_cycles.ActiveCycles.TheVariants.{Given}
 use Rattle.cqf_program_placing.specs.Known.{IsBranched}
 use Rattle.cqf_program_placing.specs.Placing.{AreTaken, FindsRoom, IsFirstPhase, IsFirstRoomy, IsFull, IsRouted}
-use Rattle.cqf_program_placing.specs.Settled.{SettledWay}
-use Rattle.cqf_program_placing.specs.Turns.{IsPhaseAlong}
+use Rattle.cqf_program_placing.specs.Settled.{SettledPath}
+use Rattle.cqf_program_placing.specs.ActiveCycles.{IsPhaseAlong}
 
 -- a stream has no branches for this fault while these rows are held
-abbrev pub IsUnrouted : Domain → List Row → Turns → ℕ → SettledWay → Unrouted → Type 0
-IsUnrouted d rows turns cost way (unrouted.Fault found) = IsRouted d rows turns cost way (Err found)
-IsUnrouted d rows turns cost way unrouted.Memory = Unit {0}
+abbrev pub IsUnrouted : Domain → List Row → ActiveCycles → ℕ → SettledPath → Unrouted → Type 0
+IsUnrouted d rows active_cycles cost path (unrouted.Fault found) = IsRouted d rows active_cycles cost path (Err found)
+IsUnrouted d rows active_cycles cost path unrouted.Memory = Unit {0}
 
 -- there is no room for it, by what links have left
 abbrev pub IsFullFor : Domain → List ℕ → ℕ → ℕ → List ℕ → Unrouted → Type 0
@@ -28,10 +28,10 @@ IsFullFor d left cost bridge stations unrouted.Memory = Unit {0}
 -- a station is the domain's, and a path leads to it from a bridge
 pub record IsReached (d : Domain) (bridge station : ℕ) : Type 0 where
   pub is_there : station < length d.stations
-  pub way : List ℕ
-  pub is_way : IsWay d.links (λ _. true) (Bridge bridge) (Station station) way
+  pub path : List ℕ
+  pub is_path : IsPath d.links (λ _. true) (Bridge bridge) (Station station) path
 
--- each of some stations is reached so
+-- each of some stations is one of the domain's, and a path leads to it from the bridge
 abbrev pub AreReached : Domain → ℕ → List ℕ → Type 0
 AreReached d bridge stations = (k station : ℕ) → slice_get stations k ≡ Some station → IsReached d bridge station
 
@@ -40,37 +40,37 @@ AreReached d bridge stations = (k station : ℕ) → slice_get stations k ≡ So
 -- a route has the tree of its branches, and their phase
 pub record IsGoodRoute (d : Domain) (rows : List Row) (cost : ℕ) (route : Route) : Type 0 where
   pub branched : IsBranched d route.branched
-  pub phase : IsPhaseAlong d rows cost (branches_of route.branched.paths.items) route.turns route.phase
+  pub phase : IsPhaseAlong d rows cost (branches_of route.branched.paths.items) route.active_cycles route.phase
 
--- it is that of a stream in these cycles
-pub record IsRoute (d : Domain) (rows : List Row) (turns : Turns) (cost : ℕ) (way : SettledWay) (route : Route) : Type 0 where
-  pub same_turns : route.turns ≡ turns
-  pub routed : IsRouted d rows turns cost way (Ok (branches_of route.branched.paths.items))
+-- a route of a stream that is offered in these cycles
+pub record IsRoute (d : Domain) (rows : List Row) (active_cycles : ActiveCycles) (cost : ℕ) (path : SettledPath) (route : Route) : Type 0 where
+  pub same_active_cycles : route.active_cycles ≡ active_cycles
+  pub routed : IsRouted d rows active_cycles cost path (Ok (branches_of route.branched.paths.items))
   pub good : IsGoodRoute d rows cost route
 
 -- such a route on which the stream finds room; or none, if it finds none in these cycles
-abbrev pub IsRoomyRoute : Domain → List Row → Turns → ℕ → SettledWay → Option Route → Type 0
-IsRoomyRoute d rows turns cost way None = FindsRoom d rows turns cost way false
-IsRoomyRoute d rows turns cost way (Some route) = FindsRoom d rows turns cost way true × IsRoute d rows turns cost way route
+abbrev pub IsRoomyRoute : Domain → List Row → ActiveCycles → ℕ → SettledPath → Option Route → Type 0
+IsRoomyRoute d rows active_cycles cost path None = FindsRoom d rows active_cycles cost path false
+IsRoomyRoute d rows active_cycles cost path (Some route) = FindsRoom d rows active_cycles cost path true × IsRoute d rows active_cycles cost path route
 
--- the route in the first phase in which a stream finds room if it is given; or none, if it finds none in any phase
-pub record IsRouteInFirst (d : Domain) (rows : List Row) (every cost : ℕ) (way : SettledWay) (route : Route) : Type 0 where
+-- the route in the first phase in which a stream finds room if that phase is given; or none, if it finds none in any phase
+pub record IsRouteInFirst (d : Domain) (rows : List Row) (every cost : ℕ) (path : SettledPath) (route : Route) : Type 0 where
   pub phase : ℕ
-  pub first : IsFirstPhase d rows every cost way phase
-  pub is_route : IsRoute d rows (Given every phase) cost way route
+  pub first : IsFirstPhase d rows every cost path phase
+  pub is_route : IsRoute d rows (Given every phase) cost path route
 
-abbrev pub IsFirstRoute : Domain → List Row → ℕ → ℕ → SettledWay → Option Route → Type 0
-IsFirstRoute d rows every cost way None = IsFirstRoomy d rows every cost way None
-IsFirstRoute d rows every cost way (Some route) = IsRouteInFirst d rows every cost way route
+abbrev pub IsFirstRoute : Domain → List Row → ℕ → ℕ → SettledPath → Option Route → Type 0
+IsFirstRoute d rows every cost path None = IsFirstRoomy d rows every cost path None
+IsFirstRoute d rows every cost path (Some route) = IsRouteInFirst d rows every cost path route
 
 -- the route in the cycles that a stream takes
-pub record IsTakenRoute (d : Domain) (rows : List Row) (turns : Turns) (cost : ℕ) (way : SettledWay) (route : Route) : Type 0 where
-  pub taken : Turns
-  pub are_taken : AreTaken d rows turns cost way taken
-  pub is_route : IsRoute d rows taken cost way route
+pub record IsTakenRoute (d : Domain) (rows : List Row) (active_cycles : ActiveCycles) (cost : ℕ) (path : SettledPath) (route : Route) : Type 0 where
+  pub taken : ActiveCycles
+  pub are_taken : AreTaken d rows active_cycles cost path taken
+  pub is_route : IsRoute d rows taken cost path route
 
--- there is none, for this fault
-abbrev pub IsUntaken : Domain → List Row → Turns → ℕ → SettledWay → Unrouted → Type 0
-IsUntaken d rows turns cost way (unrouted.Fault found) =
-    (taken : Turns) × AreTaken d rows turns cost way taken × IsRouted d rows taken cost way (Err found)
-IsUntaken d rows turns cost way unrouted.Memory = Unit {0}
+-- there is no route, for this fault
+abbrev pub IsUntaken : Domain → List Row → ActiveCycles → ℕ → SettledPath → Unrouted → Type 0
+IsUntaken d rows active_cycles cost path (unrouted.Fault found) =
+    (taken : ActiveCycles) × AreTaken d rows active_cycles cost path taken × IsRouted d rows taken cost path (Err found)
+IsUntaken d rows active_cycles cost path unrouted.Memory = Unit {0}

@@ -18,7 +18,7 @@ use Rattle.cqf_model.specs.History.{Branch, is_pace}
 use Rattle.cqf_model.specs.Limits.{least_reserved, most_reserved, streams_within}
 use Rattle.cqf_topology.specs.Fields.{and_first}
 use Rattle.cqf_topology.specs.DomainText.{if_so, is_among}
-use Rattle.cqf_network.specs.Ways.{led_to, most_links}
+use Rattle.cqf_network.specs.Paths.{led_to, most_links}
 use Rattle.cqf_network.specs.declared.domain.TalkerLink.{TalkerLink}
 use Rattle.cqf_network.specs.NetworkDomain.{NetworkDomain, domain_at, open_cycle}
 use Rattle.cqf_traffic.specs.TrafficText.{TrafficText}
@@ -32,13 +32,13 @@ use Rattle.cqf_program_placing.specs.declared.faults.PlanFault.TheVariants as fa
 use Rattle.cqf_program_placing.specs.declared.settled.Settled.{Settled}
 use Rattle.cqf_program_placing.specs.declared.settled.Unsettled.{Unsettled}
 use Rattle.cqf_program_placing.specs.declared.settled.Unsettled.TheVariants as unsettled
-use Rattle.cqf_program_placing.specs.declared.settled.StreamWay.{StreamWay}
-use Rattle.cqf_program_placing.specs.declared.settled.StreamWay.TheVariants as way
+use Rattle.cqf_program_placing.specs.declared.settled.StreamPath.{StreamPath}
+use Rattle.cqf_program_placing.specs.declared.settled.StreamPath.TheVariants as path
 
 -- a stream's path: along branches, by the names of their nodes; or from a bridge to stations
-pub data SettledWay : Type 0 where
-  Along : List Branch → SettledWay
-  Between : ℕ → List ℕ → SettledWay
+pub data SettledPath : Type 0 where
+  Along : List Branch → SettledPath
+  Between : ℕ → List ℕ → SettledPath
 
 -- a stream whose nodes are found: its octets in a cycle if the network file gives them, the cycles in which it is offered if they are
 -- given, and its deadline from its edge bridge
@@ -46,20 +46,20 @@ pub record SettledStream : Type 0 where
   pub name : List ℕ
   pub octets : Option ℕ
   pub pacing : Pacing
-  pub way : SettledWay
+  pub path : SettledPath
   pub deadline : Option ℕ
   pub traffic : Option TrafficText
 
-abbrev pub way_value : StreamWay → SettledWay
-way_value (way.Along paths) = Along (branches_of paths.items)
-way_value (way.Between bridge stations) = Between bridge stations.items
+abbrev pub path_value : StreamPath → SettledPath
+path_value (path.Along paths) = Along (branches_of paths.items)
+path_value (path.Between bridge stations) = Between bridge stations.items
 
 abbrev pub settled_value : Settled → SettledStream
 settled_value stream = record {
   name = stream.name;
   octets = stream.octets;
   pacing = stream.pacing;
-  way = way_value stream.way;
+  path = path_value stream.path;
   deadline = stream.deadline;
   traffic = stream.traffic;
 }
@@ -74,14 +74,14 @@ abbrev pub is_paced : Pacing → Bool
 is_paced (Given every phase) = is_pace every phase
 is_paced InStep = true
 
--- where a stream from a node enters: at that bridge, or after the talker's link of that station
-abbrev pub entrance_behind : TalkerLink → Entrance
-entrance_behind talker = record { bridge = talker.bridge; talker = Some talker }
+-- where a stream from a node enters: at that bridge, or at the end of the access link of that station
+abbrev pub entrance_after : TalkerLink → Entrance
+entrance_after talker = record { bridge = talker.bridge; talker = Some talker }
 
 abbrev pub entrance_at : NetworkDomain → Option Node → Option Entrance
 entrance_at network None = None
 entrance_at network (Some (Bridge b)) = Some (record { bridge = b; talker = None })
-entrance_at network (Some (Station s)) = option_map entrance_behind (find (λ (talker : TalkerLink). talker.station == s) network.talkers)
+entrance_at network (Some (Station s)) = option_map entrance_after (find (λ (talker : TalkerLink). talker.station == s) network.talkers)
 
 -- a station's number
 abbrev pub station_at : Option Node → Option ℕ
@@ -104,30 +104,30 @@ is_led links (suc most) node to = same_node node to
     || list_any (λ l. option_map_or (λ next. is_led links most next to) (led_to links node l) false) (each_below (λ l. l ∷ []) (length links))
 
 -- whether a path leads from a bridge to a node
-abbrev pub has_way : Domain → ℕ → Option Node → Bool
-has_way d bridge None = false
-has_way d bridge (Some node) = is_led d.links most_links (Bridge bridge) node
+abbrev pub has_path : Domain → ℕ → Option Node → Bool
+has_path d bridge None = false
+has_path d bridge (Some node) = is_led d.links most_links (Bridge bridge) node
 
 -- the first of some names to whose node no path leads
 abbrev pub first_apart : Domain → ℕ → List (List ℕ) → Option (List ℕ)
-first_apart d bridge names = find (λ name. not (has_way d bridge (node_named d name))) names
+first_apart d bridge names = find (λ name. not (has_path d bridge (node_named d name))) names
 
 -- the path of a stream: it has a talker, its listeners are stations, and paths lead to them; or its given branches make a tree of the
 -- domain
-abbrev pub way_from : Domain → Option Entrance → List (List ℕ) → Result SettledWay PlanFault
-way_from d entrance to =
+abbrev pub path_from : Domain → Option Entrance → List (List ℕ) → Result SettledPath PlanFault
+path_from d entrance to =
     and_then (ok_or entrance fault.NoTalker) (λ (from : Entrance).
     and_then (stations_by_name d to) (λ stations.
     refuse (first_apart d from.bridge to) fault.NoWay (Ok (Between from.bridge stations))))
 
-abbrev pub way_along : Domain → List Branch → Result SettledWay PlanFault
-way_along d paths = refuse (tree_refusal d paths) fault.Refused (Ok (Along paths))
+abbrev pub path_along : Domain → List Branch → Result SettledPath PlanFault
+path_along d paths = refuse (tree_refusal d paths) fault.Refused (Ok (Along paths))
 
-abbrev pub settled_way : NetworkDomain → Domain → WantedText → Result SettledWay PlanFault
-settled_way network d (AlongText paths) = way_along d paths
-settled_way network d (BetweenText from to) = way_from d (entrance_at network (node_named d from)) to
+abbrev pub settled_path : NetworkDomain → Domain → WantedText → Result SettledPath PlanFault
+settled_path network d (AlongText paths) = path_along d paths
+settled_path network d (BetweenText from to) = path_from d (entrance_at network (node_named d from)) to
 
--- the talker's link on which a stream reaches its edge bridge
+-- the access link on which a stream reaches its edge bridge
 abbrev pub talker_of_stream : NetworkDomain → Domain → WantedText → Option TalkerLink
 talker_of_stream network d (AlongText paths) = None
 talker_of_stream network d (BetweenText from to) = option_and_then (λ (entrance : Entrance). entrance.talker) (entrance_at network (node_named d from))
@@ -136,40 +136,40 @@ talker_of_stream network d (BetweenText from to) = option_and_then (λ (entrance
 abbrev pub longest_of : Option ℕ → Option TrafficText → ℕ
 longest_of octets traffic = option_map_or (λ (t : TrafficText). t.size) traffic (min (unwrap_or octets 0) 1522)
 
--- how much of a deadline is over when a frame of this many octets is whole at the edge bridge: the time on the talker's link, from when the
+-- how much of a deadline is over when a frame of this many octets is whole at the edge bridge: the time on the access link, from when the
 -- talker begins to send it
 abbrev pub taken_on : Option TalkerLink → ℕ → ℕ
 taken_on None octets = 0
 taken_on (Some link) octets = time_of (octets + 8) (ticks_of_octet link.rate) + link.delay
 
 -- the deadline from the edge bridge on; it has to be more than 0
-abbrev pub deadline_behind : ℕ → Option ℕ → Result (Option ℕ) PlanFault
-deadline_behind taken None = Ok None
-deadline_behind taken (Some deadline) = if nat_lt taken deadline then Ok (Some (deadline - taken)) else Err fault.TooSoon
+abbrev pub deadline_after : ℕ → Option ℕ → Result (Option ℕ) PlanFault
+deadline_after taken None = Ok None
+deadline_after taken (Some deadline) = if nat_lt taken deadline then Ok (Some (deadline - taken)) else Err fault.TooSoon
 
 abbrev pub deadline_of_stream : NetworkDomain → Domain → StreamText → Result (Option ℕ) PlanFault
 deadline_of_stream network d stream =
-    deadline_behind (taken_on (talker_of_stream network d stream.way) (longest_of stream.octets stream.traffic)) stream.deadline
+    deadline_after (taken_on (talker_of_stream network d stream.path) (longest_of stream.octets stream.traffic)) stream.deadline
 
 -- why a stream of this name can't follow streams of other names
-abbrev pub refusal_behind : Domain → List (List ℕ) → List ℕ → Option Refused
-refusal_behind d before name =
+abbrev pub refusal_after : Domain → List (List ℕ) → List ℕ → Option Refused
+refusal_after d before name =
     if is_among name before then Some refused.NameHeld
     else (if nat_le (streams_within d.limits) (length before) then Some refused.TooManyStreams else None)
 
 -- a stream whose path is settled, with its deadline
-abbrev pub with_deadline : List ℕ → Option ℕ → Pacing → SettledWay → Option TrafficText → Result (Option ℕ) PlanFault → Result SettledStream PlanFault
-with_deadline name octets pacing way traffic deadline =
-    and_then deadline (λ left. Ok (record { name = name; octets = octets; pacing = pacing; way = way; deadline = left; traffic = traffic }))
+abbrev pub with_deadline : List ℕ → Option ℕ → Pacing → SettledPath → Option TrafficText → Result (Option ℕ) PlanFault → Result SettledStream PlanFault
+with_deadline name octets pacing path traffic deadline =
+    and_then deadline (λ left. Ok (record { name = name; octets = octets; pacing = pacing; path = path; deadline = left; traffic = traffic }))
 
 -- a stream that follows others of these names, or its first fault
 abbrev pub settled_stream : NetworkDomain → Domain → List (List ℕ) → StreamText → Result SettledStream PlanFault
 settled_stream network d before stream =
     refuse (if_so (not (are_reservable stream.octets))) (λ _. fault.Refused refused.BadOctets) (
     refuse (if_so (not (is_paced stream.pacing))) (λ _. fault.Refused refused.BadPace) (
-    and_then (settled_way network d stream.way) (λ way.
-    refuse (refusal_behind d before stream.name) fault.Refused (
-    with_deadline stream.name stream.octets stream.pacing way stream.traffic (deadline_of_stream network d stream)))))
+    and_then (settled_path network d stream.path) (λ path.
+    refuse (refusal_after d before stream.name) fault.Refused (
+    with_deadline stream.name stream.octets stream.pacing path stream.traffic (deadline_of_stream network d stream)))))
 
 -- a stream's fault, with its name
 abbrev pub or_unsettled : {A : Type 0} → List ℕ → Result A PlanFault → Result A Unsettled
@@ -183,10 +183,10 @@ settled_next network d before stream =
     (or_unsettled stream.name (settled_stream network d before stream))
 
 -- streams that follow others of these names, in their order, or the first fault
-abbrev pub settled_behind : NetworkDomain → Domain → List (List ℕ) → List StreamText → Result (List SettledStream) Unsettled
-settled_behind network d before [] = Ok []
-settled_behind network d before (stream ∷ streams) =
-    and_first (settled_next network d before stream) (settled_behind network d (before ++ stream.name ∷ []) streams)
+abbrev pub settled_after : NetworkDomain → Domain → List (List ℕ) → List StreamText → Result (List SettledStream) Unsettled
+settled_after network d before [] = Ok []
+settled_after network d before (stream ∷ streams) =
+    and_first (settled_next network d before stream) (settled_after network d (before ++ stream.name ∷ []) streams)
 
 -- the names and links of a network file's domain, which no cycle time changes: those of its domain at the first candidate that is longer
 -- than every guard band
@@ -195,33 +195,33 @@ open_domain network = domain_at network (open_cycle network)
 
 -- the settled streams of a network file, or the first fault
 abbrev pub settled_of : NetworkDomain → List StreamText → Result (List SettledStream) Unsettled
-settled_of network streams = settled_behind network (open_domain network) [] streams
+settled_of network streams = settled_after network (open_domain network) [] streams
 
 -- the path of a settled stream from a bridge to stations is between nodes of the domain, and links lead from the bridge to each station.
 -- For given branches nothing is required
-abbrev pub IsOnWay : Domain → SettledWay → Type 0
-IsOnWay d (Along paths) = ⊤
-IsOnWay d (Between bridge stations) = (bridge < length d.bridges)
+abbrev pub IsOnPath : Domain → SettledPath → Type 0
+IsOnPath d (Along paths) = ⊤
+IsOnPath d (Between bridge stations) = (bridge < length d.bridges)
     × All (λ station. (station < length d.stations) × IsTrue (is_led d.links most_links (Bridge bridge) (Station station))) stations
 
 -- what a settled stream has: a name, a path, octets that it may reserve and cycles that it may have if they are given, and a deadline that
 -- isn't over
 pub record IsPlaceable (d : Domain) (stream : SettledStream) : Type 0 where
   pub named : IsTrue (is_name stream.name)
-  pub on_way : IsOnWay d stream.way
+  pub on_path : IsOnPath d stream.path
   pub reservable : IsTrue (are_reservable stream.octets)
   pub paced : IsTrue (is_paced stream.pacing)
   pub some_deadline : ForSome stream.deadline (λ deadline. 1 ≤ deadline)
 
 -- ---- what inner functions need
 
--- a stream by what is settled of it. Where its frames come from means nothing from its edge bridge on
+-- a stream by what is settled of it. Where its frames come from doesn't matter from its edge bridge on
 abbrev pub wanted_stream : List ℕ → Option ℕ → Pacing → WantedText → Option ℕ → Option TrafficText → StreamText
-wanted_stream name octets pacing way deadline traffic = record {
+wanted_stream name octets pacing path deadline traffic = record {
   name = name;
   octets = octets;
   pacing = pacing;
-  way = way;
+  path = path;
   talker = None;
   listeners = None;
   deadline = deadline;

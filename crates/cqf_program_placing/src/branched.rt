@@ -3,7 +3,7 @@ ghost use Rattle.std.specs.Prelude.{◌≡◌, IfOk};
 ghost use Rattle.cqf_program_placing.specs.Known.{IsBranched};
 
 use arrayvec::ArrayVec;
-use cqf_admission::{count_places, find_tree};
+use cqf_admission::{count_indices, find_tree};
 use cqf_model::Hop;
 use cqf_topology::Domain;
 use cqf_units::Memory;
@@ -19,13 +19,13 @@ pub(crate) struct Branched {
 /// Returns branches with their tree.
 ///
 /// # Errors
-/// If memory can't hold them.
+/// If an allocation fails.
 pub(crate) fn branched_by(domain: &Domain, paths: Vec<Vec<String>>) -> Result<Branched, Memory>
     ensures tree { IfOk result (IsBranched domain.now) }
     ensures paths { IfOk result (λ branched. branched.paths ≡ paths) }
 {
-    // decided as admission does
-    if count_places(paths.as_slice()).is_none() {
+    // decides as admission does
+    if count_indices(paths.as_slice()).is_none() {
         return Err(AllocError);
     }
     let tree = match find_tree(domain, paths.as_slice()) {

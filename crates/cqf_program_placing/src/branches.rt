@@ -55,13 +55,13 @@ fn branch_along(
     alloc: Global,
     domain: &Domain,
     bridge: u16,
-    way: &[u16],
+    link_path: &[u16],
 ) -> Result<Vec<String>, Memory>
-    ensures { IfOk result (λ names. branch_of names.items ≡ names_along domain.now bridge way.now) }
+    ensures { IfOk result (λ names. branch_of names.items ≡ names_along domain.now bridge link_path.now) }
 {
     let mut names = Vec::new(alloc);
     names.push(String::from_str(alloc, name_of_bridge(domain, bridge))?)?;
-    for link in way {
+    for link in link_path {
         names.push(String::from_str(alloc, name_of_end(domain, *link))?)?;
     }
     Ok(names)
@@ -72,13 +72,13 @@ pub(crate) fn branches_along(
     alloc: Global,
     domain: &Domain,
     bridge: u16,
-    ways: &[ArrayVec<u16, 16>],
+    link_paths: &[ArrayVec<u16, 16>],
 ) -> Result<Vec<Vec<String>>, Memory>
-    ensures { IfOk result (λ paths. branches_of paths.items ≡ map (λ way. names_along domain.now bridge way.items) ways.now) }
+    ensures { IfOk result (λ paths. branches_of paths.items ≡ map (λ link_path. names_along domain.now bridge link_path.items) link_paths.now) }
 {
     let mut paths = Vec::new(alloc);
-    for way in ways {
-        paths.push(branch_along(alloc, domain, bridge, way.as_slice())?)?;
+    for link_path in link_paths {
+        paths.push(branch_along(alloc, domain, bridge, link_path.as_slice())?)?;
     }
     Ok(paths)
 }

@@ -2,23 +2,23 @@
 ghost use Rattle.std.specs.Prelude.{◌≡◌, ◌<◌, ◌≤◌, All, IfErr, IfOk, Ok, length};
 ghost use Rattle.std.specs.List.{list_all};
 ghost use Rattle.cqf_admission.specs.Branches.{branches_of};
-ghost use Rattle.cqf_admission.specs.Turns.{IsGoodPace};
+ghost use Rattle.cqf_admission.specs.ActiveCycles.{IsGoodPace};
 ghost use Rattle.cqf_model.specs.declared.topology.Hop.{Hop as AHop};
 ghost use Rattle.cqf_model.specs.History.{held_in, seals};
 ghost use Rattle.cqf_program_placing.specs.Known.{AreKnown};
 ghost use Rattle.cqf_program_placing.specs.Placing.{AreFound, IsRouted, has_room_at, is_roomy};
 ghost use Rattle.cqf_program_placing.specs.Routes.{AreReached, IsFirstRoute, IsFullFor, IsGoodRoute, IsRoomyRoute, IsRoute, IsTakenRoute, IsUnrouted, IsUntaken};
-ghost use Rattle.cqf_program_placing.specs.Settled.{Between, IsOnWay, way_value};
-ghost use Rattle.cqf_program_placing.specs.Turns.{AreGoodTurns, CostsSome, IsGoodEvery, every_in, lefts_on, pace_by};
+ghost use Rattle.cqf_program_placing.specs.Settled.{Between, IsOnPath, path_value};
+ghost use Rattle.cqf_program_placing.specs.ActiveCycles.{AreGoodActiveCycles, CostsSome, IsGoodEvery, every_in, lefts_on, pace_by};
 
-use crate::StreamWay;
+use crate::StreamPath;
+use crate::active_cycles::ActiveCycles;
 use crate::branched::{Branched, branched_by};
 use crate::branches::copied_branches;
 use crate::hops::PacedRoom;
 use crate::phases::phase_along;
 use crate::rooms::{Rooms, pace_by};
 use crate::routes::{Unrouted, branches_between};
-use crate::turns::Turns;
 use cqf_admission::Admission;
 use cqf_model::{Hop, Link, Pace};
 use cqf_network::Room;
@@ -30,7 +30,7 @@ use std::alloc::{AllocError, Global};
 #[derive(Debug, Drop)]
 pub(crate) struct Route {
     pub(crate) branched: Branched,
-    pub(crate) turns: Turns,
+    pub(crate) active_cycles: ActiveCycles,
     pub(crate) phase: u8,
 }
 
@@ -45,7 +45,7 @@ fn has_room_at(domain: &Domain, admission: &Admission, cost: u32, pace: Pace, ho
     cost <= left
 }
 
-/// Returns whether each link of a tree has room so.
+/// Returns whether each link of a tree has left what a stream costs, in the cycles of a pace in which the stream's frames pass the link.
 fn has_room_on(domain: &Domain, admission: &Admission, cost: u32, pace: Pace, tree: &[Hop]) -> bool
     requires domain { admission.now.domain ≡ domain.now }
     requires inside { All (λ (hop : AHop). hop.link < length domain.now.links) tree.now }
@@ -66,12 +66,12 @@ impl Route {
     /// pass the link.
     fn is_roomy(&self, domain: &Domain, admission: &Admission, cost: u32) -> bool
         requires domain { admission.now.domain ≡ domain.now }
-        requires turns { AreGoodTurns self.now.turns }
+        requires active_cycles { AreGoodActiveCycles self.now.active_cycles }
         requires good { IsGoodRoute domain.now (held_in domain.now admission.now.entries (seals admission.now.entries)) cost self.now }
         ensures { let d = domain.now in let entries = admission.now.entries in result ≡ is_roomy d (held_in d entries (seals entries)) cost
-            (pace_by (every_in self.now.turns) self.now.phase) (branches_of self.now.branched.paths.items) }
+            (pace_by (every_in self.now.active_cycles) self.now.phase) (branches_of self.now.branched.paths.items) }
     {
-        let pace = pace_by(self.turns.every(), self.phase);
+        let pace = pace_by(self.active_cycles.every(), self.phase);
         match &self.branched.tree {
             Some(tree) => has_room_on(domain, admission, cost, pace, tree.as_slice()),
             None => false,
@@ -82,26 +82,26 @@ impl Route {
 /// Returns the route along some branches of a stream of this cost in these cycles.
 ///
 /// # Errors
-/// If memory can't hold it.
+/// If an allocation fails.
 fn route_along(
     domain: &Domain,
     admission: &Admission,
     paths: Vec<Vec<String>>,
-    turns: Turns,
+    active_cycles: ActiveCycles,
     cost: u32,
 ) -> Result<Route, Memory>
     requires domain { admission.now.domain ≡ domain.now }
-    requires good { AreGoodTurns turns }
-    requires some { CostsSome turns cost }
-    ensures turns { IfOk result (λ route. route.turns ≡ turns) }
+    requires good { AreGoodActiveCycles active_cycles }
+    requires some { CostsSome active_cycles cost }
+    ensures active_cycles { IfOk result (λ route. route.active_cycles ≡ active_cycles) }
     ensures paths { IfOk result (λ route. route.branched.paths ≡ paths) }
     ensures good { let d = domain.now in let entries = admission.now.entries in IfOk result (IsGoodRoute d (held_in d entries (seals entries)) cost) }
 {
     let branched = branched_by(domain, paths)?;
-    let phase = phase_along(domain, admission, cost, turns, &branched);
+    let phase = phase_along(domain, admission, cost, active_cycles, &branched);
     Ok(Route {
         branched,
-        turns,
+        active_cycles,
         phase,
     })
 }
@@ -126,11 +126,11 @@ fn given_branches(
     requires links { links.now ≡ domain.now.links }
     requires inside { bridge < length domain.now.bridges }
     requires reached { AreReached domain.now bridge stations.now }
-    requires good { AreGoodTurns (Turns.Given every phase) }
+    requires good { AreGoodActiveCycles (ActiveCycles.Given every phase) }
     ensures ok { let entries = admission.now.entries in IfOk result (λ paths. IsRouted domain.now (held_in domain.now entries (seals entries))
-        (Turns.Given every phase) cost (Between bridge stations.now) (Ok (branches_of paths.items))) }
+        (ActiveCycles.Given every phase) cost (Between bridge stations.now) (Ok (branches_of paths.items))) }
     ensures err { let entries = admission.now.entries in IfErr result (IsUnrouted domain.now (held_in domain.now entries (seals entries))
-        (Turns.Given every phase) cost (Between bridge stations.now)) }
+        (ActiveCycles.Given every phase) cost (Between bridge stations.now)) }
 {
     let paced = PacedRoom {
         domain,
@@ -174,10 +174,10 @@ fn chosen_branches(
     ensures err { let d = domain.now in let entries = admission.now.entries in IfErr result
         (IsFullFor d (lefts_on d (held_in d entries (seals entries)) every) cost bridge stations.now) }
 {
-    let place = rooms.find(alloc, domain, admission, every)?;
+    let index = rooms.find(alloc, domain, admission, every)?;
     let room = Room {
         links,
-        left: rooms.lefts_at(place, every),
+        left: rooms.lefts_at(index, every),
         cost,
     };
     branches_between(alloc, domain, room, bridge, stations)
@@ -200,12 +200,12 @@ fn given_route(
 ) -> Result<Route, Unrouted>
     requires domain { admission.now.domain ≡ domain.now }
     requires links { links.now ≡ domain.now.links }
-    requires on_way { IsOnWay domain.now (Between bridge stations.now) }
-    requires good { AreGoodTurns (Turns.Given every phase) }
+    requires on_path { IsOnPath domain.now (Between bridge stations.now) }
+    requires good { AreGoodActiveCycles (ActiveCycles.Given every phase) }
     ensures ok { let entries = admission.now.entries in IfOk result (IsRoute domain.now (held_in domain.now entries (seals entries))
-        (Turns.Given every phase) cost (Between bridge stations.now)) }
+        (ActiveCycles.Given every phase) cost (Between bridge stations.now)) }
     ensures err { let entries = admission.now.entries in IfErr result (IsUnrouted domain.now (held_in domain.now entries (seals entries))
-        (Turns.Given every phase) cost (Between bridge stations.now)) }
+        (ActiveCycles.Given every phase) cost (Between bridge stations.now)) }
 {
     match given_branches(
         alloc, domain, links, admission, bridge, stations, every, phase, cost,
@@ -215,7 +215,7 @@ fn given_route(
                 domain,
                 admission,
                 paths,
-                Turns::Given { every, phase },
+                ActiveCycles::Given { every, phase },
                 cost,
             )?;
             Ok(route)
@@ -241,21 +241,27 @@ fn emptiest_route(
 ) -> Result<Route, Unrouted>
     requires domain { admission.now.domain ≡ domain.now }
     requires links { links.now ≡ domain.now.links }
-    requires on_way { IsOnWay domain.now (Between bridge stations.now) }
+    requires on_path { IsOnPath domain.now (Between bridge stations.now) }
     requires good { IsGoodEvery every }
     requires some { 1 ≤ cost }
     requires known { AreKnown domain.now (held_in domain.now admission.now.entries (seals admission.now.entries)) rooms.old }
     ensures known { AreKnown domain.now (held_in domain.now admission.now.entries (seals admission.now.entries)) rooms.new }
     ensures ok { let entries = admission.now.entries in IfOk result (IsRoute domain.now (held_in domain.now entries (seals entries))
-        (Turns.Chosen every) cost (Between bridge stations.now)) }
+        (ActiveCycles.Chosen every) cost (Between bridge stations.now)) }
     ensures err { let entries = admission.now.entries in IfErr result (IsUnrouted domain.now (held_in domain.now entries (seals entries))
-        (Turns.Chosen every) cost (Between bridge stations.now)) }
+        (ActiveCycles.Chosen every) cost (Between bridge stations.now)) }
 {
     match chosen_branches(
         alloc, domain, links, admission, rooms, bridge, stations, every, cost,
     ) {
         Ok(paths) => {
-            let route = route_along(domain, admission, paths, Turns::Chosen { every }, cost)?;
+            let route = route_along(
+                domain,
+                admission,
+                paths,
+                ActiveCycles::Chosen { every },
+                cost,
+            )?;
             Ok(route)
         }
         Err(unrouted) => Err(unrouted),
@@ -279,10 +285,10 @@ fn roomy_route(
 ) -> Result<Option<Route>, Memory>
     requires domain { admission.now.domain ≡ domain.now }
     requires links { links.now ≡ domain.now.links }
-    requires on_way { IsOnWay domain.now (Between bridge stations.now) }
-    requires good { AreGoodTurns (Turns.Given every phase) }
+    requires on_path { IsOnPath domain.now (Between bridge stations.now) }
+    requires good { AreGoodActiveCycles (ActiveCycles.Given every phase) }
     ensures { let entries = admission.now.entries in IfOk result (IsRoomyRoute domain.now (held_in domain.now entries (seals entries))
-        (Turns.Given every phase) cost (Between bridge stations.now)) }
+        (ActiveCycles.Given every phase) cost (Between bridge stations.now)) }
 {
     match given_route(
         alloc, domain, links, admission, bridge, stations, every, phase, cost,
@@ -301,8 +307,8 @@ fn roomy_route(
     }
 }
 
-/// Returns the route of a stream in the first phase of `every` in which it finds room if that phase is given, if there is one. It takes a
-/// search for each phase.
+/// Returns the route of a stream in the first of `every` phases in which it finds room, or `None` if it finds room in none. It searches
+/// once for each phase.
 ///
 /// # Errors
 /// If an allocation fails.
@@ -318,7 +324,7 @@ fn first_route(
 ) -> Result<Option<Route>, Memory>
     requires domain { admission.now.domain ≡ domain.now }
     requires links { links.now ≡ domain.now.links }
-    requires on_way { IsOnWay domain.now (Between bridge stations.now) }
+    requires on_path { IsOnPath domain.now (Between bridge stations.now) }
     requires good { IsGoodEvery every }
     ensures { let entries = admission.now.entries in IfOk result
         (IsFirstRoute domain.now (held_in domain.now entries (seals entries)) every cost (Between bridge stations.now)) }
@@ -334,8 +340,9 @@ fn first_route(
     Ok(None)
 }
 
-/// Returns the route from a bridge to stations of a stream whose phase is to be chosen: by the emptiest phase of each link if it finds room
-/// so; else in the first phase in which it finds room; and if there is none, by the emptiest phases.
+/// Returns the route from a bridge to stations of a stream whose phase is to be chosen: the route by the emptiest phase of each link, if
+/// there is room on it; else the route in the first phase in which there is room; and if there is no such phase, the route by the emptiest
+/// phases.
 ///
 /// If there are no paths by the emptiest phases, there are none in any phase. So a stream that has such paths without a phase in common
 /// takes up to `every` searches more, and no other stream does.
@@ -355,15 +362,15 @@ fn chosen_route(
 ) -> Result<Route, Unrouted>
     requires domain { admission.now.domain ≡ domain.now }
     requires links { links.now ≡ domain.now.links }
-    requires on_way { IsOnWay domain.now (Between bridge stations.now) }
+    requires on_path { IsOnPath domain.now (Between bridge stations.now) }
     requires good { IsGoodEvery every }
     requires some { 1 ≤ cost }
     requires known { AreKnown domain.now (held_in domain.now admission.now.entries (seals admission.now.entries)) rooms.old }
     ensures known { AreKnown domain.now (held_in domain.now admission.now.entries (seals admission.now.entries)) rooms.new }
     ensures ok { let entries = admission.now.entries in IfOk result (IsTakenRoute domain.now (held_in domain.now entries (seals entries))
-        (Turns.Chosen every) cost (Between bridge stations.now)) }
+        (ActiveCycles.Chosen every) cost (Between bridge stations.now)) }
     ensures err { let entries = admission.now.entries in IfErr result (IsUntaken domain.now (held_in domain.now entries (seals entries))
-        (Turns.Chosen every) cost (Between bridge stations.now)) }
+        (ActiveCycles.Chosen every) cost (Between bridge stations.now)) }
 {
     match emptiest_route(
         alloc, domain, links, admission, rooms, bridge, stations, every, cost,
@@ -393,30 +400,30 @@ pub(crate) fn find_route(
     links: &[Link],
     admission: &Admission,
     rooms: &mut Rooms,
-    way: &StreamWay,
-    turns: Turns,
+    path: &StreamPath,
+    active_cycles: ActiveCycles,
     cost: u32,
 ) -> Result<Route, Unrouted>
     requires domain { admission.now.domain ≡ domain.now }
     requires links { links.now ≡ domain.now.links }
-    requires on_way { IsOnWay domain.now (way_value way.now) }
-    requires good { AreGoodTurns turns }
-    requires some { CostsSome turns cost }
+    requires on_path { IsOnPath domain.now (path_value path.now) }
+    requires good { AreGoodActiveCycles active_cycles }
+    requires some { CostsSome active_cycles cost }
     requires known { AreKnown domain.now (held_in domain.now admission.now.entries (seals admission.now.entries)) rooms.old }
     ensures known { AreKnown domain.now (held_in domain.now admission.now.entries (seals admission.now.entries)) rooms.new }
     ensures ok { let entries = admission.now.entries in IfOk result
-        (IsTakenRoute domain.now (held_in domain.now entries (seals entries)) turns cost (way_value way.now)) }
+        (IsTakenRoute domain.now (held_in domain.now entries (seals entries)) active_cycles cost (path_value path.now)) }
     ensures err { let entries = admission.now.entries in IfErr result
-        (IsUntaken domain.now (held_in domain.now entries (seals entries)) turns cost (way_value way.now)) }
+        (IsUntaken domain.now (held_in domain.now entries (seals entries)) active_cycles cost (path_value path.now)) }
 {
-    match way {
-        StreamWay::Along(paths) => {
+    match path {
+        StreamPath::Along(paths) => {
             let given = copied_branches(alloc, paths.as_slice())?;
-            let route = route_along(domain, admission, given, turns, cost)?;
+            let route = route_along(domain, admission, given, active_cycles, cost)?;
             Ok(route)
         }
-        StreamWay::Between(bridge, stations) => match turns {
-            Turns::Given { every, phase } => given_route(
+        StreamPath::Between(bridge, stations) => match active_cycles {
+            ActiveCycles::Given { every, phase } => given_route(
                 alloc,
                 domain,
                 links,
@@ -427,7 +434,7 @@ pub(crate) fn find_route(
                 phase,
                 cost,
             ),
-            Turns::Chosen { every } => chosen_route(
+            ActiveCycles::Chosen { every } => chosen_route(
                 alloc,
                 domain,
                 links,

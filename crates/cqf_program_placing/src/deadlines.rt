@@ -1,6 +1,6 @@
 //! Deadlines of streams, from their edge bridges on.
 ghost use Rattle.std.specs.Prelude.{◌≡◌};
-ghost use Rattle.cqf_program_placing.specs.Settled.{deadline_behind, longest_of, taken_on};
+ghost use Rattle.cqf_program_placing.specs.Settled.{deadline_after, longest_of, taken_on};
 
 use crate::PlanFault;
 use cqf_network::TalkerLink;
@@ -32,8 +32,8 @@ pub(crate) fn taken_on(talker: Option<TalkerLink>, octets: u32) -> u64
 
 /// Returns the deadline from the edge bridge on, in nanoseconds, if `taken` nanoseconds of it are over there. Returns `TooSoon` if nothing
 /// is left.
-pub(crate) fn deadline_behind(taken: u64, deadline: Option<u32>) -> Result<Option<u32>, PlanFault>
-    ensures { result ≡ deadline_behind taken deadline }
+pub(crate) fn deadline_after(taken: u64, deadline: Option<u32>) -> Result<Option<u32>, PlanFault>
+    ensures { result ≡ deadline_after taken deadline }
 {
     match deadline {
         Some(deadline) => {

@@ -5,7 +5,7 @@ ghost use Rattle.cqf_network.specs.StreamsText.{wanted_text};
 ghost use Rattle.cqf_program_placing.specs.Settled.{entrance_at, talker_of_stream};
 
 use cqf_model::Node;
-use cqf_network::{NetworkDomain, TalkerLink, WantedWay};
+use cqf_network::{NetworkDomain, TalkerLink, WantedPath};
 use cqf_topology::Domain;
 use cqf_units::Name;
 
@@ -16,7 +16,7 @@ pub(crate) struct OpenNetwork<'a> {
     pub plan: &'a Domain,
 }
 
-/// Where a stream enters the domain: its edge bridge, and the talker's link on which it reaches that bridge if its talker is a station.
+/// Where a stream enters the domain: its edge bridge, and the access link on which it reaches that bridge if its talker is a station.
 #[derive(Clone, Copy, Debug)]
 pub(crate) struct Entrance {
     /// The edge bridge's number.
@@ -24,7 +24,7 @@ pub(crate) struct Entrance {
     pub talker: Option<TalkerLink>,
 }
 
-/// Returns the talker's link of a station.
+/// Returns the access link of a station, or `None` if it has none.
 fn talker_of(network: &NetworkDomain, station: u16) -> Option<TalkerLink>
     ensures { result ≡ find (λ talker. talker.station == station) network.now.talkers }
 {
@@ -63,13 +63,13 @@ pub(crate) fn find_entrance(at: OpenNetwork, name: &Name) -> Option<Entrance>
     entrance_at(at.network, at.plan.find(name.as_str()))
 }
 
-/// Returns the talker's link on which a stream reaches its edge bridge; none for a stream with given branches, or from a bridge.
-pub(crate) fn find_talker(at: OpenNetwork, way: &WantedWay) -> Option<TalkerLink>
-    ensures { result ≡ talker_of_stream at.entry.network.now at.entry.plan.now (wanted_text way.now) }
+/// Returns the access link on which a stream reaches its edge bridge; none for a stream with given branches, or from a bridge.
+pub(crate) fn find_talker(at: OpenNetwork, path: &WantedPath) -> Option<TalkerLink>
+    ensures { result ≡ talker_of_stream at.entry.network.now at.entry.plan.now (wanted_text path.now) }
 {
-    match way {
-        WantedWay::Along(_) => None,
-        WantedWay::Between(from, _) => match find_entrance(at, from) {
+    match path {
+        WantedPath::Along(_) => None,
+        WantedPath::Between(from, _) => match find_entrance(at, from) {
             Some(entrance) => entrance.talker,
             None => None,
         },

@@ -13,7 +13,7 @@ use thiserror::Error;
 pub enum PlanFault {
     /// Admission refuses the stream.
     Refused(Refused),
-    /// The node that the stream comes from is neither a bridge nor a station with a talker's link.
+    /// The node that the stream comes from is neither a bridge nor a station with an access link.
     NoTalker,
     /// The first of its listeners that isn't a station.
     NoListener(Name),

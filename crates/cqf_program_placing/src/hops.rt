@@ -1,9 +1,9 @@
 //! After how many links the frames of a stream with given cycles leave each bridge, and what links have left there.
 ghost use Rattle.std.specs.Prelude.{◌≡◌, ◌<◌, ◌+◌, ℕ, IfOk, MatchOption, None, Some, false, length, slice_index_or, true};
-ghost use Rattle.cqf_admission.specs.Turns.{IsGoodPace};
+ghost use Rattle.cqf_admission.specs.ActiveCycles.{IsGoodPace};
 ghost use Rattle.cqf_model.specs.History.{held_in, seals};
-ghost use Rattle.cqf_network.specs.Ways.{most_links};
-ghost use Rattle.cqf_program_placing.specs.Hops.{AreHops, AreLeftBehind, AreReachedBy, AreShallow, IsReachedBy, LeadsBehind, has_room_behind, hop_of, left_behind, left_where, lefts_where};
+ghost use Rattle.cqf_network.specs.Paths.{most_links};
+ghost use Rattle.cqf_program_placing.specs.Hops.{AreHops, AreLeftAfter, AreReachedBy, AreShallow, IsReachedBy, LeadsAfter, has_room_after, hop_of, left_after, left_where, lefts_where};
 
 use cqf_admission::Admission;
 use cqf_model::{Hop, MOST_BRIDGES, Node, Pace};
@@ -23,7 +23,7 @@ pub(crate) struct PacedRoom<'a> {
     pub domain: &'a Domain,
     pub admission: &'a Admission,
     pub pace: Pace,
-    /// What the stream costs of each link, in octets a cycle.
+    /// What the stream costs of each link, in octets per cycle.
     pub cost: u32,
 }
 
@@ -37,7 +37,7 @@ fn hop_of(hops: &Hops, bridge: u16) -> Option<u8>
     }
 }
 
-/// Whether frames leave some bridge of the domain after exactly this number of links.
+/// Returns whether frames leave some bridge of the domain after exactly this number of links.
 fn leave_some(domain: &Domain, before: u8, hops: &Hops) -> bool
     ensures some { result ≡ true → (bridge : ℕ) × (bridge < length domain.now.bridges) × (hop_of hops.now bridge ≡ Some before) }
     ensures none { result ≡ false → (bridge : ℕ) → bridge < length domain.now.bridges → ¬ (hop_of hops.now bridge ≡ Some before) }
@@ -54,17 +54,17 @@ fn leave_some(domain: &Domain, before: u8, hops: &Hops) -> bool
 
 impl<'a> PacedRoom<'a> {
     /// Returns what a link has left in the cycles in which frames pass it after `before` links.
-    fn left_behind(self, before: u8, link: u16) -> u32
+    fn left_after(self, before: u8, link: u16) -> u32
         requires domain { self.admission.now.domain ≡ self.domain.now }
         requires inside { link < length self.domain.now.links }
         requires good { IsGoodPace self.pace }
         requires few { before < most_links }
         ensures { let d = self.entry.domain.now in let entries = self.entry.admission.now.entries in
-            result ≡ left_behind d (held_in d entries (seals entries)) self.entry.pace before link }
+            result ≡ left_after d (held_in d entries (seals entries)) self.entry.pace before link }
     {
         let hop = Hop {
             link,
-            depth: before + 1,
+            hop_number: before + 1,
             from: None,
         };
         self.admission.left_at(&hop, self.pace).0
@@ -77,9 +77,9 @@ impl<'a> PacedRoom<'a> {
         requires good { IsGoodPace self.pace }
         requires few { before < most_links }
         ensures { let d = self.entry.domain.now in let entries = self.entry.admission.now.entries in
-            let room = has_room_behind d (held_in d entries (seals entries)) self.entry.pace self.entry.cost in
-            MatchOption result ((bridge : ℕ) → ¬ LeadsBehind d.links room hops.now before link bridge)
-            (λ bridge. LeadsBehind d.links room hops.now before link bridge) }
+            let room = has_room_after d (held_in d entries (seals entries)) self.entry.pace self.entry.cost in
+            MatchOption result ((bridge : ℕ) → ¬ LeadsAfter d.links room hops.now before link bridge)
+            (λ bridge. LeadsAfter d.links room hops.now before link bridge) }
     {
         let it = self.domain.link(link);
         let Some(hop) = hop_of(hops, it.from) else {
@@ -88,7 +88,7 @@ impl<'a> PacedRoom<'a> {
         if hop != before {
             return None;
         }
-        if self.left_behind(before, link) < self.cost {
+        if self.left_after(before, link) < self.cost {
             return None;
         }
         match it.to {
@@ -105,7 +105,7 @@ impl<'a> PacedRoom<'a> {
         requires good { IsGoodPace self.pace }
         requires few { before < most_links }
         ensures { let d = self.entry.domain.now in let entries = self.entry.admission.now.entries in
-            IsReachedBy d.links (has_room_behind d (held_in d entries (seals entries)) self.entry.pace self.entry.cost) before link hops.old hops.new }
+            IsReachedBy d.links (has_room_after d (held_in d entries (seals entries)) self.entry.pace self.entry.cost) before link hops.old hops.new }
     {
         self.domain.know();
         let Some(bridge) = self.led(before, link, hops) else {
@@ -116,13 +116,13 @@ impl<'a> PacedRoom<'a> {
         }
     }
 
-    /// Follows each link so.
+    /// Follows each link from the bridges that frames leave after `before` links, as [`PacedRoom::reach`] does.
     fn reach_all(self, before: u8, hops: &mut Hops)
         requires domain { self.admission.now.domain ≡ self.domain.now }
         requires good { IsGoodPace self.pace }
         requires few { before < most_links }
         ensures { let d = self.entry.domain.now in let entries = self.entry.admission.now.entries in
-            AreReachedBy d.links (has_room_behind d (held_in d entries (seals entries)) self.entry.pace self.entry.cost) before (length d.links) hops.old hops.new }
+            AreReachedBy d.links (has_room_after d (held_in d entries (seals entries)) self.entry.pace self.entry.cost) before (length d.links) hops.old hops.new }
     {
         self.domain.know();
         if !leave_some(self.domain, before, hops) {
@@ -140,7 +140,7 @@ impl<'a> PacedRoom<'a> {
         requires good { IsGoodPace self.pace }
         requires inside { bridge < length self.domain.now.bridges }
         ensures { let d = self.entry.domain.now in let entries = self.entry.admission.now.entries in
-            AreHops d.links (has_room_behind d (held_in d entries (seals entries)) self.entry.pace self.entry.cost) bridge result }
+            AreHops d.links (has_room_after d (held_in d entries (seals entries)) self.entry.pace self.entry.cost) bridge result }
     {
         self.domain.know();
         let mut hops = [None; MOST_BRIDGES];
@@ -162,7 +162,7 @@ impl<'a> PacedRoom<'a> {
     {
         let it = self.domain.link(link);
         match hop_of(hops, it.from) {
-            Some(before) => self.left_behind(before, link),
+            Some(before) => self.left_after(before, link),
             None => 0,
         }
     }
@@ -176,7 +176,7 @@ impl<'a> PacedRoom<'a> {
         requires good { IsGoodPace self.pace }
         requires inside { bridge < length self.domain.now.bridges }
         ensures { let d = self.entry.domain.now in let entries = self.entry.admission.now.entries in
-            IfOk result (λ left. AreLeftBehind d (held_in d entries (seals entries)) self.entry.pace self.entry.cost bridge left.items) }
+            IfOk result (λ left. AreLeftAfter d (held_in d entries (seals entries)) self.entry.pace self.entry.cost bridge left.items) }
     {
         let hops = self.hops_from(bridge);
         let mut left = Vec::new(alloc);

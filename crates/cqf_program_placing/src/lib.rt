@@ -8,7 +8,7 @@
 //!   the [`PlacingOutcome`] of each stream. [`place_in_order`] does so in another order.
 //! - A [`PlanFault`] is why a stream isn't settled, or isn't placed.
 //!
-//! `specs/` defines both (`Settled`, `Placing`), in which cycles streams are offered (`Turns`), after how many links their frames leave
+//! `specs/` defines both (`Settled`, `Placing`), in which cycles streams are offered (`ActiveCycles`), after how many links their frames leave
 //! bridges (`Hops`), and the texts of faults (`Faults`). It has the law that streams are placed if there is room (`Room`), which
 //! [`placed_where_there_is_room`] proves.
 //!
@@ -20,6 +20,7 @@
 //! ```
 #![tactic(auto)]
 
+mod active_cycles;
 mod asking;
 mod branched;
 mod branches;
@@ -30,6 +31,8 @@ mod faults;
 mod hops;
 mod laws;
 mod outcomes;
+mod path_settling;
+mod paths_there;
 mod phases;
 mod placing;
 mod reserving;
@@ -37,15 +40,12 @@ mod rooms;
 mod routes;
 mod settled;
 mod settling;
-mod turns;
-mod way_settling;
-mod ways_there;
 
+pub use active_cycles::ActiveCycles;
 pub use faults::PlanFault;
 pub use laws::placed_where_there_is_room;
 pub use outcomes::PlacingOutcome;
 pub use placing::{Placing, place, place_in_order};
-pub(crate) use settled::StreamWay;
+pub(crate) use settled::StreamPath;
 pub use settled::{Settled, Unsettled};
 pub use settling::settle;
-pub use turns::Turns;

@@ -2,21 +2,21 @@
 ghost use Rattle.std.specs.Prelude.{◌≡◌, ◌+◌, ◌<◌, ◌≤◌, All, insert, length};
 ghost use Rattle.arrayvec.specs.ArrayVec.{array_vec_len};
 ghost use Rattle.cqf_admission.specs.Branches.{branches_of};
-ghost use Rattle.cqf_admission.specs.Turns.{IsGoodPace};
+ghost use Rattle.cqf_admission.specs.ActiveCycles.{IsGoodPace};
 ghost use Rattle.cqf_model.specs.declared.topology.Hop.{Hop as AHop};
 ghost use Rattle.cqf_model.specs.History.{held_in, seals};
 ghost use Rattle.cqf_program_placing.specs.Known.{IsBranched};
-ghost use Rattle.cqf_program_placing.specs.Turns.{AreGoodTurns, CostsSome, IsGoodEvery, IsLeastLoaded, IsPhaseAlong, are_less, is_less_full, loads_down, loads_with, put_down, share_at};
+ghost use Rattle.cqf_program_placing.specs.ActiveCycles.{AreGoodActiveCycles, CostsSome, IsGoodEvery, IsLeastLoaded, IsPhaseAlong, are_less, is_less_full, loads_down, loads_with, put_down, share_at};
 
+use crate::active_cycles::ActiveCycles;
 use crate::branched::Branched;
 use crate::rooms::pace_by;
-use crate::turns::Turns;
 use arrayvec::ArrayVec;
 use cqf_admission::{Admission, budget_on};
 use cqf_model::{Hop, Pace};
 use cqf_topology::Domain;
 
-/// How much of a link's budget is held, in octets a cycle.
+/// How much of a link's budget is held, in octets per cycle.
 #[derive(Clone, Copy, Debug, Default)]
 pub(crate) struct BudgetShare {
     held: u64,
@@ -51,13 +51,13 @@ fn share_at(domain: &Domain, admission: &Admission, cost: u32, pace: Pace, hop: 
 }
 
 /// Returns the index of a share among others that are in descending order: after those that are no less.
-fn place_of(share: BudgetShare, loads: &[BudgetShare]) -> usize
+fn index_of(share: BudgetShare, loads: &[BudgetShare]) -> usize
     ensures inside { result ≤ length loads.now }
     ensures value { insert loads.now result share ≡ put_down share loads.now }
 {
-    for place in 0..loads.len() {
-        if is_less_full(loads[place], share) {
-            return place;
+    for index in 0..loads.len() {
+        if is_less_full(loads[index], share) {
+            return index;
         }
     }
     loads.len()
@@ -69,8 +69,8 @@ fn put_down(share: BudgetShare, loads: &mut Loads)
     ensures items { loads.new.items ≡ put_down share loads.old.items }
     ensures len { array_vec_len loads.new ≡ array_vec_len loads.old + 1 }
 {
-    let place = place_of(share, loads.as_slice());
-    loads.insert(place, share);
+    let index = index_of(share, loads.as_slice());
+    loads.insert(index, share);
 }
 
 /// Returns the loads of a tree in the cycles of a pace, with what a stream costs in addition: how full its hops' links are, in descending
@@ -94,14 +94,14 @@ fn loads_at(domain: &Domain, admission: &Admission, cost: u32, pace: Pace, tree:
 fn are_less(loads: &[BudgetShare], others: &[BudgetShare]) -> bool
     ensures { result ≡ are_less loads.now others.now }
 {
-    for place in 0..others.len() {
-        if place == loads.len() {
+    for index in 0..others.len() {
+        if index == loads.len() {
             return true;
         }
-        if is_less_full(loads[place], others[place]) {
+        if is_less_full(loads[index], others[index]) {
             return true;
         }
-        if is_less_full(others[place], loads[place]) {
+        if is_less_full(others[index], loads[index]) {
             return false;
         }
     }
@@ -136,19 +136,19 @@ pub(crate) fn phase_along(
     domain: &Domain,
     admission: &Admission,
     cost: u32,
-    turns: Turns,
+    active_cycles: ActiveCycles,
     branched: &Branched,
 ) -> u8
     requires domain { admission.now.domain ≡ domain.now }
-    requires good { AreGoodTurns turns }
-    requires some { CostsSome turns cost }
+    requires good { AreGoodActiveCycles active_cycles }
+    requires some { CostsSome active_cycles cost }
     requires tree { IsBranched domain.now branched.now }
     ensures { let d = domain.now in let entries = admission.now.entries in
-        IsPhaseAlong d (held_in d entries (seals entries)) cost (branches_of branched.now.paths.items) turns result }
+        IsPhaseAlong d (held_in d entries (seals entries)) cost (branches_of branched.now.paths.items) active_cycles result }
 {
-    match turns {
-        Turns::Given { phase, .. } => phase,
-        Turns::Chosen { every } => match &branched.tree {
+    match active_cycles {
+        ActiveCycles::Given { phase, .. } => phase,
+        ActiveCycles::Chosen { every } => match &branched.tree {
             Some(tree) => least_loaded(domain, admission, cost, every, tree.as_slice()),
             None => 0,
         },

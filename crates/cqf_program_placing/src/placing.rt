@@ -2,7 +2,7 @@
 ghost use Rattle.std.specs.Prelude.{ℕ, ◌≡◌, ◌<◌, ◌≤◌, All, IfOk, length, map};
 ghost use Rattle.cqf_admission.specs.Admission.{calls};
 ghost use Rattle.cqf_admission.specs.Tables.{AreAlongLinks};
-ghost use Rattle.cqf_admission.specs.Turns.{AreOfGoodPaces};
+ghost use Rattle.cqf_admission.specs.ActiveCycles.{AreOfGoodPaces};
 ghost use Rattle.cqf_admission.specs.Branches.{branches_of};
 ghost use Rattle.cqf_laws_history.specs.StateLaws.{AreHeld};
 ghost use Rattle.cqf_model.specs.History.{held_in, seals};
@@ -11,17 +11,17 @@ ghost use Rattle.cqf_units.specs.Timing.{cost_of};
 ghost use Rattle.cqf_network.specs.NetworkDomain.{IsOpenCycle, domain_at};
 ghost use Rattle.cqf_program_placing.specs.Known.{AreKnown};
 ghost use Rattle.cqf_program_placing.specs.Orders.{in_order};
-ghost use Rattle.cqf_program_placing.specs.Placing.{ArePlaced, IsAskedFor, IsPlacedInTurns, IsPlacing, outcome_value};
+ghost use Rattle.cqf_program_placing.specs.Placing.{ArePlaced, IsAskedFor, IsPlacedInActiveCycles, IsPlacing, outcome_value};
 ghost use Rattle.cqf_program_placing.specs.Routes.{IsGoodRoute};
-ghost use Rattle.cqf_program_placing.specs.Settled.{IsOnWay, IsPlaceable, open_domain, settled_value, way_value};
-ghost use Rattle.cqf_program_placing.specs.Turns.{AreGoodTurns, CostsSome};
+ghost use Rattle.cqf_program_placing.specs.Settled.{IsOnPath, IsPlaceable, open_domain, path_value, settled_value};
+ghost use Rattle.cqf_program_placing.specs.ActiveCycles.{AreGoodActiveCycles, CostsSome};
 
+use crate::active_cycles::{ActiveCycles, active_cycles_on};
 use crate::asking::ask;
 use crate::choosing::{Route, find_route};
 use crate::reserving::reservation;
 use crate::rooms::Rooms;
 use crate::routes::Unrouted;
-use crate::turns::{Turns, turns_on};
 use crate::{PlacingOutcome, Settled};
 use cqf_admission::{Admission, SealFault, Table};
 use cqf_laws_history::state_follows_history;
@@ -64,10 +64,10 @@ fn place_along(
 ) -> Result<PlacingOutcome, Memory>
     requires domain { admission.old.domain ≡ domain.now }
     requires free { calls admission.old.entries < most_calls }
-    requires good { let entries = admission.old.entries in IsGoodRoute domain.now (held_in domain.now entries (seals entries)) (cost_of octets) route }
+    requires good { let entries = admission.old.entries in IsGoodRoute domain.now (held_in domain.now entries (seals entries)) (cost_of domain.now.overhead octets) route }
     requires known { AreKnown domain.now (held_in domain.now admission.old.entries (seals admission.old.entries)) rooms.old }
     ensures domain { admission.new.domain ≡ domain.now }
-    ensures placed { IfOk result (λ outcome. IsAskedFor domain.now admission.old.entries name.now octets route.turns
+    ensures placed { IfOk result (λ outcome. IsAskedFor domain.now admission.old.entries name.now octets route.active_cycles
         (branches_of route.branched.paths.items) (outcome_value outcome) admission.new.entries) }
     ensures known { IfOk result (λ _. AreKnown domain.now (held_in domain.now admission.new.entries (seals admission.new.entries)) rooms.new) }
 {
@@ -75,14 +75,14 @@ fn place_along(
     admission.know();
     let Route {
         branched,
-        turns,
+        active_cycles,
         phase,
     } = route;
     let name = String::from_str(alloc, name.as_str())?;
     let request = PacedRequest {
         name,
         octets,
-        every: u32::from(turns.every()),
+        every: u32::from(active_cycles.every()),
         phase: u32::from(phase),
         paths: branched.paths,
     };
@@ -103,19 +103,19 @@ fn place_with(
     rooms: &mut Rooms,
     stream: &Settled,
     octets: u32,
-    turns: Turns,
+    active_cycles: ActiveCycles,
 ) -> Result<PlacingOutcome, Memory>
     requires domain { admission.old.domain ≡ domain.now }
     requires links { links.now ≡ domain.now.links }
     requires free { calls admission.old.entries < most_calls }
-    requires on_way { IsOnWay domain.now (way_value stream.now.way) }
+    requires on_path { IsOnPath domain.now (path_value stream.now.path) }
     requires few { octets ≤ most_reserved }
-    requires good { AreGoodTurns turns }
-    requires some { CostsSome turns octets }
+    requires good { AreGoodActiveCycles active_cycles }
+    requires some { CostsSome active_cycles octets }
     requires known { AreKnown domain.now (held_in domain.now admission.old.entries (seals admission.old.entries)) rooms.old }
     ensures domain { admission.new.domain ≡ domain.now }
     ensures placed { IfOk result (λ outcome.
-        IsPlacedInTurns domain.now admission.old.entries (settled_value stream.now) octets turns (outcome_value outcome) admission.new.entries) }
+        IsPlacedInActiveCycles domain.now admission.old.entries (settled_value stream.now) octets active_cycles (outcome_value outcome) admission.new.entries) }
     ensures known { IfOk result (λ _. AreKnown domain.now (held_in domain.now admission.new.entries (seals admission.new.entries)) rooms.new) }
 {
     let route = match find_route(
@@ -124,9 +124,9 @@ fn place_with(
         links,
         admission,
         rooms,
-        &stream.way,
-        turns,
-        cost(Octets(octets)).0,
+        &stream.path,
+        active_cycles,
+        cost(Octets(domain.overhead()), Octets(octets)).0,
     ) {
         Ok(route) => route,
         Err(unrouted) => match unrouted {
@@ -161,9 +161,16 @@ fn place_one(
         Ok(octets) => octets,
         Err(found) => return Ok(PlacingOutcome::Unplaced(found)),
     };
-    let turns = turns_on(stream, domain.cycle_time());
+    let active_cycles = active_cycles_on(stream, domain.cycle_time());
     place_with(
-        alloc, domain, links, admission, rooms, stream, octets, turns,
+        alloc,
+        domain,
+        links,
+        admission,
+        rooms,
+        stream,
+        octets,
+        active_cycles,
     )
 }
 
@@ -194,13 +201,13 @@ fn place_all(
     })
 }
 
-/// Places settled streams of a network file on an open cycle time, in nanoseconds, one after the other.
+/// Places settled streams of a network file, at most 16,384, on an open cycle time, in nanoseconds, one after the other.
 ///
 /// A stream reserves what its traffic needs in a cycle, or the octets that it requests if these are enough. A stream without branches takes
 /// the first paths to its listeners on which each link has room. If its cycles are given, a link needs room in the cycles in which the
 /// stream's frames pass it. If its talker is in step, a link needs room in its own emptiest phase; the stream then takes the first of the
-/// phases in which its links, from the fullest down, are least full. If it finds no room so, it takes the first phase in which it would find
-/// room if that phase were given. The stream is then requested as any other. A stream that isn't placed holds nothing.
+/// phases in which its links, from the fullest down, are least full. If it finds no room in this way, it takes the first phase in which it
+/// would find room if that phase were given. The stream is then requested as any other. A stream that isn't placed holds nothing.
 ///
 /// # Errors
 /// `Memory` if an allocation fails.
@@ -212,7 +219,7 @@ pub fn place(
 ) -> Result<Placing, Memory>
     requires open { IsOpenCycle network.now cycle_time }
     requires few { length streams.now ≤ most_streams }
-    requires on_way { All (IsPlaceable (open_domain network.now)) (map settled_value streams.now) }
+    requires on_path { All (IsPlaceable (open_domain network.now)) (map settled_value streams.now) }
     ensures domain { IfOk result (λ placing. placing.domain ≡ domain_at network.now cycle_time) }
     ensures placed { IfOk result (λ placing. ArePlaced (map settled_value streams.now) placing) }
 {
@@ -250,8 +257,8 @@ fn place_each(
     })
 }
 
-/// Places settled streams of a network file on an open cycle time, in nanoseconds, as [`place`] does, but in an order of their indices. The
-/// outcomes are in that order too.
+/// Places settled streams of a network file on an open cycle time, in nanoseconds, as [`place`] does, but in an order of at most 16,384 of
+/// their indices. The outcomes are in that order too.
 ///
 /// # Errors
 /// `Memory` if an allocation fails.
@@ -265,7 +272,7 @@ pub fn place_in_order(
     requires open { IsOpenCycle network.now cycle_time }
     requires inside { All (λ index. index < length streams.now) order.now }
     requires few { length order.now ≤ most_streams }
-    requires on_way { All (IsPlaceable (open_domain network.now)) (map settled_value streams.now) }
+    requires on_path { All (IsPlaceable (open_domain network.now)) (map settled_value streams.now) }
     ensures domain { IfOk result (λ placing. placing.domain ≡ domain_at network.now cycle_time) }
     ensures placed { IfOk result (λ placing. ArePlaced (in_order (map settled_value streams.now) order.now) placing) }
 {
@@ -288,11 +295,11 @@ fn rows_of_table(alloc: Global, table: &Table) -> Result<Vec<Row>, Memory>
 /// Returns the domain of an administration in which no cycle is closed, and the rows of the streams that are held, by number.
 fn sealed_rows(alloc: Global, admission: Admission) -> Result<(Domain, Vec<Row>), Memory>
     requires { seals admission.entries ≡ 0 }
-    ensures domain { IfOk result (λ told. told.0 ≡ admission.domain) }
-    ensures rows { IfOk result (λ told. told.1.items ≡ held_in admission.domain admission.entries (seals admission.entries)) }
-    ensures along { IfOk result (λ told. AreAlongLinks admission.domain told.1.items) }
-    ensures sound { IfOk result (λ told. (next : ℕ) × AreHeld admission.domain told.1.items next 0) }
-    ensures good { IfOk result (λ told. AreOfGoodPaces told.1.items) }
+    ensures domain { IfOk result (λ reported. reported.0 ≡ admission.domain) }
+    ensures rows { IfOk result (λ reported. reported.1.items ≡ held_in admission.domain admission.entries (seals admission.entries)) }
+    ensures along { IfOk result (λ reported. AreAlongLinks admission.domain reported.1.items) }
+    ensures sound { IfOk result (λ reported. (next : ℕ) × AreHeld admission.domain reported.1.items next 0) }
+    ensures good { IfOk result (λ reported. AreOfGoodPaces reported.1.items) }
 {
     state_follows_history();
     let mut admission = admission;

@@ -4,12 +4,14 @@ ghost use Rattle.cqf_model.specs.Limits.{most_reserved};
 ghost use Rattle.cqf_program_placing.specs.Placing.{reserved_by, reserved_on};
 ghost use Rattle.cqf_program_placing.specs.Settled.{are_reservable, settled_value};
 
-use crate::turns::can_step;
+use crate::active_cycles::can_step;
 use crate::{PlanFault, Settled};
 use cqf_admission::MOST_OCTETS;
+use cqf_model::LEAST_OCTETS;
 use cqf_topology::Domain;
 
-/// Returns the reservation of a stream that needs `needed` octets in a cycle, and that requests `octets` if any are given.
+/// Returns the reservation of a stream that needs `needed` octets in a cycle, and that requests `octets` if any are given. No stream may
+/// reserve fewer than 64 octets.
 fn reserved_for(octets: Option<u32>, needed: u128) -> Result<u32, PlanFault>
     requires { needed < 2 ^ 64 }
     ensures { result ≡ reserved_by octets (Some needed) }
@@ -18,7 +20,7 @@ fn reserved_for(octets: Option<u32>, needed: u128) -> Result<u32, PlanFault>
         return Err(PlanFault::TooMuch(needed as u64));
     }
     let Some(asked) = octets else {
-        return Ok(needed as u32);
+        return Ok((needed as u32).max(LEAST_OCTETS));
     };
     if u128::from(asked) < needed {
         return Err(PlanFault::TooLittle(needed as u64));
@@ -26,8 +28,8 @@ fn reserved_for(octets: Option<u32>, needed: u128) -> Result<u32, PlanFault>
     Ok(asked)
 }
 
-/// Returns the reservation of a stream on a domain, in octets a cycle: the octets that it requests, which have to be enough for its
-/// traffic; if it requests none, what its traffic needs in a cycle.
+/// Returns the reservation of a stream on a domain, in octets per cycle: the octets that it requests, which have to be enough for its
+/// traffic; if it requests none, what its traffic needs in a cycle, but at least the fewest octets that a stream may reserve.
 ///
 /// # Errors
 /// `BadInStep` if its talker has to be in step, but not all its frames of an interval arrive within one cycle, by its own clock and by the
@@ -35,7 +37,7 @@ fn reserved_for(octets: Option<u32>, needed: u128) -> Result<u32, PlanFault>
 /// traffic needs.
 pub(crate) fn reservation(domain: &Domain, stream: &Settled) -> Result<u32, PlanFault>
     requires { IsTrue (are_reservable stream.now.octets) }
-    ensures value { result ≡ reserved_on domain.now.cycle_time domain.now.sync (settled_value stream.now) }
+    ensures value { result ≡ reserved_on domain.now.overhead domain.now.cycle_time domain.now.sync (settled_value stream.now) }
     ensures few { IfOk result (λ octets. octets ≤ most_reserved) }
     ensures some { IfOk result (λ octets. IfSome stream.now.traffic (λ _. 1 ≤ octets)) }
 {
@@ -47,6 +49,6 @@ pub(crate) fn reservation(domain: &Domain, stream: &Settled) -> Result<u32, Plan
         return Ok(stream.octets.unwrap_or(0));
     };
     traffic.know();
-    let needed = traffic.needed(cycle_time);
+    let needed = traffic.needed(domain.overhead(), cycle_time);
     reserved_for(stream.octets, needed)
 }

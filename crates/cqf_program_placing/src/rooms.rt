@@ -5,7 +5,7 @@ ghost use Rattle.cqf_model.specs.declared.topology.Row.{Row};
 ghost use Rattle.cqf_model.specs.History.{held_in, seals};
 ghost use Rattle.cqf_model.specs.Table.{links_in};
 ghost use Rattle.cqf_program_placing.specs.Known.{AreKnown, AreRenewed, IsFilled, IsKnown, IsKnownAt, TakesNothingOff};
-ghost use Rattle.cqf_program_placing.specs.Turns.{IsGoodEvery, left_emptiest, lefts_on, pace_by};
+ghost use Rattle.cqf_program_placing.specs.ActiveCycles.{IsGoodEvery, left_emptiest, lefts_on, pace_by};
 
 use cqf_admission::Admission;
 use cqf_model::{Hop, Pace};
@@ -24,7 +24,7 @@ pub(crate) fn pace_by(every: u8, phase: u8) -> Pace
     }
 }
 
-/// Returns what a link has left with the streams that are placed, in octets a cycle, in its emptiest phase of `every`.
+/// Returns what a link has left with the streams that are placed, in octets per cycle, in its emptiest phase of `every`.
 fn left_on(domain: &Domain, admission: &Admission, link: u16, every: u8) -> u32
     requires domain { admission.now.domain ≡ domain.now }
     requires inside { link < length domain.now.links }
@@ -33,7 +33,7 @@ fn left_on(domain: &Domain, admission: &Admission, link: u16, every: u8) -> u32
 {
     let hop = Hop {
         link,
-        depth: 0,
+        hop_number: 0,
         from: None,
     };
     let mut most: u32 = 0;
@@ -44,7 +44,7 @@ fn left_on(domain: &Domain, admission: &Admission, link: u16, every: u8) -> u32
     most
 }
 
-/// Returns what each link has left with the streams that are placed, in octets a cycle, in its emptiest phase of `every`, by number.
+/// Returns what each link has left with the streams that are placed, in octets per cycle, in its emptiest phase of `every`, by number.
 fn lefts(
     alloc: Global,
     domain: &Domain,
@@ -84,15 +84,15 @@ fn renew_lefts(emptiest: &mut Emptiest, domain: &Domain, admission: &Admission, 
     }
 }
 
-/// What each link has left with the streams that are placed, in octets a cycle, in its emptiest phase of `every`, for each `every` that was
-/// requested so far. When a stream is placed, only what its links have left is recomputed.
+/// What each link has left with the streams that are placed, in octets per cycle, in its emptiest phase of `every`, for each `every` that
+/// was requested so far. When a stream is placed, only what its links have left is recomputed.
 #[derive(Debug, Drop)]
 pub(crate) struct Rooms {
     known: Vec<Emptiest>,
 }
 
 impl Rooms {
-    /// Returns an empty one. It allocates no memory.
+    /// Returns the state in which nothing is known yet. It allocates no memory.
     pub(crate) fn new(alloc: Global) -> Rooms
         ensures { result.known.items ≡ [] }
     {
@@ -116,24 +116,24 @@ impl Rooms {
         ensures known { AreKnown domain.now (held_in domain.now admission.now.entries (seals admission.now.entries)) self.new }
         ensures there { IfOk result (IsKnownAt self.new every) }
     {
-        let place = self
+        let index = self
             .known
             .iter()
             .position(|emptiest| emptiest.every == every);
-        if let Some(place) = place {
-            return Ok(place);
+        if let Some(index) = index {
+            return Ok(index);
         }
         let left = lefts(alloc, domain, admission, every)?;
         self.known.push(Emptiest { every, left })?;
         Ok(self.known.len() - 1)
     }
 
-    /// Returns what each link has left in its emptiest phase of `every`, by number, which is at this index.
-    pub(crate) fn lefts_at(&self, place: usize, every: u8) -> &[u32]
-        requires { IsKnownAt self.now every place }
+    /// Returns what is known at this index: what each link has left in its emptiest phase of `every`, by number.
+    pub(crate) fn lefts_at(&self, index: usize, every: u8) -> &[u32]
+        requires { IsKnownAt self.now every index }
         ensures { (d : Domain) (rows : List Row) → AreKnown d rows self.now → result.now ≡ lefts_on d rows every }
     {
-        self.known[place].left.as_slice()
+        self.known[index].left.as_slice()
     }
 
     /// Recomputes what the links of a tree's hops have left, after a stream was placed along them.

@@ -6,13 +6,13 @@ ghost use Rattle.cqf_program_placing.specs.Placing.{AreFound, IsFullTo};
 ghost use Rattle.cqf_program_placing.specs.Routes.{AreReached, IsFullFor, IsReached};
 ghost use Rattle.cqf_program_plans.specs.EndNames.{name_of_end};
 ghost use Rattle.cqf_topology.specs.NodeNames.{name_of_bridge, name_of_node};
-ghost use Rattle.cqf_network.specs.Ways.{NoWay, has_room};
+ghost use Rattle.cqf_network.specs.Paths.{NoWay, has_room};
 
 use crate::PlanFault;
 use crate::branches::{branches_along, end_of_link, start_of_link};
 use cqf_model::Node;
 use cqf_network::{
-    Room, WaysFault, first_short, first_way, first_ways, full_ways_have_a_short_link,
+    PathsFault, Room, first_path, first_paths, first_short, full_paths_have_a_short_link,
 };
 use cqf_topology::Domain;
 use std::alloc::{AllocError, AllocFailed, Global};
@@ -26,7 +26,7 @@ pub(crate) enum Unrouted {
     Memory,
 }
 
-/// A failed allocation of room, as a fault.
+/// Converts a failed allocation of a value into a fault.
 impl<T: Drop> From<AllocFailed<T>> for Unrouted {
     ghost use Rattle.std.specs.Prelude.{◌≡◌};
     ghost use Rattle.cqf_program_placing.specs.declared.routes.Unrouted.TheVariants as variant;
@@ -38,7 +38,7 @@ impl<T: Drop> From<AllocFailed<T>> for Unrouted {
     }
 }
 
-/// A failed allocation, as a fault.
+/// Converts a failed allocation into a fault.
 impl From<AllocError> for Unrouted {
     ghost use Rattle.std.specs.Prelude.{◌≡◌};
     ghost use Rattle.cqf_program_placing.specs.declared.routes.Unrouted.TheVariants as variant;
@@ -76,17 +76,17 @@ fn full_to(domain: &Domain, room: Room, bridge: u16, station: u16) -> PlanFault
     requires none { NoWay domain.now.links (has_room room.left.now room.cost) (Node.Bridge bridge) (Node.Station station) }
     ensures { IsFullTo domain.now room.entry.left.now room.entry.cost bridge station result }
 {
-    full_ways_have_a_short_link();
+    full_paths_have_a_short_link();
     domain.know();
     let anyhow = Room {
         links: room.links,
         left: room.left,
         cost: 0,
     };
-    let Some(way) = first_way(anyhow, bridge, Node::Station(station)) else {
+    let Some(path) = first_path(anyhow, bridge, Node::Station(station)) else {
         unreachable!();
     };
-    let Some(link) = first_short(room, way.as_slice()) else {
+    let Some(link) = first_short(room, path.as_slice()) else {
         unreachable!();
     };
     full_at(domain, room, station, link)
@@ -111,17 +111,17 @@ pub(crate) fn branches_between(
     ensures err { IfErr result (IsFullFor domain.now room.entry.left.now room.entry.cost bridge stations.now) }
 {
     domain.know();
-    match first_ways(alloc, room, bridge, stations) {
-        Ok(ways) => {
-            let paths = branches_along(alloc, domain, bridge, ways.as_slice())?;
+    match first_paths(alloc, room, bridge, stations) {
+        Ok(link_paths) => {
+            let paths = branches_along(alloc, domain, bridge, link_paths.as_slice())?;
             Ok(paths)
         }
         Err(fault) => match fault {
-            WaysFault::NoWay(place) => {
-                let full = full_to(domain, room, bridge, stations[place]);
+            PathsFault::NoWay(index) => {
+                let full = full_to(domain, room, bridge, stations[index]);
                 Err(Unrouted::Fault(full))
             }
-            WaysFault::Memory => Err(Unrouted::Memory),
+            PathsFault::Memory => Err(Unrouted::Memory),
         },
     }
 }

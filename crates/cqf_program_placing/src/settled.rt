@@ -8,7 +8,7 @@ use std::alloc::AllocFailed;
 
 /// The path of a stream.
 #[derive(Debug, Drop)]
-pub enum StreamWay {
+pub enum StreamPath {
     /// Along these branches of a tree, each the names of its bridges, in order, and then of the listener's station.
     Along(Vec<Vec<String>>),
     /// From the bridge of this number to the stations of these numbers, in their order, by paths that are still to be found.
@@ -19,12 +19,12 @@ pub enum StreamWay {
 #[derive(Debug, Drop)]
 pub struct Settled {
     pub name: Name,
-    /// The reservation, in octets a cycle, if the network file gives it. If it doesn't, there is traffic.
+    /// The reservation, in octets per cycle, if the network file gives it. If it doesn't, there is traffic.
     pub octets: Option<u32>,
-    /// Given cycles are such that a stream may have them.
+    /// The cycles in which it is offered. If they are given, a stream may have them.
     pub pacing: Pacing,
-    pub way: StreamWay,
-    /// In nanoseconds, from the edge bridge on; at least 1.
+    pub path: StreamPath,
+    /// The deadline in nanoseconds, counted from the edge bridge; at least 1.
     pub deadline: Option<u32>,
     pub traffic: Option<Traffic>,
 }
@@ -40,7 +40,7 @@ pub enum Unsettled {
     Memory,
 }
 
-/// A failed allocation, as a fault.
+/// Converts a failed allocation into a fault.
 impl From<Memory> for Unsettled {
     ghost use Rattle.std.specs.Prelude.{◌≡◌};
     ghost use Rattle.cqf_program_placing.specs.declared.settled.Unsettled.TheVariants as variant;
@@ -52,7 +52,7 @@ impl From<Memory> for Unsettled {
     }
 }
 
-/// A failed allocation of room for a value, as a fault.
+/// Converts a failed allocation of a value into a fault.
 impl<T: Drop> From<AllocFailed<T>> for Unsettled {
     ghost use Rattle.std.specs.Prelude.{◌≡◌};
     ghost use Rattle.cqf_program_placing.specs.declared.settled.Unsettled.TheVariants as variant;

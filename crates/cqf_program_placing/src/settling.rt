@@ -4,15 +4,15 @@ ghost use Rattle.cqf_model.specs.History.{is_pace};
 ghost use Rattle.cqf_model.specs.Limits.{most_streams};
 ghost use Rattle.cqf_network.specs.StreamsText.{stream_text, wanted_text};
 ghost use Rattle.cqf_topology.specs.Fields.{Gives};
-ghost use Rattle.cqf_program_placing.specs.Settled.{are_reservable, is_paced, or_unsettled, refusal_behind, settled_next, settled_stream, settled_value};
-ghost use Rattle.cqf_program_placing.specs.Settled.{IsPlaceable, deadline_behind, open_domain, settled_behind, settled_of, wanted_stream, way_value, with_deadline};
+ghost use Rattle.cqf_program_placing.specs.Settled.{are_reservable, is_paced, or_unsettled, refusal_after, settled_next, settled_stream, settled_value};
+ghost use Rattle.cqf_program_placing.specs.Settled.{IsPlaceable, deadline_after, open_domain, path_value, settled_after, settled_of, wanted_stream, with_deadline};
 
-use crate::deadlines::{deadline_behind, longest_of, taken_on};
+use crate::deadlines::{deadline_after, longest_of, taken_on};
 use crate::entrances::{OpenNetwork, find_talker};
-use crate::way_settling::settle_way;
-use crate::{PlanFault, Settled, StreamWay, Unsettled};
+use crate::path_settling::settle_path;
+use crate::{PlanFault, Settled, StreamPath, Unsettled};
 use cqf_model::{LEAST_OCTETS, MOST_EVERY, MOST_OCTETS, Refused};
-use cqf_network::{NetworkDomain, Pacing, Stream, WantedWay};
+use cqf_network::{NetworkDomain, Pacing, Stream, WantedPath};
 use cqf_topology::{Domain, NameList};
 use cqf_traffic::Traffic;
 use cqf_units::{Memory, Name};
@@ -49,8 +49,8 @@ fn is_paced(pacing: Pacing) -> bool
 }
 
 /// Returns why a stream of this name can't follow those of other names.
-fn refusal_behind(plan: &Domain, held: &NameList, name: &Name) -> Option<Refused>
-    ensures { result ≡ refusal_behind plan.now held.now.keys name.now }
+fn refusal_after(plan: &Domain, held: &NameList, name: &Name) -> Option<Refused>
+    ensures { result ≡ refusal_after plan.now held.now.keys name.now }
 {
     if held.contains(name) {
         return Some(Refused::NameHeld);
@@ -81,18 +81,18 @@ struct Terms {
 fn settle_deadline(
     name: &Name,
     terms: Terms,
-    way: StreamWay,
+    path: StreamPath,
     taken: u64,
 ) -> Result<Settled, Unsettled>
     ensures { Gives Unsettled.Memory settled_value result
-        (or_unsettled name.now (with_deadline name.now terms.octets terms.pacing (way_value way) terms.traffic (deadline_behind taken terms.deadline))) }
+        (or_unsettled name.now (with_deadline name.now terms.octets terms.pacing (path_value path) terms.traffic (deadline_after taken terms.deadline))) }
 {
-    match deadline_behind(taken, terms.deadline) {
+    match deadline_after(taken, terms.deadline) {
         Ok(deadline) => Ok(Settled {
             name: name.copied(),
             octets: terms.octets,
             pacing: terms.pacing,
-            way,
+            path,
             deadline,
             traffic: terms.traffic,
         }),
@@ -107,11 +107,11 @@ fn settle_named(
     held: &NameList,
     name: &Name,
     terms: Terms,
-    way: WantedWay,
+    path: WantedPath,
 ) -> Result<Settled, Unsettled>
     requires { at.network.now.links ≡ at.plan.now.links }
     ensures { Gives Unsettled.Memory settled_value result (or_unsettled name.now (settled_stream at.entry.network.now at.entry.plan.now held.now.keys
-        (wanted_stream name.now terms.octets terms.pacing (wanted_text way) terms.deadline terms.traffic))) }
+        (wanted_stream name.now terms.octets terms.pacing (wanted_text path) terms.deadline terms.traffic))) }
 {
     if !are_reservable(terms.octets) {
         return Err(unsettled(name, Refused::BadOctets));
@@ -120,11 +120,11 @@ fn settle_named(
         return Err(unsettled(name, Refused::BadPace));
     }
     let taken = taken_on(
-        find_talker(at, &way),
+        find_talker(at, &path),
         longest_of(terms.octets, terms.traffic),
     );
-    let settled = settle_way(alloc, at, name, way)?;
-    if let Some(refused) = refusal_behind(at.plan, held, name) {
+    let settled = settle_path(alloc, at, name, path)?;
+    if let Some(refused) = refusal_after(at.plan, held, name) {
         return Err(unsettled(name, refused));
     }
     settle_deadline(name, terms, settled, taken)
@@ -150,7 +150,7 @@ fn settle_next(
                 deadline: stream.deadline,
                 traffic: stream.traffic,
             };
-            settle_named(alloc, at, held, &name, terms, stream.way)
+            settle_named(alloc, at, held, &name, terms, stream.path)
         }
         None => Err(Unsettled::BadName(held.len() + 1)),
     }
@@ -164,7 +164,7 @@ fn settle_all(
 ) -> Result<Vec<Settled>, Unsettled>
     requires { at.network.now.links ≡ at.plan.now.links }
     ensures { Gives Unsettled.Memory (λ settled. map settled_value settled.items) result
-        (settled_behind at.entry.network.now at.entry.plan.now [] (map stream_text streams.items)) }
+        (settled_after at.entry.network.now at.entry.plan.now [] (map stream_text streams.items)) }
 {
     let mut held = NameList::new(alloc);
     let mut settled = Vec::new(alloc);
@@ -183,16 +183,16 @@ fn settle_all(
 /// The first fault, stream by stream. `BadName`, with the position from 1, if a name doesn't have the form of a name. Else `Stream`, with
 /// the name and the first of these:
 ///
-/// - `BadOctets` if the stream requests fewer than 64 octets a cycle, or more than 1,000,000.
+/// - `BadOctets` if the stream requests fewer than 64 octets per cycle, or more than 1,000,000.
 /// - `BadPace` if it is to be offered in one of a number of cycles that doesn't divide 80, or if its first cycle isn't below that number.
 /// - For a stream with given branches: why they aren't a tree of the domain, as [`find_tree`](cqf_admission::find_tree) says.
-/// - For any other stream: `NoTalker` if it comes neither from a bridge nor from a station with a talker's link; `NoListener` for the first
+/// - For any other stream: `NoTalker` if it comes neither from a bridge nor from a station with an access link; `NoListener` for the first
 ///   listener that isn't a station; `NoWay` for the first one to which no path leads from the edge bridge, of at most 16 links.
 /// - `NameHeld` if an earlier stream has its name.
 /// - `TooManyStreams` if as many streams as may be held are before it.
 /// - `TooSoon` if nothing is left of its deadline when a frame is whole at its edge bridge. The frame has the size in the stream's traffic,
 ///   or without traffic the octets of its reservation, and at most 1,522. It takes the time of these octets and of 8 octets of preamble on
-///   the talker's link, and that link's delay.
+///   the access link, and that link's delay.
 ///
 /// Nothing is taken off the deadline of a stream from a bridge, so streams may be given as they are at their edge bridges.
 ///
@@ -204,7 +204,7 @@ pub fn settle(
 ) -> Result<Vec<Settled>, Unsettled>
     ensures given { Gives Unsettled.Memory (λ settled. map settled_value settled.items) result
         (settled_of network.now (map stream_text streams.items)) }
-    ensures on_way { IfOk result (λ settled. All (IsPlaceable (open_domain network.now)) (map settled_value settled.items)) }
+    ensures on_path { IfOk result (λ settled. All (IsPlaceable (open_domain network.now)) (map settled_value settled.items)) }
     ensures few { IfOk result (λ settled. length settled.items ≤ most_streams) }
 {
     network.know();

@@ -13,7 +13,7 @@ use Rattle.cqf_model.specs.declared.history.Refused.{Refused}
 use Rattle.cqf_model.specs.declared.history.Refused.TheVariants as refused
 use Rattle.cqf_model.specs.declared.topology.Row.{Row}
 use Rattle.cqf_model.specs.Domain.{Domain, node_named, is_text}
-use Rattle.cqf_model.specs.History.{Asked, Recorded, broken_place, first_place, held_in, is_loop_at, is_pace, is_stray, refusal_of, refused_at, refused_if, left_on, pace_of, short_link, tree_of}
+use Rattle.cqf_model.specs.History.{Asked, Recorded, broken_index, first_index, held_in, is_loop_at, is_pace, is_stray, refusal_of, refused_at, refused_if, left_on, pace_of, short_link, tree_of}
 use Rattle.cqf_model.specs.History.{seals, tree_of}
 use Rattle.cqf_model.specs.Limits.{hops_within, least_reserved, most_reserved, streams_within}
 use Rattle.cqf_laws_history.specs.StateLaws.{SealsAreCounted}
@@ -34,10 +34,10 @@ use Rattle.cqf_program_offers.specs.OffersOutput.{asked_in}
 use Rattle.cqf_program_placing.specs.declared.faults.PlanFault.{PlanFault}
 use Rattle.cqf_program_placing.specs.declared.faults.PlanFault.TheVariants as plan_fault
 use Rattle.cqf_program_placing.specs.declared.settled.Unsettled.TheVariants as unsettled
-use Rattle.cqf_program_placing.specs.declared.turns.Turns.{Turns}
-use Rattle.cqf_program_placing.specs.Placing.{ArePlaced, ArePlacedFrom, IsAnswered, IsAskedFor, IsPlacedBy, IsPlacing, IsRoutedAndAnswered, PlacedOr, PlacedStreams, Placed, answered, reserved_on, turns_on}
-use Rattle.cqf_program_placing.specs.Settled.{Along, SettledStream, SettledWay, are_reservable, deadline_behind, deadline_of_stream, is_paced, longest_of, or_unsettled, refusal_behind}
-use Rattle.cqf_program_placing.specs.Settled.{settled_next, settled_stream, settled_way, taken_on, talker_of_stream, with_deadline}
+use Rattle.cqf_program_placing.specs.declared.active_cycles.ActiveCycles.{ActiveCycles}
+use Rattle.cqf_program_placing.specs.Placing.{ArePlaced, ArePlacedFrom, IsAnswered, IsAskedFor, IsPlacedBy, IsPlacing, IsRoutedAndAnswered, PlacedOr, PlacedStreams, Placed, answered, reserved_on, active_cycles_on}
+use Rattle.cqf_program_placing.specs.Settled.{Along, SettledPath, SettledStream, are_reservable, deadline_after, deadline_of_stream, is_paced, longest_of, or_unsettled, refusal_after}
+use Rattle.cqf_program_placing.specs.Settled.{settled_next, settled_path, settled_stream, taken_on, talker_of_stream, with_deadline}
 use Rattle.cqf_program_planning.specs.Judging.{candidate_of, deadlines_placed, first_late, first_unplaced, flows_placed, late_fault, latencies_placed, traffic_by}
 use Rattle.cqf_program_planning.specs.PlanLaws.{ReservesEnough, deadlines_of}
 use Rattle.cqf_program_planning.specs.ReadPlans.{IsGoodPlan}
@@ -86,15 +86,15 @@ allowed_by d rows r h =
     let none = are_none (refused_if (not (is_name r.name)) refused.BadName)
     (refused_if (not (nat_le least_reserved r.octets && nat_le r.octets most_reserved)) refused.BadOctets)
     (refused_if (not (is_pace r.every r.phase)) refused.BadPace)
-    (refused_at (λ place. refused.UnknownNode place) (position (λ name. is_none (node_named d name)) (flat_map (λ branch. branch) r.paths)))
-    (refused_at (λ place. refused.BrokenPath place) (broken_place d r.paths))
-    (refused_at (λ place. refused.LoopingPath place) (first_place (is_loop_at d) r.paths))
+    (refused_at (λ index. refused.UnknownNode index) (position (λ name. is_none (node_named d name)) (flat_map (λ branch. branch) r.paths)))
+    (refused_at (λ index. refused.BrokenPath index) (broken_index d r.paths))
+    (refused_at (λ index. refused.LoopingPath index) (first_index (is_loop_at d) r.paths))
     (refused_at (λ branch. refused.NotATree branch) (least (is_stray r.paths) (length r.paths)))
     (refused_if (nat_lt (hops_within d.limits) (length (tree_of d r.paths))) refused.TooManyHops)
     (or_else (refused_if (list_any (λ (row : Row). is_text row.name r.name) rows) refused.NameHeld)
     (or_else (refused_if (nat_le (streams_within d.limits) (length rows)) refused.TooManyStreams)
     (refused_at (λ l. refused.BudgetShort l (left_on d rows (tree_of d r.paths) (pace_of (asked_by r)) l))
-    (short_link d rows (cost_of r.octets) (pace_of (asked_by r)) (tree_of d r.paths))))) h in
+    (short_link d rows (cost_of d.overhead r.octets) (pace_of (asked_by r)) (tree_of d r.paths))))) h in
     record {
       named = not_refused (is_name r.name) refused.BadName none.one;
       reservable = not_refused (nat_le least_reserved r.octets && nat_le r.octets most_reserved) refused.BadOctets none.two;
@@ -107,9 +107,9 @@ allowed_by d rows r h =
 -- a stream of a request, with what is left of its deadline and with its traffic
 abbrev pub settled_as : PacedText → Option ℕ → Option TrafficText → SettledStream
 settled_as r deadline traffic =
-    record { name = r.name; octets = Some r.octets; pacing = Given r.every r.phase; way = Along r.paths; deadline = deadline; traffic = traffic }
+    record { name = r.name; octets = Some r.octets; pacing = Given r.every r.phase; path = Along r.paths; deadline = deadline; traffic = traffic }
 
-left_again : (deadline : Option ℕ) → ((x : ℕ) → deadline ≡ Some x → 1 ≤ x) → deadline_behind 0 deadline ≡ Ok deadline
+left_again : (deadline : Option ℕ) → ((x : ℕ) → deadline ≡ Some x → 1 ≤ x) → deadline_after 0 deadline ≡ Ok deadline
 left_again None some = refl
 left_again (Some n) some =
     let more : 0 < n = some n refl in
@@ -117,32 +117,32 @@ left_again (Some n) some =
     ap (λ (b : Bool). cond b (Ok (Some (n - 0))) (Err plan_fault.TooSoon)) (lt-ltb 0 n more) ∙ ap (λ (x : ℕ). Ok (Some x)) plain
 
 module _ (network : NetworkDomain) (d : Domain) (before : List (List ℕ)) (s : StreamText) (r : PacedText) (name : s.name ≡ r.name) (octets : s.octets ≡ Some r.octets)
-    (pacing : s.pacing ≡ Given r.every r.phase) (way : s.way ≡ AlongText r.paths) (allowed : IsAllowed d r) (apart : refusal_behind d before r.name ≡ None)
+    (pacing : s.pacing ≡ Given r.every r.phase) (path : s.path ≡ AlongText r.paths) (allowed : IsAllowed d r) (apart : refusal_after d before r.name ≡ None)
     (some : (x : ℕ) → s.deadline ≡ Some x → 1 ≤ x) where
   -- what follows its path
-  abbrev behind_way : SettledWay → Result SettledStream PlanFault
-  behind_way way =
-      refuse (refusal_behind d before s.name) plan_fault.Refused
-      (with_deadline s.name s.octets s.pacing way s.traffic (deadline_of_stream network d s))
+  abbrev after_path : SettledPath → Result SettledStream PlanFault
+  after_path path =
+      refuse (refusal_after d before s.name) plan_fault.Refused
+      (with_deadline s.name s.octets s.pacing path s.traffic (deadline_of_stream network d s))
 
   abbrev from_pace : Result SettledStream PlanFault
-  from_pace = refuse (if_so (not (is_paced s.pacing))) (λ _. plan_fault.Refused refused.BadPace) (and_then (settled_way network d s.way) behind_way)
+  from_pace = refuse (if_so (not (is_paced s.pacing))) (λ _. plan_fault.Refused refused.BadPace) (and_then (settled_path network d s.path) after_path)
 
   stream_settled : settled_stream network d before s ≡ Ok (settled_as r s.deadline s.traffic)
   stream_settled =
       let reservable = ap are_reservable octets ∙ allowed.reservable in
       let paced = ap is_paced pacing ∙ allowed.paced in
-      let apart_here = ap (refusal_behind d before) name ∙ apart in
+      let apart_here = ap (refusal_after d before) name ∙ apart in
       ap (λ (b : Bool). refuse (if_so (not b)) (λ _. plan_fault.Refused refused.BadOctets) from_pace) reservable
-      ∙ ap (λ (b : Bool). refuse (if_so (not b)) (λ _. plan_fault.Refused refused.BadPace) (and_then (settled_way network d s.way) behind_way)) paced
-      ∙ (λ i. and_then (settled_way network d (way i)) behind_way)
-      ∙ ap (λ (o : Option Refused). and_then (refuse o plan_fault.Refused (Ok (Along r.paths))) behind_way) allowed.tree
+      ∙ ap (λ (b : Bool). refuse (if_so (not b)) (λ _. plan_fault.Refused refused.BadPace) (and_then (settled_path network d s.path) after_path)) paced
+      ∙ (λ i. and_then (settled_path network d (path i)) after_path)
+      ∙ ap (λ (o : Option Refused). and_then (refuse o plan_fault.Refused (Ok (Along r.paths))) after_path) allowed.tree
       ∙ ap (λ (o : Option Refused). refuse o plan_fault.Refused
       (with_deadline s.name s.octets s.pacing (Along r.paths) s.traffic (deadline_of_stream network d s))) apart_here
       ∙ (λ i. with_deadline s.name s.octets s.pacing (Along r.paths) s.traffic
-      (deadline_behind (taken_on (talker_of_stream network d (way i)) (longest_of s.octets s.traffic)) s.deadline))
+      (deadline_after (taken_on (talker_of_stream network d (path i)) (longest_of s.octets s.traffic)) s.deadline))
       ∙ ap (with_deadline s.name s.octets s.pacing (Along r.paths) s.traffic) (left_again s.deadline some)
-      ∙ (λ i. Ok (record { name = name i; octets = octets i; pacing = pacing i; way = Along r.paths; deadline = s.deadline; traffic = s.traffic }))
+      ∙ (λ i. Ok (record { name = name i; octets = octets i; pacing = pacing i; path = Along r.paths; deadline = s.deadline; traffic = s.traffic }))
 
   pub settled_again : settled_next network d before s ≡ Ok (settled_as r s.deadline s.traffic)
   settled_again =
@@ -156,11 +156,11 @@ entries_same x y e = cc
 -- ---- it is placed again
 
 -- what is reserved is what is asked for
-reserved_again : (cycle_time sync : ℕ) (r : PacedText) (deadline : Option ℕ) (traffic : Option TrafficText) → are_reservable (Some r.octets) ≡ true →
-    ForSome traffic (λ (t : TrafficText). needed cycle_time (promise_of t) ≤ r.octets) → reserved_on cycle_time sync (settled_as r deadline traffic) ≡ Ok r.octets
-reserved_again cycle_time sync r deadline None reservable enough = refl
-reserved_again cycle_time sync r deadline (Some t) reservable enough =
-    let need : ℕ = needed cycle_time (promise_of t) in
+reserved_again : (overhead cycle_time sync : ℕ) (r : PacedText) (deadline : Option ℕ) (traffic : Option TrafficText) → are_reservable (Some r.octets) ≡ true →
+    ForSome traffic (λ (t : TrafficText). needed overhead cycle_time (promise_of t) ≤ r.octets) → reserved_on overhead cycle_time sync (settled_as r deadline traffic) ≡ Ok r.octets
+reserved_again overhead cycle_time sync r deadline None reservable enough = refl
+reserved_again overhead cycle_time sync r deadline (Some t) reservable enough =
+    let need : ℕ = needed overhead cycle_time (promise_of t) in
     let few : need ≤ r.octets = enough t refl in
     let both = and_parts (nat_le least_reserved r.octets) (nat_le r.octets most_reserved) reservable in
     let most : r.octets ≤ most_reserved = leb-true r.octets most_reserved both.1 in
@@ -179,7 +179,7 @@ record IsPlacedAs (d : Domain) (entries : List Recorded) (asked : Asked) (become
 
 asked_again : (d : Domain) (entries : List Recorded) (flow : FlowText) (become : PlacedOr) (after : List Recorded) →
     refusal_of d (held_in d entries (seals entries)) (asked_in flow) ≡ None →
-    IsAskedFor d entries flow.0.0.name flow.0.0.octets (turns_on d.cycle_time (settled_flow flow)) flow.0.0.paths become after →
+    IsAskedFor d entries flow.0.0.name flow.0.0.octets (active_cycles_on d.cycle_time (settled_flow flow)) flow.0.0.paths become after →
     IsPlacedAs d entries (asked_in flow) become after
 asked_again d entries flow become after granted h =
     let r = flow.0.0 in
@@ -190,30 +190,30 @@ asked_again d entries flow become after granted h =
       entered = h.entered ∙ ap (with_asked d entries) asked;
     }
 
-one_again : (d : Domain) (entries : List Recorded) (flow : FlowText) (become : PlacedOr) (after : List Recorded) → ReservesEnough d.cycle_time flow →
+one_again : (d : Domain) (entries : List Recorded) (flow : FlowText) (become : PlacedOr) (after : List Recorded) → ReservesEnough d.overhead d.cycle_time flow →
     refusal_of d (held_in d entries (seals entries)) (asked_in flow) ≡ None → IsPlacing d entries (settled_flow flow) become after →
     IsPlacedAs d entries (asked_in flow) become after
 one_again d entries flow become after enough granted h =
     let allowed = allowed_by d (held_in d entries (seals entries)) flow.0.0 granted in
-    let reserved = reserved_again d.cycle_time d.sync flow.0.0 flow.0.1 flow.1 allowed.reservable enough in
+    let reserved = reserved_again d.overhead d.cycle_time d.sync flow.0.0 flow.0.1 flow.1 allowed.reservable enough in
     let routed = subst (λ x. IsPlacedBy d entries (settled_flow flow) x become after) reserved h in
-    let here = subst (λ (t : Turns). IsRoutedAndAnswered d entries (settled_flow flow) flow.0.0.octets t become after) routed.are_taken routed.is_placed in
-    let answers = subst (λ x. IsAnswered d entries flow.0.0.name flow.0.0.octets (turns_on d.cycle_time (settled_flow flow)) x become after) here.is_routed
+    let here = subst (λ (t : ActiveCycles). IsRoutedAndAnswered d entries (settled_flow flow) flow.0.0.octets t become after) routed.are_taken routed.is_placed in
+    let answers = subst (λ x. IsAnswered d entries flow.0.0.name flow.0.0.octets (active_cycles_on d.cycle_time (settled_flow flow)) x become after) here.is_routed
     here.is_answered in
     asked_again d entries flow become after granted answers
 
 abbrev pub placed_all : List FlowText → List PlacedOr
 placed_all flows = map (λ (flow : FlowText). Placed (asked_in flow)) flows
 
-pub all_again : (d : Domain) (flows : List FlowText) (entries end : List Recorded) (outcomes : List PlacedOr) → All (ReservesEnough d.cycle_time) flows →
+pub all_again : (d : Domain) (flows : List FlowText) (entries end : List Recorded) (outcomes : List PlacedOr) → All (ReservesEnough d.overhead d.cycle_time) flows →
     AreGranted d entries (map asked_in flows) → ArePlacedFrom d entries (map settled_flow flows) outcomes end → outcomes ≡ placed_all flows
 all_again d [] entries end [] enough granted h = refl
 all_again d [] entries end (become ∷ more) enough granted h = absurd h
 all_again d (flow ∷ flows) entries end [] enough granted h = absurd h
 all_again d (flow ∷ flows) entries end (become ∷ more) enough granted h =
-    let first = one_again d entries flow become h.0 (All-head (ReservesEnough d.cycle_time) flow flows enough) granted.0 h.1 in
+    let first = one_again d entries flow become h.0 (All-head (ReservesEnough d.overhead d.cycle_time) flow flows enough) granted.0 h.1 in
     let next = subst (λ (there : List Recorded). AreGranted d there (map asked_in flows)) (sym first.entered) granted.1 in
-    let rest = all_again d flows h.0 end more (All-tail (ReservesEnough d.cycle_time) flow flows enough) next h.2 in
+    let rest = all_again d flows h.0 end more (All-tail (ReservesEnough d.overhead d.cycle_time) flow flows enough) next h.2 in
     (λ i. first.outcome i ∷ rest i)
 
 pub none_unplaced : (flows : List FlowText) → first_unplaced (map settled_flow flows) (placed_all flows) ≡ None
@@ -240,17 +240,17 @@ same_deadlines (flow ∷ flows) = ap (λ xs. flow.0.1 ∷ xs) (same_deadlines fl
 
 module _ (counted : SealsAreCounted) (d : Domain) (flows : List FlowText) (good : IsGoodPlan d flows) (granted : AreGranted d [] (map asked_in flows)) (placed : PlacedStreams)
     (domain : placed.domain ≡ d) (are : ArePlaced (map settled_flow flows) placed) where
-  places : ArePlacedFrom d [] (map settled_flow flows) placed.outcomes placed.entries
-  places = subst (λ (x : Domain). ArePlacedFrom x [] (map settled_flow flows) placed.outcomes placed.entries) domain are
+  indices : ArePlacedFrom d [] (map settled_flow flows) placed.outcomes placed.entries
+  indices = subst (λ (x : Domain). ArePlacedFrom x [] (map settled_flow flows) placed.outcomes placed.entries) domain are
 
   pub outcomes_again : placed.outcomes ≡ placed_all flows
-  outcomes_again = all_again d flows [] placed.entries placed.outcomes good.enough granted places
+  outcomes_again = all_again d flows [] placed.entries placed.outcomes good.enough granted indices
 
   pub unplaced_again : first_unplaced (map settled_flow flows) placed.outcomes ≡ None
   unplaced_again = ap (first_unplaced (map settled_flow flows)) outcomes_again ∙ none_unplaced flows
 
   all : AreAllGranted d [] (map settled_flow flows) (flows_placed d.cycle_time (map settled_flow flows) placed.outcomes) placed.entries
-  all = all_granted d (map settled_flow flows) [] placed.entries placed.outcomes counted unplaced_again places
+  all = all_granted d (map settled_flow flows) [] placed.entries placed.outcomes counted unplaced_again indices
 
   pub flows_again : flows_placed d.cycle_time (map settled_flow flows) placed.outcomes ≡ flows
   flows_again = ap (flows_placed d.cycle_time (map settled_flow flows)) outcomes_again ∙ same_flows d.cycle_time flows

@@ -14,7 +14,7 @@ use Rattle.cqf_traffic.specs.declared.keys.TrafficKey.TheVariants.{Offset}
 use Rattle.cqf_traffic.specs.Keys.{key_text as traffic_key_text}
 use Rattle.cqf_network_text.specs.declared.filling.FilledStream.{FilledStream}
 use Rattle.cqf_network_text.specs.DomainMembers.{put, texts_data}
-use Rattle.cqf_network_text.specs.Networks.{array_or_none, filled_item, filled_network, filled_stream, filled_streams, has_branches, streams_of, turns_by, with_octets, with_turns, with_way}
+use Rattle.cqf_network_text.specs.Networks.{active_cycles_by, array_or_none, filled_item, filled_network, filled_stream, filled_streams, has_branches, streams_of, with_active_cycles, with_octets, with_path}
 use Rattle.cqf_network_text.specs.StreamMembers.{branches_data, put_branches}
 use Rattle.cqf_network_text.proofs.Puts.{put_apart, put_here}
 
@@ -102,17 +102,17 @@ branches_there key d [] members path many h = there_apart (key_text key) (key_te
 branches_there key d (one ∷ []) members path many h = there_apart (key_text key) (key_text Path) d (texts_data one) members path h
 branches_there key d (one ∷ two ∷ paths) members path many h = there_apart (key_text key) (key_text Paths) d (branches_data (one ∷ two ∷ paths)) members many h
 
-way_there : (one : FilledStream) (d : Data) (members : Members) → IsThere (key_text Octets) d members → IsThere (key_text Octets) d (with_way one members)
-way_there one d members h = by (has_branches members)
+path_there : (one : FilledStream) (d : Data) (members : Members) → IsThere (key_text Octets) d members → IsThere (key_text Octets) d (with_path one members)
+path_there one d members h = by (has_branches members)
   where
     by : (b : Bool) → IsThere (key_text Octets) d (if b then members else put_branches (paced_text one.request).paths members)
     by true = h
     by false = branches_there Octets d (paced_text one.request).paths members refl refl h
 
-turns_there : (r : PacedRequest) (offset : Option ℕ) (d : Data) (members : Members) → IsThere (key_text Octets) d members →
-    IsThere (key_text Octets) d (turns_by r offset members)
-turns_there r None d _ h = h
-turns_there r (Some offset) d members h =
+active_cycles_there : (r : PacedRequest) (offset : Option ℕ) (d : Data) (members : Members) → IsThere (key_text Octets) d members →
+    IsThere (key_text Octets) d (active_cycles_by r offset members)
+active_cycles_there r None d _ h = h
+active_cycles_there r (Some offset) d members h =
     let first = there_apart (key_text Octets) (key_text Every) d (number r.every) members refl h in
     let second = there_apart (key_text Octets) (key_text Phase) d (number r.phase) (put (key_text Every) (number r.every) members) refl first in
     there_apart (key_text Octets) (traffic_key_text Offset) d (number offset) (put (key_text Phase) (number r.phase) (put (key_text Every) (number r.every) members))
@@ -120,8 +120,8 @@ turns_there r (Some offset) d members h =
 
 octets_there : (one : FilledStream) (members : Members) → IsThere (key_text Octets) (number one.request.octets) (filled_stream one members)
 octets_there one members =
-    turns_there one.request one.offset (number one.request.octets) (with_way one (with_octets one members))
-    (way_there one (number one.request.octets) (with_octets one members) (put_twice (key_text Octets) (number one.request.octets) members))
+    active_cycles_there one.request one.offset (number one.request.octets) (with_path one (with_octets one members))
+    (path_there one (number one.request.octets) (with_octets one members) (put_twice (key_text Octets) (number one.request.octets) members))
 
 -- it has its paths
 or_true : (b : Bool) → (b || true) ≡ true
@@ -138,18 +138,18 @@ put_has_branches (one ∷ two ∷ paths) members =
     ap (λ o. is_some (get_member (key_text Path) (put_branches (one ∷ two ∷ paths) members)) || is_some o) (put_here (key_text Paths) (branches_data (one ∷ two ∷ paths)) members)
     ∙ or_true (is_some (get_member (key_text Path) (put_branches (one ∷ two ∷ paths) members)))
 
-way_has_branches : (one : FilledStream) (members : Members) → has_branches (with_way one members) ≡ true
-way_has_branches one members = by (has_branches members) refl
+path_has_branches : (one : FilledStream) (members : Members) → has_branches (with_path one members) ≡ true
+path_has_branches one members = by (has_branches members) refl
   where
     by : (b : Bool) → has_branches members ≡ b → has_branches (if b then members else put_branches (paced_text one.request).paths members) ≡ true
     by true is = is
     by false is = put_has_branches (paced_text one.request).paths members
 
-turns_keep : (key : Key) (r : PacedRequest) (offset : Option ℕ) (members : Members) → is_eq (slice_cmp nat_cmp (key_text key) (key_text Every)) ≡ false →
+active_cycles_keep : (key : Key) (r : PacedRequest) (offset : Option ℕ) (members : Members) → is_eq (slice_cmp nat_cmp (key_text key) (key_text Every)) ≡ false →
     is_eq (slice_cmp nat_cmp (key_text key) (key_text Phase)) ≡ false → is_eq (slice_cmp nat_cmp (key_text key) (traffic_key_text Offset)) ≡ false →
-    get_member (key_text key) (turns_by r offset members) ≡ get_member (key_text key) members
-turns_keep key r None _ every phase begins = refl
-turns_keep key r (Some offset) members every phase begins =
+    get_member (key_text key) (active_cycles_by r offset members) ≡ get_member (key_text key) members
+active_cycles_keep key r None _ every phase begins = refl
+active_cycles_keep key r (Some offset) members every phase begins =
     put_apart (key_text key) (traffic_key_text Offset) (number offset)
     (put (key_text Phase) (number r.phase) (put (key_text Every) (number r.every) members)) begins
     ∙ put_apart (key_text key) (key_text Phase) (number r.phase) (put (key_text Every) (number r.every) members) phase
@@ -157,10 +157,10 @@ turns_keep key r (Some offset) members every phase begins =
 
 stream_has_branches : (one : FilledStream) (members : Members) → has_branches (filled_stream one members) ≡ true
 stream_has_branches one members =
-    let there = with_way one (with_octets one members) in
-    let path = turns_keep Path one.request one.offset there refl refl refl in
-    let many = turns_keep Paths one.request one.offset there refl refl refl in
-    (λ i. is_some (path i) || is_some (many i)) ∙ way_has_branches one (with_octets one members)
+    let there = with_path one (with_octets one members) in
+    let path = active_cycles_keep Path one.request one.offset there refl refl refl in
+    let many = active_cycles_keep Paths one.request one.offset there refl refl refl in
+    (λ i. is_some (path i) || is_some (many i)) ∙ path_has_branches one (with_octets one members)
 
 -- so the same octets, and no cycles, change nothing
 pub record IsAgain (again one : FilledStream) : Type 0 where
@@ -172,9 +172,9 @@ stream_again again one members is =
     let there = filled_stream one members in
     let octets : with_octets again there ≡ there =
     ap (λ (n : ℕ). put (key_text Octets) (number n) there) is.octets ∙ octets_there one members in
-    let way : with_way again there ≡ there =
+    let path : with_path again there ≡ there =
     ap (λ (b : Bool). if b then there else put_branches (paced_text again.request).paths there) (stream_has_branches one members) in
-    ap (λ ms. with_turns again (with_way again ms)) octets ∙ ap (with_turns again) way ∙ ap (λ (o : Option ℕ). turns_by again.request o there) is.offset
+    ap (λ ms. with_active_cycles again (with_path again ms)) octets ∙ ap (with_active_cycles again) path ∙ ap (λ (o : Option ℕ). active_cycles_by again.request o there) is.offset
 
 item_again : (again one : FilledStream) (d : Data) → IsAgain again one → filled_item again (filled_item one d) ≡ filled_item one d
 item_again again one (string s) is = refl

@@ -124,37 +124,37 @@ abbrev NotBetter : Candidate → Candidate → Type 0
 NotBetter candidate other = IsBad other ⊎ (is_better other candidate ≡ false)
 
 -- what loses against one loses against a better one; and so does what isn't better than one
-all_lose : (new old : Candidate) (told : List Candidate) → is_better new old ≡ true → All (Loses old) told → All (Loses new) told
+all_lose : (new old : Candidate) (reported : List Candidate) → is_better new old ≡ true → All (Loses old) reported → All (Loses new) reported
 all_lose new old [] is all = All-nil (Loses new)
-all_lose new old (other ∷ told) is all =
-    All-cons (Loses new) other told (by (All-head (Loses old) other told all)) (all_lose new old told is (All-tail (Loses old) other told all))
+all_lose new old (other ∷ reported) is all =
+    All-cons (Loses new) other reported (by (All-head (Loses old) other reported all)) (all_lose new old reported is (All-tail (Loses old) other reported all))
   where
     by : Loses old other → Loses new other
     by (inl bad) = inl bad
     by (inr less) = inr (better_more new old other is less)
 
-all_behind_lose : (new old : Candidate) (told : List Candidate) → is_better new old ≡ true → All (NotBetter old) told → All (Loses new) told
-all_behind_lose new old [] is all = All-nil (Loses new)
-all_behind_lose new old (other ∷ told) is all =
-    All-cons (Loses new) other told (by (All-head (NotBetter old) other told all)) (all_behind_lose new old told is (All-tail (NotBetter old) other told all))
+all_after_lose : (new old : Candidate) (reported : List Candidate) → is_better new old ≡ true → All (NotBetter old) reported → All (Loses new) reported
+all_after_lose new old [] is all = All-nil (Loses new)
+all_after_lose new old (other ∷ reported) is all =
+    All-cons (Loses new) other reported (by (All-head (NotBetter old) other reported all)) (all_after_lose new old reported is (All-tail (NotBetter old) other reported all))
   where
     by : NotBetter old other → Loses new other
     by (inl bad) = inl bad
     by (inr not_so) = inr (better_others new old other is not_so)
 
-all_bad_lose : (new : Candidate) (told : List Candidate) → All IsBad told → All (Loses new) told
+all_bad_lose : (new : Candidate) (reported : List Candidate) → All IsBad reported → All (Loses new) reported
 all_bad_lose new [] all = All-nil (Loses new)
-all_bad_lose new (other ∷ told) all =
-    All-cons (Loses new) other told (inl (All-head IsBad other told all)) (all_bad_lose new told (All-tail IsBad other told all))
+all_bad_lose new (other ∷ reported) all =
+    All-cons (Loses new) other reported (inl (All-head IsBad other reported all)) (all_bad_lose new reported (All-tail IsBad other reported all))
 
 module _ (network : NetworkDomain) (streams : List SettledStream) (tries : ℕ) where
   -- lists of verdicts are put together
-  judged_join : (before behind : List ℕ) (told told_behind : List Candidate) → AreJudgedBy network streams tries before told →
-      AreJudgedBy network streams tries behind told_behind → AreJudgedBy network streams tries (before ++ behind) (told ++ told_behind)
-  judged_join [] behind [] told_behind first second = second
-  judged_join [] behind (other ∷ told) told_behind first second = absurd first
-  judged_join (cycle ∷ before) behind [] told_behind first second = absurd first
-  judged_join (cycle ∷ before) behind (other ∷ told) told_behind first second = (first.0, judged_join before behind told told_behind first.1 second)
+  judged_join : (before following : List ℕ) (reported written_after : List Candidate) → AreJudgedBy network streams tries before reported →
+      AreJudgedBy network streams tries following written_after → AreJudgedBy network streams tries (before ++ following) (reported ++ written_after)
+  judged_join [] following [] written_after first second = second
+  judged_join [] following (other ∷ reported) written_after first second = absurd first
+  judged_join (cycle ∷ before) following [] written_after first second = absurd first
+  judged_join (cycle ∷ before) following (other ∷ reported) written_after first second = (first.0, judged_join before following reported written_after first.1 second)
 
   -- the verdict on a good one
   good_judged : (cycle_time : ℕ) (tried : Tried) → IsGoodOn network streams tries cycle_time tried → IsJudgedBy network streams tries cycle_time tried.candidate
@@ -168,20 +168,20 @@ module _ (network : NetworkDomain) (streams : List SettledStream) (tries : ℕ) 
   -- ---- one more candidate
 
   -- the first good one
-  best_first : (cycles : List ℕ) (cycle_time : ℕ) (told : List Candidate) (tried : Tried) → AreJudgedBy network streams tries cycles told → All IsBad told →
+  best_first : (cycles : List ℕ) (cycle_time : ℕ) (reported : List Candidate) (tried : Tried) → AreJudgedBy network streams tries cycles reported → All IsBad reported →
       IsGoodOn network streams tries cycle_time tried → IsBestOf network streams tries (cycles ++ cycle_time ∷ []) tried
-  best_first cycles cycle_time told tried judged bad good = record {
+  best_first cycles cycle_time reported tried judged bad good = record {
     before = cycles;
     cycle_time = cycle_time;
-    behind = [];
+    following = [];
     among = refl;
     good = good;
     best = record {
-      told = told;
+      reported = reported;
       judged = judged;
-      better = all_bad_lose tried.candidate told bad;
-      told_behind = [];
-      judged_behind = tt;
+      better = all_bad_lose tried.candidate reported bad;
+      written_after = [];
+      judged_after = tt;
       none_better = All-nil (NotBetter tried.candidate);
     };
   }
@@ -192,23 +192,23 @@ module _ (network : NetworkDomain) (streams : List SettledStream) (tries : ℕ) 
   best_next cycles cycle_time old tried so_far good is =
       let best = so_far.best in
       let own = good_judged so_far.cycle_time old so_far.good in
-      let judged : AreJudgedBy network streams tries (so_far.before ++ (so_far.cycle_time ∷ so_far.behind)) (best.told ++ (old.candidate ∷ best.told_behind)) =
-      judged_join so_far.before (so_far.cycle_time ∷ so_far.behind) best.told (old.candidate ∷ best.told_behind) best.judged (own, best.judged_behind) in
+      let judged : AreJudgedBy network streams tries (so_far.before ++ (so_far.cycle_time ∷ so_far.following)) (best.reported ++ (old.candidate ∷ best.written_after)) =
+      judged_join so_far.before (so_far.cycle_time ∷ so_far.following) best.reported (old.candidate ∷ best.written_after) best.judged (own, best.judged_after) in
       record {
         before = cycles;
         cycle_time = cycle_time;
-        behind = [];
+        following = [];
         among = refl;
         good = good;
         best = record {
-          told = best.told ++ (old.candidate ∷ best.told_behind);
-          judged = subst (λ (xs : List ℕ). AreJudgedBy network streams tries xs (best.told ++ (old.candidate ∷ best.told_behind))) (sym so_far.among) judged;
-          better = All-append (Loses tried.candidate) best.told (old.candidate ∷ best.told_behind)
-              (all_lose tried.candidate old.candidate best.told is best.better)
-              (All-cons (Loses tried.candidate) old.candidate best.told_behind (inr is)
-              (all_behind_lose tried.candidate old.candidate best.told_behind is best.none_better));
-          told_behind = [];
-          judged_behind = tt;
+          reported = best.reported ++ (old.candidate ∷ best.written_after);
+          judged = subst (λ (xs : List ℕ). AreJudgedBy network streams tries xs (best.reported ++ (old.candidate ∷ best.written_after))) (sym so_far.among) judged;
+          better = All-append (Loses tried.candidate) best.reported (old.candidate ∷ best.written_after)
+              (all_lose tried.candidate old.candidate best.reported is best.better)
+              (All-cons (Loses tried.candidate) old.candidate best.written_after (inr is)
+              (all_after_lose tried.candidate old.candidate best.written_after is best.none_better));
+          written_after = [];
+          judged_after = tt;
           none_better = All-nil (NotBetter tried.candidate);
         };
       }
@@ -221,16 +221,16 @@ module _ (network : NetworkDomain) (streams : List SettledStream) (tries : ℕ) 
       record {
         before = so_far.before;
         cycle_time = so_far.cycle_time;
-        behind = so_far.behind ++ cycle_time ∷ [];
-        among = ap (λ (xs : List ℕ). xs ++ cycle_time ∷ []) so_far.among ∙ append_assoc so_far.before (so_far.cycle_time ∷ so_far.behind) (cycle_time ∷ []);
+        following = so_far.following ++ cycle_time ∷ [];
+        among = ap (λ (xs : List ℕ). xs ++ cycle_time ∷ []) so_far.among ∙ append_assoc so_far.before (so_far.cycle_time ∷ so_far.following) (cycle_time ∷ []);
         good = so_far.good;
         best = record {
-          told = best.told;
+          reported = best.reported;
           judged = best.judged;
           better = best.better;
-          told_behind = best.told_behind ++ candidate ∷ [];
-          judged_behind = judged_join so_far.behind (cycle_time ∷ []) best.told_behind (candidate ∷ []) best.judged_behind (judged, tt);
-          none_better = All-push (NotBetter old.candidate) best.told_behind candidate best.none_better not_so;
+          written_after = best.written_after ++ candidate ∷ [];
+          judged_after = judged_join so_far.following (cycle_time ∷ []) best.written_after (candidate ∷ []) best.judged_after (judged, tt);
+          none_better = All-push (NotBetter old.candidate) best.written_after candidate best.none_better not_so;
         };
       }
 
@@ -242,7 +242,7 @@ module _ (network : NetworkDomain) (streams : List SettledStream) (tries : ℕ) 
       (best_first [] cycle_time [] tried tt (All-nil IsBad) good)
   choice_more cycles cycle_time None (choice.Unplanned candidate) none bad =
       subst (λ (xs : List ℕ). AreBad network streams tries (xs ++ cycle_time ∷ []) (Some candidate)) (sym none)
-      (bad_by network streams tries [] cycle_time None candidate candidate (record { told = []; judged = tt; bad = All-nil IsBad; nearest_is = refl; nearest_bad = tt })
+      (bad_by network streams tries [] cycle_time None candidate candidate (record { reported = []; judged = tt; bad = All-nil IsBad; nearest_is = refl; nearest_bad = tt })
       bad refl)
   choice_more cycles cycle_time (Some (choice.Planned first)) (choice.Planned second) so_far good =
       by (is_better second.candidate first.candidate) refl
@@ -254,7 +254,7 @@ module _ (network : NetworkDomain) (streams : List SettledStream) (tries : ℕ) 
   choice_more cycles cycle_time (Some (choice.Planned first)) (choice.Unplanned candidate) so_far bad =
       best_stays cycles cycle_time first candidate so_far bad.judged (inl bad.bad)
   choice_more cycles cycle_time (Some (choice.Unplanned candidate)) (choice.Planned second) so_far good =
-      best_first cycles cycle_time so_far.told second so_far.judged so_far.bad good
+      best_first cycles cycle_time so_far.reported second so_far.judged so_far.bad good
   choice_more cycles cycle_time (Some (choice.Unplanned first)) (choice.Unplanned second) so_far bad =
       bad_by network streams tries cycles cycle_time (Some first) second (nearer_of first second) so_far bad refl
 
@@ -271,7 +271,7 @@ module _ (network : NetworkDomain) (streams : List SettledStream) (tries : ℕ) 
 pub best_is_chosen : (network : NetworkDomain) (streams : List SettledStream) (search : Search) (so : Choice) → search.best ≡ true →
     All (IsPlaceable (open_domain network)) streams → ComesOfSome network streams search.tries network.candidates (Some so) → ComesOfAll network streams search so
 best_is_chosen network streams search (choice.Planned tried) best placeable so_far =
-    taken_is_planned network streams search so_far.before so_far.cycle_time so_far.behind tried so_far.among placeable so_far.good
-    (subst (λ (b : Bool). IsTaken b network streams search.tries so_far.before so_far.behind tried.candidate) (sym best) so_far.best)
+    taken_is_planned network streams search so_far.before so_far.cycle_time so_far.following tried so_far.among placeable so_far.good
+    (subst (λ (b : Bool). IsTaken b network streams search.tries so_far.before so_far.following tried.candidate) (sym best) so_far.best)
 best_is_chosen network streams search (choice.Unplanned nearest) best placeable so_far =
     none_is_planned network streams search network.candidates nearest refl so_far

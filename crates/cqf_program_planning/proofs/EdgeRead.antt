@@ -22,7 +22,7 @@ use Rattle.cqf_network.specs.declared.pacing.Pacing.TheVariants.{Given, InStep}
 use Rattle.cqf_network.specs.NetworkDomain.{HasTalkerLinks, IsTalkerLink, NetworkDomain}
 use Rattle.cqf_network.specs.StreamsText.{Along, Between, StreamText, WantedText}
 use Rattle.cqf_access.specs.Access.{AccessLink, taken_of}
-use Rattle.cqf_access.specs.Arriving.{longest_wait, spread_of, way_of}
+use Rattle.cqf_access.specs.Arriving.{longest_wait, spread_of, travel_time}
 use Rattle.cqf_access.specs.Bounding.{link_of}
 use Rattle.cqf_access.specs.Closer.{closer_wait}
 use Rattle.cqf_edge.specs.declared.edge.Passage.{Passage}
@@ -33,8 +33,8 @@ use Rattle.cqf_edge.specs.declared.uses.AccessBound.{AccessBound}
 use Rattle.cqf_edge.specs.declared.uses.Handed.{Handed}
 use Rattle.cqf_edge.specs.Edge.{IsWritten, closer_word, delays_of, grid_word, link_by, word_from}
 use Rattle.cqf_edge.specs.EdgeFlows.{handed_by, passage_of}
-use Rattle.cqf_edge.specs.EdgeStreams.{EdgeStreamsText, IsWrittenStream, edge_streams, entrances_of, handed_at, handed_at_each, stream_at, stream_behind, streams_behind}
-use Rattle.cqf_edge.specs.EdgeStreams.{streams_from, way_behind, word_at}
+use Rattle.cqf_edge.specs.EdgeStreams.{EdgeStreamsText, IsWrittenStream, edge_streams, entrances_of, handed_at, handed_at_each, stream_at, stream_at_edge, streams_at_edge}
+use Rattle.cqf_edge.specs.EdgeStreams.{path_at_edge, streams_from, word_at}
 use Rattle.cqf_edge.specs.Entrances.{link_at}
 use Rattle.cqf_edge.specs.Uses.{IsShort, bound_by, bound_for, bound_of, bounds_from, bounds_of, handed_over, handed_to, is_enough, least_bound, link_with}
 use Rattle.cqf_edge.specs.Uses.{most_bound, other_beside, promises_in, shortest_frame, time_in}
@@ -71,11 +71,11 @@ bound_short link other (t ∷ ts) = by (least_bound (link_with link other) (t �
     by None e = omega arith
     by (Some time) e = least_short (link_with link other) (t ∷ ts) most_bound time e
 
-bounds_short : (all : List (Option Handed)) (place : ℕ) (links : List TalkerLink) → All IsShort (bounds_from all place links)
-bounds_short all place [] = All-nil IsShort
-bounds_short all place (link ∷ links) =
-    All-cons IsShort (bound_for all place link) (bounds_from all (place + 1) links)
-    (bound_short link (other_beside link.other (handed_to place all)) (promises_in (handed_to place all))) (bounds_short all (place + 1) links)
+bounds_short : (all : List (Option Handed)) (index : ℕ) (links : List TalkerLink) → All IsShort (bounds_from all index links)
+bounds_short all index [] = All-nil IsShort
+bounds_short all index (link ∷ links) =
+    All-cons IsShort (bound_for all index link) (bounds_from all (index + 1) links)
+    (bound_short link (other_beside link.other (handed_to index all)) (promises_in (handed_to index all))) (bounds_short all (index + 1) links)
 
 -- ---- the word at the edge bridge is in its ranges
 
@@ -91,8 +91,8 @@ longest_time Mb25000 = omega arith
 longest_time Mb40000 = omega arith
 longest_time Mb100000 = omega arith
 
-way_short : (rate : Rate) (delay octets : ℕ) → octets ≤ 1522 → way_of (link_of rate None) delay octets ≤ 1224000 + delay
-way_short rate delay octets few =
+travel_short : (rate : Rate) (delay octets : ℕ) → octets ≤ 1522 → travel_time (link_of rate None) delay octets ≤ 1224000 + delay
+travel_short rate delay octets few =
     let grows : time_of (octets + 8) (ticks_of_octet rate) ≤ time_of 1530 (ticks_of_octet rate) =
     time_grows (octets + 8) 1530 (ticks_of_octet rate) (omega (arith, few)) in
     plain (time_of (octets + 8) (ticks_of_octet rate)) (time_of 1530 (ticks_of_octet rate)) grows (longest_time rate)
@@ -106,36 +106,36 @@ less a b = omega arith
 less_twice : (a b c : ℕ) → a - b - c ≤ a
 less_twice a b c = omega arith
 
-jitter_short : (jitter wait spread time way delay : ℕ) → jitter ≤ 1000000000 → wait ≤ time → time ≤ 1000000000 → spread ≤ way → way ≤ 1224000 + delay →
+jitter_short : (jitter wait spread time path delay : ℕ) → jitter ≤ 1000000000 → wait ≤ time → time ≤ 1000000000 → spread ≤ path → path ≤ 1224000 + delay →
     delay ≤ 10000000 → jitter + (wait + spread) ≤ 4000000000
-jitter_short jitter wait spread time way delay a b c d e f = omega (arith, a, b, c, d, e, f)
+jitter_short jitter wait spread time path delay a b c d e f = omega (arith, a, b, c, d, e, f)
 
-offset_short : (offset way delay most : ℕ) → offset ≤ 1000000000 → way ≤ 1224000 + delay → delay ≤ most → most ≤ 10000000 → offset + way ≤ 2000000000
-offset_short offset way delay most a b c d = omega (arith, a, b, c, d)
+offset_short : (offset path delay most : ℕ) → offset ≤ 1000000000 → path ≤ 1224000 + delay → delay ≤ most → most ≤ 10000000 → offset + path ≤ 2000000000
+offset_short offset path delay most a b c d = omega (arith, a, b, c, d)
 
 module _ (network : NetworkDomain) (p : Passage) (t : TrafficText) (link : IsTalkerLink network p.link) (bounded : time_in p.bound ≤ most_bound)
     (sizes : p.handed.shortest ≤ 1522) (good : IsTrafficText t) (written : IsWritten t) where
   abbrev time : ℕ
   time = time_in p.bound
 
-  abbrev way : ℕ
-  way = way_of (link_of p.link.rate None) p.link.delay t.size
+  abbrev path : ℕ
+  path = travel_time (link_of p.link.rate None) p.link.delay t.size
 
-  spread_short : spread_of (link_by p) (delays_of p.link) p.handed.shortest t.size ≤ way
-  spread_short = less way (way_of (link_of p.link.rate None) p.link.least p.handed.shortest)
+  spread_short : spread_of (link_by p) (delays_of p.link) p.handed.shortest t.size ≤ path
+  spread_short = less path (travel_time (link_of p.link.rate None) p.link.least p.handed.shortest)
 
   closer_short : (closer_word p t).jitter ≤ 4000000000
   closer_short =
       jitter_short t.jitter (closer_wait (link_by p) time p.handed.shortest (promise_of t)) (spread_of (link_by p) (delays_of p.link) p.handed.shortest t.size) time
-      way p.link.delay written.jitter
+      path p.link.delay written.jitter
       (less_twice time (taken_of (link_by p) t.size) ((most_frames time (promise_of t) - 1) * taken_of (link_by p) p.handed.shortest)) bounded spread_short
-      (way_short p.link.rate p.link.delay t.size good.size.most) link.delay_most
+      (travel_short p.link.rate p.link.delay t.size good.size.most) link.delay_most
 
   grid_short : (grid_word p t).jitter ≤ 4000000000
   grid_short =
-      jitter_short t.jitter (longest_wait (link_by p) time (promise_of t)) (spread_of (link_by p) (delays_of p.link) p.handed.shortest t.size) time way
+      jitter_short t.jitter (longest_wait (link_by p) time (promise_of t)) (spread_of (link_by p) (delays_of p.link) p.handed.shortest t.size) time path
       p.link.delay written.jitter (less time (taken_of (link_by p) t.size)) bounded spread_short
-      (way_short p.link.rate p.link.delay t.size good.size.most) link.delay_most
+      (travel_short p.link.rate p.link.delay t.size good.size.most) link.delay_most
 
   word_good : (jitter : ℕ) → jitter ≤ 4000000000 → IsTrafficText (word_from p t jitter)
   word_good jitter short = record {
@@ -145,8 +145,8 @@ module _ (network : NetworkDomain) (p : Passage) (t : TrafficText) (link : IsTal
     jitter = record { least = omega arith; most = short };
     offset = record {
       least = omega arith;
-      most = offset_short t.offset (way_of (link_of p.link.rate None) p.link.least p.handed.shortest) p.link.least p.link.delay written.offset
-          (way_short p.link.rate p.link.least p.handed.shortest sizes) link.ordered link.delay_most;
+      most = offset_short t.offset (travel_time (link_of p.link.rate None) p.link.least p.handed.shortest) p.link.least p.link.delay written.offset
+          (travel_short p.link.rate p.link.least p.handed.shortest sizes) link.ordered link.delay_most;
     };
   }
 
@@ -156,8 +156,8 @@ module _ (network : NetworkDomain) (p : Passage) (t : TrafficText) (link : IsTal
 record IsByLink (network : NetworkDomain) (octets : ℕ) (shortest : Option ℕ) (traffic : Option TrafficText) (p : Passage) : Type 0 where
   is_link : IsTalkerLink network p.link
   bounded : time_in p.bound ≤ most_bound
-  place : ℕ
-  handed : p.handed ≡ handed_over place octets shortest traffic
+  index : ℕ
+  handed : p.handed ≡ handed_over network.overhead index octets shortest traffic
 
 min_right : (a b : ℕ) → min a b ≤ b
 min_right a b = omega arith
@@ -166,9 +166,9 @@ min_right a b = omega arith
 abbrev made : TalkerLink → Handed → AccessBound → Passage
 made link handed found = record { link = link; handed = handed; bound = found }
 
-few_octets : (octets place : ℕ) (shortest : Option ℕ) (t : TrafficText) (handed : Handed) → handed ≡ handed_over place octets shortest (Some t) →
+few_octets : (overhead octets index : ℕ) (shortest : Option ℕ) (t : TrafficText) (handed : Handed) → handed ≡ handed_over overhead index octets shortest (Some t) →
     IsTrafficText t → handed.shortest ≤ 1522
-few_octets octets place shortest t handed is good =
+few_octets overhead octets index shortest t handed is good =
     let same : handed.shortest ≡ min (shortest_frame shortest (Some t)) t.size = ap (λ (h : Handed). h.shortest) is in
     let less : min (shortest_frame shortest (Some t)) t.size ≤ t.size = min_right (shortest_frame shortest (Some t)) t.size in
     let most : t.size ≤ 1522 = good.size.most in
@@ -197,75 +197,75 @@ module _ (network : NetworkDomain) (octets : ℕ) (shortest : Option ℕ) (traff
   words_are_good good written =
       subst (λ (o : Option TrafficText). IfSome o IsTrafficText) (sym same_word) (each traffic by.handed good written pacing)
     where
-      each : (o : Option TrafficText) → p.handed ≡ handed_over by.place octets shortest o → IfSome o IsTrafficText → ForSome o IsWritten →
-          (turns : Pacing) → IfSome (option_map (word_by turns p) o) IsTrafficText
-      each None is good written turns = tt
+      each : (o : Option TrafficText) → p.handed ≡ handed_over network.overhead by.index octets shortest o → IfSome o IsTrafficText → ForSome o IsWritten →
+          (active_cycles : Pacing) → IfSome (option_map (word_by active_cycles p) o) IsTrafficText
+      each None is good written active_cycles = tt
       each (Some t) is good written (Given every phase) =
-          let few = few_octets octets by.place shortest t p.handed is good in
+          let few = few_octets network.overhead octets by.index shortest t p.handed is good in
           word_good network p t by.is_link by.bounded few good (written t refl) (closer_word p t).jitter
           (closer_short network p t by.is_link by.bounded few good (written t refl))
       each (Some t) is good written InStep =
-          let few = few_octets octets by.place shortest t p.handed is good in
+          let few = few_octets network.overhead octets by.index shortest t p.handed is good in
           word_good network p t by.is_link by.bounded few good (written t refl) (grid_word p t).jitter
           (grid_short network p t by.is_link by.bounded few good (written t refl))
 
 module _ (network : NetworkDomain) (links : All (IsTalkerLink network) network.talkers) (bounds : List AccessBound) (short : All IsShort bounds) where
   by_link : (entrance : Entrance) (octets : ℕ) (shortest : Option ℕ) (traffic : Option TrafficText) (p : Passage) →
-      passage_of network bounds (handed_by entrance octets shortest traffic) ≡ Some p → IsByLink network octets shortest traffic p
+      passage_of network bounds (handed_by network.overhead entrance octets shortest traffic) ≡ Some p → IsByLink network octets shortest traffic p
   by_link (AtBridge bridge) octets shortest traffic p e = absurd cc
-  by_link (ByAccess place) octets shortest traffic p e = by (link_at network place) (slice_get bounds place) refl refl e
+  by_link (ByAccess index) octets shortest traffic p e = by (link_at network index) (slice_get bounds index) refl refl e
     where
-      by : (l : Option TalkerLink) (b : Option AccessBound) → link_at network place ≡ l → slice_get bounds place ≡ b →
-          option_and_then (λ link. option_map (λ found. made link (handed_over place octets shortest traffic) found) b) l ≡ Some p →
+      by : (l : Option TalkerLink) (b : Option AccessBound) → link_at network index ≡ l → slice_get bounds index ≡ b →
+          option_and_then (λ link. option_map (λ found. made link (handed_over network.overhead index octets shortest traffic) found) b) l ≡ Some p →
           IsByLink network octets shortest traffic p
       by None b at there h = absurd cc
       by (Some link) None at there h = absurd cc
       by (Some link) (Some found) at there h =
-          let one : Passage = made link (handed_over place octets shortest traffic) found in
+          let one : Passage = made link (handed_over network.overhead index octets shortest traffic) found in
           subst (IsByLink network octets shortest traffic) (same_Some one p h) (record {
-            is_link = All-contains (IsTalkerLink network) network.talkers link links (contains_at network.talkers place link at);
-            bounded = All-contains IsShort bounds found short (contains_at bounds place found there);
-            place = place;
+            is_link = All-contains (IsTalkerLink network) network.talkers link links (contains_at network.talkers index link at);
+            bounded = All-contains IsShort bounds found short (contains_at bounds index found there);
+            index = index;
             handed = refl;
           })
 
   -- ---- at the edge bridge
 
   -- a stream has its listeners
-  listeners_behind : (entrance : Entrance) (way : WantedText) → AreListeners way → AreListeners (way_behind network entrance way)
-  listeners_behind entrance (Along paths) are = tt
-  listeners_behind entrance (Between from to) are = are
+  listeners_after : (entrance : Entrance) (path : WantedText) → AreListeners path → AreListeners (path_at_edge network entrance path)
+  listeners_after entrance (Along paths) are = tt
+  listeners_after entrance (Between from to) are = are
 
   -- and what it reserves by, and its traffic is in its ranges
-  stream_read : (entrance : Entrance) (stream : StreamText) (p : Option Passage) → passage_of network bounds (handed_at stream (Some entrance)) ≡ p →
+  stream_read : (entrance : Entrance) (stream : StreamText) (p : Option Passage) → passage_of network bounds (handed_at network.overhead stream (Some entrance)) ≡ p →
       IsReadStream stream → IsWrittenStream stream → IsReadStream (stream_at network entrance p stream)
   stream_read entrance stream None e read written =
-      record { reserves = read.reserves; traffic = read.traffic; listeners = listeners_behind entrance stream.way read.listeners }
+      record { reserves = read.reserves; traffic = read.traffic; listeners = listeners_after entrance stream.path read.listeners }
   stream_read entrance stream (Some p) e read written =
       let octets : ℕ = unwrap_or stream.octets 0 in
       let by = by_link entrance octets stream.shortest stream.traffic p e in
       record {
         reserves = λ none nothing. read.reserves none (no_word network octets stream.shortest stream.traffic p by stream.pacing nothing);
         traffic = words_are_good network octets stream.shortest stream.traffic p by stream.pacing read.traffic written;
-        listeners = listeners_behind entrance stream.way read.listeners;
+        listeners = listeners_after entrance stream.path read.listeners;
       }
 
   one_read : (entrance : Option Entrance) (stream : StreamText) → IsReadStream stream → IsWrittenStream stream →
-      IsReadStream (stream_behind network entrance (passage_of network bounds (handed_at stream entrance)) stream)
+      IsReadStream (stream_at_edge network entrance (passage_of network bounds (handed_at network.overhead stream entrance)) stream)
   one_read None stream read written = read
   one_read (Some entrance) stream read written =
-      stream_read entrance stream (passage_of network bounds (handed_at stream (Some entrance))) refl read written
+      stream_read entrance stream (passage_of network bounds (handed_at network.overhead stream (Some entrance))) refl read written
 
   -- so it is with each
   all_read : (all : List StreamText) (entrances : List (Option Entrance)) → All IsReadStream all → All IsWrittenStream all →
-      All IsReadStream (streams_behind network entrances (map (passage_of network bounds) (handed_at_each all entrances)) all)
+      All IsReadStream (streams_at_edge network entrances (map (passage_of network bounds) (handed_at_each network.overhead all entrances)) all)
   all_read [] entrances read written = All-nil IsReadStream
   all_read (stream ∷ streams) [] read written = All-nil IsReadStream
   all_read (stream ∷ streams) (entrance ∷ entrances) read written =
       let first : IsReadStream stream = All-contains IsReadStream (stream ∷ streams) stream read (contains_here stream streams) in
       let own : IsWrittenStream stream = All-contains IsWrittenStream (stream ∷ streams) stream written (contains_here stream streams) in
-      All-cons IsReadStream (stream_behind network entrance (passage_of network bounds (handed_at stream entrance)) stream)
-      (streams_behind network entrances (map (passage_of network bounds) (handed_at_each streams entrances)) streams) (one_read entrance stream first own)
+      All-cons IsReadStream (stream_at_edge network entrance (passage_of network bounds (handed_at network.overhead stream entrance)) stream)
+      (streams_at_edge network entrances (map (passage_of network bounds) (handed_at_each network.overhead streams entrances)) streams) (one_read entrance stream first own)
       (all_read streams entrances (λ k x low. read (suc k) x (omega (arith, low))) (λ k x low. written (suc k) x (omega (arith, low))))
 
 edge_same : (x y : EdgeStreamsText) → ◌≡◌ {A = Result EdgeStreamsText EdgeFault} (Ok x) (Ok y) → x ≡ y
@@ -275,7 +275,7 @@ pub edges_read : (network : NetworkDomain) (texts : List StreamText) (edge : Edg
     All IsWrittenStream texts → edge_streams network texts ≡ Ok edge → All IsReadStream edge.streams
 edges_read network texts edge talkers read written e =
     let (entrances, at, rest) = and_then-Ok (entrances_of network texts)
-    (λ entrances. Ok (streams_from network texts entrances (handed_at_each texts entrances))) edge e in
-    let handed = handed_at_each texts entrances in
+    (λ entrances. Ok (streams_from network texts entrances (handed_at_each network.overhead texts entrances))) edge e in
+    let handed = handed_at_each network.overhead texts entrances in
     subst (λ (x : EdgeStreamsText). All IsReadStream x.streams) (edge_same (streams_from network texts entrances handed) edge rest)
     (all_read network talkers.each_there (bounds_of network handed) (bounds_short handed 0 network.talkers) texts entrances read written)

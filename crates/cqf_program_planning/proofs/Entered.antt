@@ -12,8 +12,8 @@ use Rattle.cqf_lists.proofs.Any.{position_any}
 use Rattle.cqf_lists.proofs.Members.{contains_at, find_member, member_any}
 use Rattle.cqf_model.specs.declared.topology.Node.TheVariants.{Bridge, Station}
 use Rattle.cqf_model.specs.Domain.{Domain, node_named, node_or}
-use Rattle.cqf_topology.specs.DomainText.{IsDomain, if_so, place_of}
-use Rattle.cqf_topology.proofs.Accepted.{place-within}
+use Rattle.cqf_topology.specs.DomainText.{IsDomain, if_so, index_of}
+use Rattle.cqf_topology.proofs.Accepted.{index-within}
 use Rattle.cqf_topology.proofs.Refusals.{and_then-Ok, ok_or-Ok, refuse-Ok}
 use Rattle.cqf_network.specs.declared.domain.TalkerLink.{TalkerLink}
 use Rattle.cqf_network.specs.declared.talkers.Talker.{Talker}
@@ -25,34 +25,34 @@ use Rattle.cqf_edge.specs.declared.faults.EdgeFault.{EdgeFault}
 use Rattle.cqf_edge.specs.declared.faults.EdgeFault.TheVariants as fault
 use Rattle.cqf_edge.specs.declared.faults.TalkerFault.{TalkerFault}
 use Rattle.cqf_edge.specs.declared.faults.TalkerFault.TheVariants.{NoTalker, TwoAccessLinks, OtherEdge, OtherListeners}
-use Rattle.cqf_edge.specs.EdgeStreams.{entrance_by, entrance_with, is_between, or_later, told_now, way_behind}
+use Rattle.cqf_edge.specs.EdgeStreams.{entrance_by, entrance_with, is_between, or_later, path_at_edge, reported_now}
 use Rattle.cqf_edge.specs.Entrances.{IsEntrance, agrees_with, at_node, begins_with, by_station, by_that_to, by_the_only, edge_bridge, edge_name, end_at, entrance_of}
 use Rattle.cqf_edge.specs.Entrances.{joins, leaves_station, listeners_agree}
-use Rattle.cqf_network_text.specs.NetworkLaws.{chosen_way, paths_of}
+use Rattle.cqf_network_text.specs.NetworkLaws.{chosen_path, paths_of}
 use Rattle.cqf_program_placing.specs.declared.faults.PlanFault.{PlanFault}
 use Rattle.cqf_program_placing.specs.declared.faults.PlanFault.TheVariants as plan_fault
-use Rattle.cqf_program_placing.specs.Settled.{Between as BetweenNodes, Along as AlongBranches, SettledWay, entrance_at, entrance_behind, first_apart, open_domain, settled_way}
+use Rattle.cqf_program_placing.specs.Settled.{Between as BetweenNodes, Along as AlongBranches, SettledPath, entrance_at, entrance_after, first_apart, open_domain, settled_path}
 use Rattle.cqf_program_placing.specs.Settled.{stations_by_name, talker_of_stream}
 use Rattle.cqf_admission.specs.Branches.{tree_refusal}
-use Rattle.cqf_program_placing.proofs.WayNames.{name_leads_back}
+use Rattle.cqf_program_placing.proofs.PathNames.{name_leads_back}
 use Rattle.cqf_program_planning.proofs.EndsRead.{EndsOf}
-use Rattle.cqf_program_planning.proofs.PlacedWays.{ArePathsOf, AreWayNames, all_begin, all_end}
+use Rattle.cqf_program_planning.proofs.PlacedPaths.{ArePathNames, ArePathsOf, all_begin, all_end}
 
 -- ---- an entrance is in the network
 
-found_within : (test : TalkerLink → Bool) (links : List TalkerLink) (place : ℕ) → position test links ≡ Some place → place < length links
-found_within test [] place e = absurd cc
-found_within test (link ∷ links) place e = (position-Some test (link ∷ links) place link e).0
+found_within : (test : TalkerLink → Bool) (links : List TalkerLink) (index : ℕ) → position test links ≡ Some index → index < length links
+found_within test [] index e = absurd cc
+found_within test (link ∷ links) index e = (position-Some test (link ∷ links) index link e).0
 
 entrance_same : (x y : Entrance) → ◌≡◌ {A = Result Entrance TalkerFault} (Ok x) (Ok y) → x ≡ y
 entrance_same x y e = cc
 
 found_entrance : (network : NetworkDomain) (test : TalkerLink → Bool) (e : Entrance) →
-    and_then (ok_or (position test network.talkers) NoTalker) (λ place. Ok (ByAccess place)) ≡ Ok e → IsEntrance network e
+    and_then (ok_or (position test network.talkers) NoTalker) (λ index. Ok (ByAccess index)) ≡ Ok e → IsEntrance network e
 found_entrance network test e h =
-    let (place, at, made) = and_then-Ok (ok_or (position test network.talkers) NoTalker) (λ place. Ok (ByAccess place)) e h in
-    subst (IsEntrance network) (entrance_same (ByAccess place) e made)
-    (found_within test network.talkers place (ok_or-Ok (position test network.talkers) NoTalker place at))
+    let (index, at, made) = and_then-Ok (ok_or (position test network.talkers) NoTalker) (λ index. Ok (ByAccess index)) e h in
+    subst (IsEntrance network) (entrance_same (ByAccess index) e made)
+    (found_within test network.talkers index (ok_or-Ok (position test network.talkers) NoTalker index at))
 
 that_inside : (network : NetworkDomain) (station : ℕ) (o : Option ℕ) (e : Entrance) → by_that_to network station o ≡ Ok e → IsEntrance network e
 that_inside network station None e h = absurd cc
@@ -62,15 +62,15 @@ by_station_inside : (network : NetworkDomain) (station : ℕ) (o : Option (List 
 by_station_inside network station None e h =
     found_entrance network (leaves_station station) e
     (refuse-Ok (if_so (nat_lt 1 (count_by (leaves_station station) network.talkers))) (λ _. TwoAccessLinks)
-    (and_then (ok_or (position (leaves_station station) network.talkers) NoTalker) (λ place. Ok (ByAccess place))) e h).1
-by_station_inside network station (Some bridge) e h = that_inside network station (place_of bridge network.bridges) e h
+    (and_then (ok_or (position (leaves_station station) network.talkers) NoTalker) (λ index. Ok (ByAccess index))) e h).1
+by_station_inside network station (Some bridge) e h = that_inside network station (index_of bridge network.bridges) e h
 
 pub entrance_inside : (network : NetworkDomain) (talker : Talker) (e : Entrance) → entrance_of network talker ≡ Ok e → IsEntrance network e
-entrance_inside network talker e h = by (place_of talker.node network.bridges) (place_of talker.node network.stations) talker.bridge refl h
+entrance_inside network talker e h = by (index_of talker.node network.bridges) (index_of talker.node network.stations) talker.bridge refl h
   where
-    by : (o p : Option ℕ) (q : Option (List ℕ)) → place_of talker.node network.bridges ≡ o → at_node network o p q ≡ Ok e → IsEntrance network e
+    by : (o p : Option ℕ) (q : Option (List ℕ)) → index_of talker.node network.bridges ≡ o → at_node network o p q ≡ Ok e → IsEntrance network e
     by (Some b) p None at h =
-        subst (IsEntrance network) (entrance_same (AtBridge b) e h) (place-within talker.node network.bridges b at)
+        subst (IsEntrance network) (entrance_same (AtBridge b) e h) (index-within talker.node network.bridges b at)
     by (Some b) p (Some name) at h = absurd cc
     by None (Some s) q at h = by_station_inside network s q e h
     by None None q at h = absurd cc
@@ -88,9 +88,9 @@ module _ (network : NetworkDomain) (talkers : HasTalkerLinks network) (cycle_tim
   -- its bridge is one of the network
   bridge_inside : (e : Entrance) → IsEntrance network e → edge_bridge network e < length network.bridges
   bridge_inside (AtBridge b) inside = inside
-  bridge_inside (ByAccess place) inside =
-      let (link, is) = there_at network.talkers place inside in
-      let own = All-contains (IsTalkerLink network) network.talkers link talkers.each_there (contains_at network.talkers place link is) in
+  bridge_inside (ByAccess index) inside =
+      let (link, is) = there_at network.talkers index inside in
+      let own = All-contains (IsTalkerLink network) network.talkers link talkers.each_there (contains_at network.talkers index link is) in
       subst (λ (o : Option TalkerLink). option_map_or (λ (l : TalkerLink). l.bridge) o 0 < length network.bridges) (sym is) own.bridge_there
 
   -- and is found by its name
@@ -107,32 +107,32 @@ module _ (network : NetworkDomain) (talkers : HasTalkerLinks network) (cycle_tim
 
   -- ---- the paths that were placed
 
-  way_same : (x y : SettledWay) → ◌≡◌ {A = Result SettledWay PlanFault} (Ok x) (Ok y) → x ≡ y
-  way_same x y e = cc
+  path_same : (x y : SettledPath) → ◌≡◌ {A = Result SettledPath PlanFault} (Ok x) (Ok y) → x ≡ y
+  path_same x y e = cc
 
   -- a stream that goes between its ends is settled from that bridge to its listeners
-  record IsBetween (e : Entrance) (to : List (List ℕ)) (way : SettledWay) : Type 0 where
+  record IsBetween (e : Entrance) (to : List (List ℕ)) (path : SettledPath) : Type 0 where
     stations : List ℕ
     named : stations_by_name (open_domain network) to ≡ Ok stations
-    is : way ≡ BetweenNodes (edge_bridge network e) stations
+    is : path ≡ BetweenNodes (edge_bridge network e) stations
 
-  settled_between : (e : Entrance) (to : List (List ℕ)) (way : SettledWay) → IsEntrance network e →
-      settled_way network (open_domain network) (Between (edge_name network e) to) ≡ Ok way → IsBetween e to way
-  settled_between e to way inside h =
+  settled_between : (e : Entrance) (to : List (List ℕ)) (path : SettledPath) → IsEntrance network e →
+      settled_path network (open_domain network) (Between (edge_name network e) to) ≡ Ok path → IsBetween e to path
+  settled_between e to path inside h =
       let od = open_domain network in
       let from = entrance_at network (node_named od (edge_name network e)) in
-      let (entrance, entered, rest) = and_then-Ok (ok_or from plan_fault.NoTalker) _ way h in
-      let (stations, named, more) = and_then-Ok (stations_by_name od to) _ way rest in
-      let parts = refuse-Ok (first_apart od entrance.bridge to) plan_fault.NoWay (Ok (BetweenNodes entrance.bridge stations)) way more in
+      let (entrance, entered, rest) = and_then-Ok (ok_or from plan_fault.NoTalker) _ path h in
+      let (stations, named, more) = and_then-Ok (stations_by_name od to) _ path rest in
+      let parts = refuse-Ok (first_apart od entrance.bridge to) plan_fault.NoWay (Ok (BetweenNodes entrance.bridge stations)) path more in
       let there : entrance_at network (node_named od (edge_name network e)) ≡ Some entrance = ok_or-Ok from plan_fault.NoTalker entrance entered in
       let same : entrance_at network (Some (Bridge (edge_bridge network e))) ≡ Some entrance = sym (ap (entrance_at network) (open_named e inside)) ∙ there in
       let bridge : edge_bridge network e ≡ entrance.bridge = cc in
-      record { stations = stations; named = named; is = way_same way (BetweenNodes (edge_bridge network e) stations) (sym parts.1 ∙ ap (λ (b : ℕ). Ok (BetweenNodes b stations)) (sym bridge)) }
+      record { stations = stations; named = named; is = path_same path (BetweenNodes (edge_bridge network e) stations) (sym parts.1 ∙ ap (λ (b : ℕ). Ok (BetweenNodes b stations)) (sym bridge)) }
 
-  settled_along : (given : List (List (List ℕ))) (way : SettledWay) → settled_way network (open_domain network) (Along given) ≡ Ok way → way ≡ AlongBranches given
-  settled_along given way h =
-      let parts = refuse-Ok (tree_refusal (open_domain network) given) plan_fault.Refused (Ok (AlongBranches given)) way h in
-      way_same way (AlongBranches given) (sym parts.1)
+  settled_along : (given : List (List (List ℕ))) (path : SettledPath) → settled_path network (open_domain network) (Along given) ≡ Ok path → path ≡ AlongBranches given
+  settled_along given path h =
+      let parts = refuse-Ok (tree_refusal (open_domain network) given) plan_fault.Refused (Ok (AlongBranches given)) path h in
+      path_same path (AlongBranches given) (sym parts.1)
 
   agreed : (paths : List (List (List ℕ))) (e : Entrance) → list_all (begins_with (edge_name network e)) paths ≡ true → agrees_with network paths e ≡ Ok tt
   agreed paths e is = ap (λ (b : Bool). refuse (if_so (not b)) (λ _. OtherEdge) (Ok tt)) is
@@ -143,15 +143,15 @@ module _ (network : NetworkDomain) (talkers : HasTalkerLinks network) (cycle_tim
   -- where a stream of a talker enters
   pub record IsEnteredBy (s : StreamText) (talker : Talker) (e : Entrance) : Type 0 where
     pub at : entrance_of network talker ≡ Ok e
-    pub by : entrance_by network s e s.way ≡ Ok e
+    pub by : entrance_by network s e s.path ≡ Ok e
 
   pub entered_by : (s : StreamText) (talker : Talker) (e : Entrance) → entrance_with network s talker ≡ Ok e → IsEnteredBy s talker e
   entered_by s talker e h =
-      let (x, at, rest) = and_then-Ok (entrance_of network talker) (λ entrance. entrance_by network s entrance s.way) e h in
-      let same : x ≡ e = stays x s.way rest in
-      record { at = at ∙ ap Ok same; by = ap (λ (y : Entrance). entrance_by network s y s.way) (sym same) ∙ rest }
+      let (x, at, rest) = and_then-Ok (entrance_of network talker) (λ entrance. entrance_by network s entrance s.path) e h in
+      let same : x ≡ e = stays x s.path rest in
+      record { at = at ∙ ap Ok same; by = ap (λ (y : Entrance). entrance_by network s y s.path) (sym same) ∙ rest }
     where
-      stays : (x : Entrance) (way : WantedText) → entrance_by network s x way ≡ Ok e → x ≡ e
+      stays : (x : Entrance) (path : WantedText) → entrance_by network s x path ≡ Ok e → x ≡ e
       stays x (Between from to) h = entrance_same x e h
       stays x (Along paths) h =
           let (one, agree, rest) = and_then-Ok (agrees_with network paths x) (λ _. and_then (listeners_agree paths s.listeners) (λ _. Ok x)) e h in
@@ -163,40 +163,40 @@ module _ (network : NetworkDomain) (talkers : HasTalkerLinks network) (cycle_tim
     pub begins : agrees_with network paths e ≡ Ok tt
     pub ends : listeners_agree paths listeners ≡ Ok tt
 
-  pub paths_agree : (s : StreamText) (e : Entrance) (way : SettledWay) (paths : List (List (List ℕ))) (wanted : WantedText) →
+  pub paths_agree : (s : StreamText) (e : Entrance) (path : SettledPath) (paths : List (List (List ℕ))) (wanted : WantedText) →
       IsEntrance network e → EndsOf wanted s.talker s.listeners → entrance_by network s e wanted ≡ Ok e →
-      settled_way network (open_domain network) (way_behind network e wanted) ≡ Ok way → ArePathsOf d way paths →
-      Agree (paths_of (chosen_way paths wanted)) e s.listeners
-  paths_agree s e way paths (Along given) inside ends entered settles are =
+      settled_path network (open_domain network) (path_at_edge network e wanted) ≡ Ok path → ArePathsOf d path paths →
+      Agree (paths_of (chosen_path paths wanted)) e s.listeners
+  paths_agree s e path paths (Along given) inside ends entered settles are =
       let (one, agree, rest) = and_then-Ok (agrees_with network given e) (λ _. and_then (listeners_agree given s.listeners) (λ _. Ok e)) e entered in
       let (two, listen, more) = and_then-Ok (listeners_agree given s.listeners) (λ _. Ok e) e rest in
       record { begins = agree; ends = listen }
-  paths_agree s e way paths (Between from to) inside ends entered settles are =
-      let between = settled_between e to way inside settles in
-      let names : AreWayNames d (edge_bridge network e) between.stations paths = subst (λ (w : SettledWay). ArePathsOf d w paths) between.is are in
-      let begin = all_begin d good (edge_bridge network e) (edge_name network e) names.ways refl in
-      let end = all_end d good (open_domain network) (edge_bridge network e) to between.stations names.ways refl refl between.named names.one_each names.lead in
+  paths_agree s e path paths (Between from to) inside ends entered settles are =
+      let between = settled_between e to path inside settles in
+      let names : ArePathNames d (edge_bridge network e) between.stations paths = subst (λ (w : SettledPath). ArePathsOf d w paths) between.is are in
+      let begin = all_begin d good (edge_bridge network e) (edge_name network e) names.link_paths refl in
+      let end = all_end d good (open_domain network) (edge_bridge network e) to between.stations names.link_paths refl refl between.named names.one_each names.lead in
       record {
         begins = agreed paths e (ap (list_all (begins_with (edge_name network e))) names.are ∙ begin);
         ends = ap (listeners_agree paths) ends.are_listeners ∙ listened paths to (ap (end_at to) names.are ∙ end);
       }
 
   -- so they are those that are read
-  pub paths_read : (way : SettledWay) (paths : List (List (List ℕ))) (wanted : WantedText) →
+  pub paths_read : (path : SettledPath) (paths : List (List (List ℕ))) (wanted : WantedText) →
       ((from : List ℕ) (to : List (List ℕ)) → wanted ≡ Between from to → ⊥) →
-      settled_way network (open_domain network) wanted ≡ Ok way → ArePathsOf d way paths → paths_of (chosen_way paths wanted) ≡ paths
-  paths_read way paths (Between from to) never settles are = absurd (never from to refl)
-  paths_read way paths (Along given) never settles are =
-      let is = settled_along given way settles in
-      let same : paths ≡ given = subst (λ (w : SettledWay). ArePathsOf d w paths) is are in
+      settled_path network (open_domain network) wanted ≡ Ok path → ArePathsOf d path paths → paths_of (chosen_path paths wanted) ≡ paths
+  paths_read path paths (Between from to) never settles are = absurd (never from to refl)
+  paths_read path paths (Along given) never settles are =
+      let is = settled_along given path settles in
+      let same : paths ≡ given = subst (λ (w : SettledPath). ArePathsOf d w paths) is are in
       sym same
 
-  pub paths_behind : (e : Entrance) (way : SettledWay) (paths : List (List (List ℕ))) (wanted : WantedText) →
-      settled_way network (open_domain network) (way_behind network e wanted) ≡ Ok way → ArePathsOf d way paths → paths_of (chosen_way paths wanted) ≡ paths
-  paths_behind e way paths (Between from to) settles are = refl
-  paths_behind e way paths (Along given) settles are =
-      let is = settled_along given way settles in
-      let same : paths ≡ given = subst (λ (w : SettledWay). ArePathsOf d w paths) is are in
+  pub paths_after : (e : Entrance) (path : SettledPath) (paths : List (List (List ℕ))) (wanted : WantedText) →
+      settled_path network (open_domain network) (path_at_edge network e wanted) ≡ Ok path → ArePathsOf d path paths → paths_of (chosen_path paths wanted) ≡ paths
+  paths_after e path paths (Between from to) settles are = refl
+  paths_after e path paths (Along given) settles are =
+      let is = settled_along given path settles in
+      let same : paths ≡ given = subst (λ (w : SettledPath). ArePathsOf d w paths) is are in
       sym same
 
   -- ---- a stream that enters nowhere has no talker
@@ -216,18 +216,18 @@ module _ (network : NetworkDomain) (talkers : HasTalkerLinks network) (cycle_tim
   no_station station h at = by (if_so (nat_lt 1 (count_by (leaves_station station) network.talkers))) (position (leaves_station station) network.talkers) refl h
     where
       by : (o : Option (Unit {0})) (p : Option ℕ) → position (leaves_station station) network.talkers ≡ p →
-          refuse o (λ _. TwoAccessLinks) (and_then (ok_or p NoTalker) (λ place. Ok (ByAccess place))) ≡ Err NoTalker → ⊥
+          refuse o (λ _. TwoAccessLinks) (and_then (ok_or p NoTalker) (λ index. Ok (ByAccess index))) ≡ Err NoTalker → ⊥
       by (Some u) p is h = absurd cc
       by None (Some k) is h = absurd cc
       by None None is h =
           let none = none_found (leaves_station station) network.talkers is in
-          let nothing = ap (λ o. is_some (option_map entrance_behind o)) none in
+          let nothing = ap (λ o. is_some (option_map entrance_after o)) none in
           let both = sym nothing ∙ at in
           absurd cc
 
-  no_node : (node : List ℕ) → at_node network (place_of node network.bridges) (place_of node network.stations) None ≡ Err NoTalker →
+  no_node : (node : List ℕ) → at_node network (index_of node network.bridges) (index_of node network.stations) None ≡ Err NoTalker →
       is_some (entrance_at network (node_named (open_domain network) node)) ≡ true → ⊥
-  no_node node h at = by (place_of node network.bridges) (place_of node network.stations) h at
+  no_node node h at = by (index_of node network.bridges) (index_of node network.stations) h at
     where
       by : (o p : Option ℕ) → at_node network o p None ≡ Err NoTalker → is_some (entrance_at network (node_or o p)) ≡ true → ⊥
       by (Some b) p h at = absurd cc
@@ -235,21 +235,21 @@ module _ (network : NetworkDomain) (talkers : HasTalkerLinks network) (cycle_tim
       by None None h at = absurd cc
 
   -- a talker that is found nowhere isn't settled
-  never_settled : (s : StreamText) (talker : Talker) (why : TalkerFault) (way : SettledWay) (wanted : WantedText) → EndsOf wanted (Some talker) s.listeners →
+  never_settled : (s : StreamText) (talker : Talker) (why : TalkerFault) (path : SettledPath) (wanted : WantedText) → EndsOf wanted (Some talker) s.listeners →
       and_then (entrance_of network talker) (λ entrance. entrance_by network s entrance wanted) ≡ Err why →
       ◌≡◌ {A = Result (Option Entrance) EdgeFault} (if is_between wanted && is_none talker.bridge then Ok None else Err (fault.Talker s.name NoTalker))
       (Ok None) → why ≡ NoTalker →
-      settled_way network (open_domain network) wanted ≡ Ok way → ⊥
-  never_settled s talker why way (Along given) ends failed later same settles = absurd cc
-  never_settled s talker why way (Between from to) ends failed later same settles =
+      settled_path network (open_domain network) wanted ≡ Ok path → ⊥
+  never_settled s talker why path (Along given) ends failed later same settles = absurd cc
+  never_settled s talker why path (Between from to) ends failed later same settles =
       let bridge = none_bridge talker.bridge later in
       let own : ends.own ≡ talker = sym (same_Some talker ends.own ends.is_talker) in
       let node : talker.node ≡ from = ap (λ (t : Talker). t.node) (sym own) ∙ ends.node in
       let missing = only_missing (entrance_of network talker) failed in
-      let none : at_node network (place_of talker.node network.bridges) (place_of talker.node network.stations) None ≡ Err NoTalker =
-      ap (at_node network (place_of talker.node network.bridges) (place_of talker.node network.stations)) (sym bridge) ∙ missing ∙ ap Err same in
+      let none : at_node network (index_of talker.node network.bridges) (index_of talker.node network.stations) None ≡ Err NoTalker =
+      ap (at_node network (index_of talker.node network.bridges) (index_of talker.node network.stations)) (sym bridge) ∙ missing ∙ ap Err same in
       let entrance = entrance_at network (node_named (open_domain network) from) in
-      let (x, entered, rest) = and_then-Ok (ok_or entrance plan_fault.NoTalker) _ way settles in
+      let (x, entered, rest) = and_then-Ok (ok_or entrance plan_fault.NoTalker) _ path settles in
       no_node talker.node none
       (ap (λ (n : List ℕ). is_some (entrance_at network (node_named (open_domain network) n))) node
       ∙ ap is_some (ok_or-Ok entrance plan_fault.NoTalker x entered))
@@ -268,20 +268,20 @@ module _ (network : NetworkDomain) (talkers : HasTalkerLinks network) (cycle_tim
   none_then s o false h = absurd cc
 
   -- how a stream is found to enter
-  pub enters : (s : StreamText) (talker : Talker) (o : Option Entrance) (way : SettledWay) → EndsOf s.way (Some talker) s.listeners →
-      told_now s talker (entrance_with network s talker) ≡ Ok o →
-      (o ≡ None → settled_way network (open_domain network) s.way ≡ Ok way) → (e : Entrance) × (o ≡ Some e) × (entrance_with network s talker ≡ Ok e)
-  enters s talker o way ends told settles = by (entrance_with network s talker) refl told
+  pub enters : (s : StreamText) (talker : Talker) (o : Option Entrance) (path : SettledPath) → EndsOf s.path (Some talker) s.listeners →
+      reported_now s talker (entrance_with network s talker) ≡ Ok o →
+      (o ≡ None → settled_path network (open_domain network) s.path ≡ Ok path) → (e : Entrance) × (o ≡ Some e) × (entrance_with network s talker ≡ Ok e)
+  enters s talker o path ends reported settles = by (entrance_with network s talker) refl reported
     where
       later : (why : TalkerFault) → entrance_with network s talker ≡ Err why → or_later s talker why ≡ Ok o → ⊥
       later NoTalker is h =
-          let none : o ≡ None = none_then s o (is_between s.way && is_none talker.bridge) h in
-          never_settled s talker NoTalker way s.way ends is (h ∙ ap Ok none) refl (settles none)
+          let none : o ≡ None = none_then s o (is_between s.path && is_none talker.bridge) h in
+          never_settled s talker NoTalker path s.path ends is (h ∙ ap Ok none) refl (settles none)
       later TwoAccessLinks is h = absurd cc
       later OtherEdge is h = absurd cc
       later OtherListeners is h = absurd cc
 
-      by : (r : Result Entrance TalkerFault) → entrance_with network s talker ≡ r → told_now s talker r ≡ Ok o →
+      by : (r : Result Entrance TalkerFault) → entrance_with network s talker ≡ r → reported_now s talker r ≡ Ok o →
           (e : Entrance) × (o ≡ Some e) × (entrance_with network s talker ≡ Ok e)
       by (Ok e) is h = let same : o ≡ Some e = cc in (e, same, is)
       by (Err why) is h = absurd (later why is h)

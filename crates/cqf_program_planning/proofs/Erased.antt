@@ -11,18 +11,18 @@ use Rattle.cqf_network_text.specs.NetworkLaws.{beginning_at}
 
 -- what is handed over, apart from when it begins
 abbrev pub erased : Handed → Handed
-erased h = record { place = h.place; octets = h.octets; shortest = h.shortest; traffic = option_map (beginning_at 0) h.traffic }
+erased h = record { index = h.index; octets = h.octets; shortest = h.shortest; traffic = option_map (beginning_at 0) h.traffic }
 
 abbrev pub all_erased : List (Option Handed) → List (Option Handed)
 all_erased all = map (option_map erased) all
 
-handed_to_erased : (place : ℕ) (all : List (Option Handed)) → handed_to place (all_erased all) ≡ map erased (handed_to place all)
-handed_to_erased place [] = refl
-handed_to_erased place (None ∷ all) = handed_to_erased place all
-handed_to_erased place (Some h ∷ all) = by (h.place == place) (handed_to_erased place all)
+handed_to_erased : (index : ℕ) (all : List (Option Handed)) → handed_to index (all_erased all) ≡ map erased (handed_to index all)
+handed_to_erased index [] = refl
+handed_to_erased index (None ∷ all) = handed_to_erased index all
+handed_to_erased index (Some h ∷ all) = by (h.index == index) (handed_to_erased index all)
   where
-    by : (b : Bool) → handed_to place (all_erased all) ≡ map erased (handed_to place all) →
-        (if b then erased h ∷ [] else []) ++ handed_to place (all_erased all) ≡ map erased ((if b then h ∷ [] else []) ++ handed_to place all)
+    by : (b : Bool) → handed_to index (all_erased all) ≡ map erased (handed_to index all) →
+        (if b then erased h ∷ [] else []) ++ handed_to index (all_erased all) ≡ map erased ((if b then h ∷ [] else []) ++ handed_to index all)
     by true rest = ap (λ (hs : List Handed). erased h ∷ hs) rest
     by false rest = rest
 
@@ -45,16 +45,16 @@ other_erased other (h ∷ all) =
     ap (λ (b : Bool). other_beside (larger other (if b then Some h.octets else None)) (map erased all)) (none_erased h.traffic)
     ∙ other_erased (larger other (unpromised h)) all
 
-bound_erased : (all : List (Option Handed)) (place : ℕ) (link : TalkerLink) → bound_for (all_erased all) place link ≡ bound_for all place link
-bound_erased all place link =
-    let there = handed_to_erased place all in
-    let others = ap (other_beside link.other) there ∙ other_erased link.other (handed_to place all) in
-    let promises = ap promises_in there ∙ promises_erased (handed_to place all) in
+bound_erased : (all : List (Option Handed)) (index : ℕ) (link : TalkerLink) → bound_for (all_erased all) index link ≡ bound_for all index link
+bound_erased all index link =
+    let there = handed_to_erased index all in
+    let others = ap (other_beside link.other) there ∙ other_erased link.other (handed_to index all) in
+    let promises = ap promises_in there ∙ promises_erased (handed_to index all) in
     (λ i. bound_of link (others i) (promises i))
 
-bounds_erased : (all : List (Option Handed)) (place : ℕ) (links : List TalkerLink) → bounds_from (all_erased all) place links ≡ bounds_from all place links
-bounds_erased all place [] = refl
-bounds_erased all place (link ∷ links) = (λ i. bound_erased all place link i ∷ bounds_erased all (place + 1) links i)
+bounds_erased : (all : List (Option Handed)) (index : ℕ) (links : List TalkerLink) → bounds_from (all_erased all) index links ≡ bounds_from all index links
+bounds_erased all index [] = refl
+bounds_erased all index (link ∷ links) = (λ i. bound_erased all index link i ∷ bounds_erased all (index + 1) links i)
 
 -- so links on which the same is handed over, apart from when it begins, have the same bounds
 pub bounds_alike : (network : NetworkDomain) (all others : List (Option Handed)) → all_erased all ≡ all_erased others → bounds_of network all ≡ bounds_of network others

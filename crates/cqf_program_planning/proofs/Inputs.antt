@@ -1,6 +1,6 @@
 -- What is known of a network that was read to be planned.
 use Rattle.std.proofs.Common.{◌≡◌, ◌∙◌, ◌++◌, ℕ, suc, List, [], ◌∷◌, Option, None, Result, Ok, Err, ap, length, map, refl, subst, sym}
-use Rattle.std.specs.Prelude.{option_map}
+use Rattle.std.specs.Prelude.{option_and_then}
 use Rattle.std.proofs.lemmas.List.{length-map}
 use Rattle.cqf_lists.specs.Results.{refuse}
 use Rattle.cqf_model.specs.declared.limits.Limits.{Limits}
@@ -11,9 +11,9 @@ use Rattle.cqf_network.specs.NetworkDomain.{NetworkDomain, open_network_of_text}
 use Rattle.cqf_network.specs.StreamsText.{StreamText, network_streams_of_text}
 use Rattle.cqf_edge.specs.declared.edge.Passage.{Passage}
 use Rattle.cqf_edge.specs.declared.entrances.Entrance.{Entrance}
-use Rattle.cqf_edge.specs.Edge.{times_on}
+use Rattle.cqf_edge.specs.Edge.{times_by}
 use Rattle.cqf_edge.specs.EdgeFlows.{passage_of}
-use Rattle.cqf_edge.specs.EdgeStreams.{EdgeStreamsText, edge_streams, entrance_of_stream, entrances_of, handed_at_each, streams_behind, streams_from}
+use Rattle.cqf_edge.specs.EdgeStreams.{EdgeStreamsText, edge_streams, entrance_of_stream, entrances_of, handed_at_each, streams_at_edge, streams_from}
 use Rattle.cqf_edge.specs.Uses.{bounds_of}
 use Rattle.cqf_network_text.proofs.CycleChosen.{domain_has_table}
 use Rattle.cqf_network_text.proofs.NetworkReading.{streams_have_table}
@@ -23,7 +23,7 @@ use Rattle.cqf_program_plans.specs.Edges.{full_line}
 use Rattle.cqf_program_plans.specs.Reserving.{flows_line}
 use Rattle.cqf_network.proofs.StreamParts.{and_first-Ok}
 use Rattle.cqf_program_placing.specs.declared.settled.Unsettled.{Unsettled}
-use Rattle.cqf_program_placing.specs.Settled.{SettledStream, open_domain, settled_behind, settled_next, settled_of}
+use Rattle.cqf_program_placing.specs.Settled.{SettledStream, open_domain, settled_after, settled_next, settled_of}
 use Rattle.cqf_program_planning.specs.PlanOutput.{PlanSource, settled_edges, planning_input, planning_parts, network_line, unentered_line, unsettled_line}
 use Rattle.cqf_program_planning.specs.Writing.{IsWritable}
 
@@ -98,26 +98,26 @@ entrances_many network (stream ∷ streams) entrances e =
     let both = and_first-Ok (entrance_of_stream network stream) (entrances_of network streams) entrances e in
     ap length both.all ∙ ap suc (entrances_many network streams both.more both.others_are)
 
-handed_many : (all : List StreamText) (entrances : List (Option Entrance)) → length entrances ≡ length all → length (handed_at_each all entrances) ≡ length all
-handed_many [] entrances e = refl
-handed_many (stream ∷ streams) [] e = e
-handed_many (stream ∷ streams) (entrance ∷ entrances) e = let entering : length entrances ≡ length streams = cc in ap suc (handed_many streams entrances entering)
+handed_many : (overhead : ℕ) (all : List StreamText) (entrances : List (Option Entrance)) → length entrances ≡ length all → length (handed_at_each overhead all entrances) ≡ length all
+handed_many overhead [] entrances e = refl
+handed_many overhead (stream ∷ streams) [] e = e
+handed_many overhead (stream ∷ streams) (entrance ∷ entrances) e = let entering : length entrances ≡ length streams = cc in ap suc (handed_many overhead streams entrances entering)
 
-behind_many : (network : NetworkDomain) (entrances : List (Option Entrance)) (ps : List (Option Passage)) (all : List StreamText) →
-    length entrances ≡ length all → length ps ≡ length all → length (streams_behind network entrances ps all) ≡ length all
-behind_many network entrances ps [] e f = refl
-behind_many network [] ps (stream ∷ streams) e f = e
-behind_many network (entrance ∷ entrances) [] (stream ∷ streams) e f = f
-behind_many network (entrance ∷ entrances) (p ∷ ps) (stream ∷ streams) e f =
+after_many : (network : NetworkDomain) (entrances : List (Option Entrance)) (ps : List (Option Passage)) (all : List StreamText) →
+    length entrances ≡ length all → length ps ≡ length all → length (streams_at_edge network entrances ps all) ≡ length all
+after_many network entrances ps [] e f = refl
+after_many network [] ps (stream ∷ streams) e f = e
+after_many network (entrance ∷ entrances) [] (stream ∷ streams) e f = f
+after_many network (entrance ∷ entrances) (p ∷ ps) (stream ∷ streams) e f =
     let entering : length entrances ≡ length streams = cc in
     let passing : length ps ≡ length streams = cc in
-    ap suc (behind_many network entrances ps streams entering passing)
+    ap suc (after_many network entrances ps streams entering passing)
 
 settled_many : (network : NetworkDomain) (d : Domain) (before : List (List ℕ)) (all : List StreamText) (settled : List SettledStream) →
-    settled_behind network d before all ≡ Ok settled → length settled ≡ length all
+    settled_after network d before all ≡ Ok settled → length settled ≡ length all
 settled_many network d before [] settled e = let nil : [] ≡ settled = cc in ap length (sym nil)
 settled_many network d before (stream ∷ streams) settled e =
-    let both = and_first-Ok (settled_next network d before stream) (settled_behind network d (before ++ stream.name ∷ []) streams) settled e in
+    let both = and_first-Ok (settled_next network d before stream) (settled_after network d (before ++ stream.name ∷ []) streams) settled e in
     ap length both.all ∙ ap suc (settled_many network d (before ++ stream.name ∷ []) streams both.more both.others_are)
 
 -- streams at their edge bridges, by where they enter
@@ -125,26 +125,26 @@ pub record AreEntered (network : NetworkDomain) (all : List StreamText) (edge : 
   pub entrances : List (Option Entrance)
   pub are : entrances_of network all ≡ Ok entrances
   pub as_many : length entrances ≡ length all
-  pub from : edge ≡ streams_from network all entrances (handed_at_each all entrances)
+  pub from : edge ≡ streams_from network all entrances (handed_at_each network.overhead all entrances)
 
 pub entered : (network : NetworkDomain) (all : List StreamText) (edge : EdgeStreamsText) → edge_streams network all ≡ Ok edge → AreEntered network all edge
 entered network all edge e =
-    let (entrances, are, made) = and_then-Ok (entrances_of network all) (λ entrances. Ok (streams_from network all entrances (handed_at_each all entrances)))
+    let (entrances, are, made) = and_then-Ok (entrances_of network all) (λ entrances. Ok (streams_from network all entrances (handed_at_each network.overhead all entrances)))
     edge e in
     record { entrances = entrances; are = are; as_many = entrances_many network all entrances are; from = cc }
 
 -- what is read may be written
 times_many : (network : NetworkDomain) (all : List StreamText) (edge : EdgeStreamsText) (settled : List SettledStream) (entrances : List (Option Entrance)) →
-    length entrances ≡ length all → edge ≡ streams_from network all entrances (handed_at_each all entrances) →
+    length entrances ≡ length all → edge ≡ streams_from network all entrances (handed_at_each network.overhead all entrances) →
     settled_of network edge.streams ≡ Ok settled → length edge.times ≡ length settled
 times_many network all edge settled entrances many from e =
-    let handed = handed_at_each all entrances in
+    let handed = handed_at_each network.overhead all entrances in
     let passages = map (passage_of network (bounds_of network handed)) handed in
-    let few : length handed ≡ length all = handed_many all entrances many in
+    let few : length handed ≡ length all = handed_many network.overhead all entrances many in
     let passing : length passages ≡ length handed = length-map handed (passage_of network (bounds_of network handed)) in
-    let timed : length (map (option_map times_on) passages) ≡ length passages = length-map passages (option_map times_on) in
+    let timed : length (map (option_and_then times_by) passages) ≡ length passages = length-map passages (option_and_then times_by) in
     let through : length passages ≡ length all = passing ∙ few in
-    ap (λ (x : EdgeStreamsText). length x.times) from ∙ timed ∙ through ∙ sym (behind_many network entrances passages all many through)
+    ap (λ (x : EdgeStreamsText). length x.times) from ∙ timed ∙ through ∙ sym (after_many network entrances passages all many through)
     ∙ ap (λ (x : EdgeStreamsText). length x.streams) (sym from) ∙ sym (settled_many network (open_domain network) [] edge.streams settled e)
 
 pub writable : (limits : Limits) (given : Option (List ℕ)) (source : PlanSource) → IsInput limits given source → IsWritable source

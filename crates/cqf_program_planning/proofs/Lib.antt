@@ -1,6 +1,6 @@
 mod AllPlaced
 mod SoundPlans
-mod InTurns
+mod InActiveCycles
 mod PlacedLemmas
 mod TriedLemmas
 mod TextLemmas
@@ -12,8 +12,8 @@ pub mod ReadNetworks
 pub mod Inputs
 mod Rounds
 mod Erased
-mod PlacedWays
-mod Retold
+mod PlacedPaths
+mod WithOffset
 mod EndsRead
 mod Ones
 mod Entered
@@ -23,7 +23,7 @@ mod AgainTables
 mod ReadBack
 mod Shallow
 mod Strict
-mod ToldPlans
+mod WrittenPlans
 mod OrderSteps
 mod OrderLemmas
 mod OtherOrders

@@ -32,9 +32,9 @@ asked_from index order outcomes k = asked_at index (drop k order) (map outcome_v
 
 -- whether the path of a stream is to be found
 pub open_there : (streams : List Settled) (index : ℕ) (stream : Settled) → index < length streams → stream ≡ get_or streams index stream →
-    is_open_at (map settled_value streams) index ≡ is_open (settled_value stream).way
+    is_open_at (map settled_value streams) index ≡ is_open (settled_value stream).path
 open_there streams index stream low is =
-    ap (λ (found : Option SettledStream). option_map_or (λ (s : SettledStream). is_open s.way) found false)
+    ap (λ (found : Option SettledStream). option_map_or (λ (s : SettledStream). is_open s.path) found false)
     (slice_get-map settled_value streams index
     ∙ ap (option_map settled_value) (slice_get-get_or streams index stream low ∙ ap Some (sym is)))
 
@@ -56,20 +56,20 @@ module _ (order : List ℕ) (k : ℕ) (low : k < length order) where
   order_rest = drop_more order k 0 low
 
   module _ (streams : List Settled) (stream : Settled) (inside : get_or order k 0 < length streams) (stream_is : stream ≡ get_or streams (get_or order k 0) stream) (first : ℕ) where
-    open_next : open_from streams order first k ≡ (if is_open (settled_value stream).way then get_or order k 0 == first else open_from streams order first (k + 1))
+    open_next : open_from streams order first k ≡ (if is_open (settled_value stream).path then get_or order k 0 == first else open_from streams order first (k + 1))
     open_next =
         ap (λ (rest : List ℕ). is_first_open (map settled_value streams) rest first) order_rest
         ∙ ap (λ (movable : Bool). if movable then get_or order k 0 == first else open_from streams order first (k + 1)) (open_there streams (get_or order k 0) stream inside stream_is)
 
     -- it is open, or it isn't
-    pub open_here : is_open (settled_value stream).way ≡ true → open_from streams order first k ≡ (get_or order k 0 == first)
+    pub open_here : is_open (settled_value stream).path ≡ true → open_from streams order first k ≡ (get_or order k 0 == first)
     open_here movable = open_next ∙ ap (λ (b : Bool). if b then get_or order k 0 == first else open_from streams order first (k + 1)) movable
 
-    pub open_later : is_open (settled_value stream).way ≡ false → open_from streams order first k ≡ open_from streams order first (k + 1)
+    pub open_later : is_open (settled_value stream).path ≡ false → open_from streams order first k ≡ open_from streams order first (k + 1)
     open_later movable = open_next ∙ ap (λ (b : Bool). if b then get_or order k 0 == first else open_from streams order first (k + 1)) movable
 
     -- one more has moved
-    pub moved_step : (carried : Option ℕ) (step : ℕ × Option ℕ) (whole done after : List ℕ) → step ≡ step_of (is_open (settled_value stream).way) first carried (get_or order k 0) →
+    pub moved_step : (carried : Option ℕ) (step : ℕ × Option ℕ) (whole done after : List ℕ) → step ≡ step_of (is_open (settled_value stream).path) first carried (get_or order k 0) →
         whole ≡ done ++ rest_moved streams order first k carried → after ≡ done ++ step.0 ∷ [] →
         whole ≡ after ++ rest_moved streams order first (k + 1) step.1
     moved_step carried step whole done after step_is so_far put =
@@ -112,7 +112,7 @@ module _ (order : List ℕ) (k : ℕ) (low : k < length order) where
 
     -- whether all may be helped
     module _ (streams : List Settled) (stream : Settled) (inside : get_or order k 0 < length streams) (stream_is : stream ≡ get_or streams (get_or order k 0) stream) (helped : Bool)
-        (helped_is : helped ≡ may_be_helped (is_open (settled_value stream).way) (outcome_value outcome)) where
+        (helped_is : helped ≡ may_be_helped (is_open (settled_value stream).path) (outcome_value outcome)) where
       pub helped_next : helped_from streams order outcomes k ≡ (helped && helped_from streams order outcomes (k + 1))
       helped_next =
           (λ i. may_all_be_helped (map settled_value streams) (order_rest i) (map outcome_value (outcomes_rest i)))

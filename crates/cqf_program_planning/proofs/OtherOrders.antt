@@ -134,22 +134,22 @@ pub same_entries : (x y : List Recorded) → ◌≡◌ {A = Result (List Recorde
 same_entries x y e = cc
 
 -- a request that isn't refused, before others
-pub admitted_parts : (d : Domain) (entries end : List Recorded) (place : ℕ) (asked : Asked) (more : List Asked) (refusal : Option Refused) →
+pub admitted_parts : (d : Domain) (entries end : List Recorded) (index : ℕ) (asked : Asked) (more : List Asked) (refusal : Option Refused) →
     refusal_of d (held_in d entries (seals entries)) asked ≡ refusal →
-    refuse refusal (stream_line place) (admitted_from d (with_asked d entries asked) (place + 1) more) ≡ Ok end →
-    (refusal_of d (held_in d entries (seals entries)) asked ≡ None) × (admitted_from d (with_asked d entries asked) (place + 1) more ≡ Ok end)
-admitted_parts d entries end place asked more None is h = (is, h)
-admitted_parts d entries end place asked more (Some refused) is h = absurd (cc)
+    refuse refusal (stream_line index) (admitted_from d (with_asked d entries asked) (index + 1) more) ≡ Ok end →
+    (refusal_of d (held_in d entries (seals entries)) asked ≡ None) × (admitted_from d (with_asked d entries asked) (index + 1) more ≡ Ok end)
+admitted_parts d entries end index asked more None is h = (is, h)
+admitted_parts d entries end index asked more (Some refused) is h = absurd (cc)
 
 -- streams whose requests are all admitted are all granted
-granted_again : (d : Domain) (place : ℕ) (streams : List SettledStream) (requests : List Asked) (entries end : List Recorded) → SealsAreCounted →
-    AreEachPlaced d streams (map Placed requests) → admitted_from d entries place requests ≡ Ok end →
+granted_again : (d : Domain) (index : ℕ) (streams : List SettledStream) (requests : List Asked) (entries end : List Recorded) → SealsAreCounted →
+    AreEachPlaced d streams (map Placed requests) → admitted_from d entries index requests ≡ Ok end →
     AreAllGranted d entries streams (flows_placed d.cycle_time streams (map Placed requests)) end
-granted_again d place [] [] entries end counted pairs h = no_stream d entries end (sym (same_entries entries end h))
-granted_again d place [] (asked ∷ more) entries end counted pairs h = absurd pairs
-granted_again d place (stream ∷ streams) [] entries end counted pairs h = absurd pairs
-granted_again d place (stream ∷ streams) (asked ∷ more) entries end counted pairs h =
-    let parts = admitted_parts d entries end place asked more (refusal_of d (held_in d entries (seals entries)) asked) refl h in
+granted_again d index [] [] entries end counted pairs h = no_stream d entries end (sym (same_entries entries end h))
+granted_again d index [] (asked ∷ more) entries end counted pairs h = absurd pairs
+granted_again d index (stream ∷ streams) [] entries end counted pairs h = absurd pairs
+granted_again d index (stream ∷ streams) (asked ∷ more) entries end counted pairs h =
+    let parts = admitted_parts d entries end index asked more (refusal_of d (held_in d entries (seals entries)) asked) refl h in
     let known = granted_somewhere d stream asked pairs.0 in
     let granted : IsGranted d entries stream asked (with_asked d entries asked) = record {
       named = known.named;
@@ -160,7 +160,7 @@ granted_again d place (stream ∷ streams) (asked ∷ more) entries end counted 
       entered = refl;
     } in
     one_stream d entries (with_asked d entries asked) end stream streams asked (flows_placed d.cycle_time streams (map Placed more)) counted granted
-    (granted_again d (place + 1) streams more (with_asked d entries asked) end counted pairs.1 parts.1)
+    (granted_again d (index + 1) streams more (with_asked d entries asked) end counted pairs.1 parts.1)
 
 -- ---- a good order
 

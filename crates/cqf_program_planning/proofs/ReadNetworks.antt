@@ -22,7 +22,7 @@ use Rattle.cqf_program_plans.specs.Edges.{full_line}
 use Rattle.cqf_program_plans.specs.Reserving.{flows_line}
 use Rattle.cqf_program_scenario.specs.Parts.{two_parts}
 use Rattle.cqf_output.specs.Stops.{or_line}
-use Rattle.cqf_program_placing.specs.Room.{MayBeWays, PlacedWhereThereIsRoom}
+use Rattle.cqf_program_placing.specs.Room.{MayBePaths, PlacedWhereThereIsRoom}
 use Rattle.cqf_program_placing.specs.Settled.{SettledStream, settled_of}
 use Rattle.cqf_program_placing.proofs.StreamsRead.{streams_read}
 use Rattle.cqf_program_planning.specs.PlanLaws.{NetworksArePlacedByRoom}
@@ -80,7 +80,7 @@ edges_settled network edge streams e =
 
 -- so the streams of an input are placed if there is room
 pub networks_are_placed : PlacedWhereThereIsRoom → NetworksArePlacedByRoom
-networks_are_placed law limits given input source cycle placed ways are e is_open placed_at =
+networks_are_placed law limits given input source cycle placed link_paths are e is_open placed_at =
     let (parts, two, e1) = and_then-Ok (two_parts (parts_of input)) _ source e in
     let (network, of_domain, e2) = and_then-Ok (or_line network_line (open_network_of_text limits given parts.0)) _ source e1 in
     let (texts, of_streams, e3) = and_then-Ok (or_line flows_line (network_streams_of_text parts.1)) _ source e2 in
@@ -91,8 +91,8 @@ networks_are_placed law limits given input source cycle placed ways are e is_ope
     let found = or_line-Ok network_line (open_network_of_text limits given parts.0) network of_domain in
     let is_network = read_is_network limits given parts.0 network are found in
     let read = or_line-Ok flows_line (network_streams_of_text parts.1) texts of_streams in
-    let as_said : MayBeWays network.limits = subst MayBeWays (sym (read_limits limits given parts.0 network found)) ways in
-    let may_be : MayBeWays source.domain.limits = subst (λ (s : PlanSource). MayBeWays s.domain.limits) same as_said in
+    let as_said : MayBePaths network.limits = subst MayBePaths (sym (read_limits limits given parts.0 network found)) link_paths in
+    let may_be : MayBePaths source.domain.limits = subst (λ (s : PlanSource). MayBePaths s.domain.limits) same as_said in
     let is : IsNetwork source.domain = subst (λ (s : PlanSource). IsNetwork s.domain) same is_network in
     law source.domain edge.streams source.streams cycle placed is may_be is_open
     (edges_read network texts edge is_network.has_talkers (streams_read parts.1 texts read) (streams_written parts.1 texts read)

@@ -3,6 +3,7 @@ use Rattle.std.proofs.Common.{◌≡◌, ◌∙◌, ◌+◌, ◌-◌, ◌*◌, �
 use Rattle.std.proofs.Math.Nat.{add-mod-mod, add-mod_right, div-mul-le_self, div-zero, lt-div-mul-add, mod-add-mod, mod-lt, mul-le-mul_right}
 use Rattle.std.proofs.lemmas.Bool.{cases_lt}
 use Rattle.cqf_laws_timing.specs.Traffic.{Traffic, needed}
+use Rattle.cqf_units.specs.Timing.{counted_of}
 
 -- from an instant that is before another one by as long as it takes from there, and some rounds, it takes until the same place of a round
 pub comes_round : (at taken round : ℕ) → 0 < round → ((at + round - taken % round) % round + taken) % round ≡ at % round
@@ -41,13 +42,13 @@ div_less a b (suc n) h = elim (cases_lt (b / suc n) (a / suc n)) [
 ]
 
 -- less jitter needs no more
-pub needs_no_more : (cycle_time : ℕ) (t there : Traffic) → there.interval ≡ t.interval → there.frames ≡ t.frames → there.size ≡ t.size →
-    there.jitter ≤ t.jitter → needed cycle_time there ≤ needed cycle_time t
-needs_no_more cycle_time t there interval frames size less =
+pub needs_no_more : (overhead cycle_time : ℕ) (t there : Traffic) → there.interval ≡ t.interval → there.frames ≡ t.frames → there.size ≡ t.size →
+    there.jitter ≤ t.jitter → needed overhead cycle_time there ≤ needed overhead cycle_time t
+needs_no_more overhead cycle_time t there interval frames size less =
     let sum : cycle_time + there.jitter + t.interval - 1 ≤ cycle_time + t.jitter + t.interval - 1 = omega (arith, less) in
-    let parts : (cycle_time + there.jitter + t.interval - 1) / t.interval * t.frames * t.size ≤ needed cycle_time t =
-    mul-le-mul_right t.size (mul-le-mul_right t.frames
+    let parts : (cycle_time + there.jitter + t.interval - 1) / t.interval * t.frames * counted_of overhead t.size ≤ needed overhead cycle_time t =
+    mul-le-mul_right (counted_of overhead t.size) (mul-le-mul_right t.frames
     (div_less (cycle_time + there.jitter + t.interval - 1) (cycle_time + t.jitter + t.interval - 1) t.interval sum)) in
-    let same : needed cycle_time there ≡ (cycle_time + there.jitter + t.interval - 1) / t.interval * t.frames * t.size =
-    (λ i. (cycle_time + there.jitter + interval i - 1) / interval i * frames i * size i) in
+    let same : needed overhead cycle_time there ≡ (cycle_time + there.jitter + t.interval - 1) / t.interval * t.frames * counted_of overhead t.size =
+    (λ i. (cycle_time + there.jitter + interval i - 1) / interval i * frames i * counted_of overhead (size i)) in
     omega (arith, parts, same)

@@ -33,14 +33,14 @@ use Rattle.cqf_program_planning.proofs.TriedLemmas.{each_placed, length-placed}
 -- ---- streams that are judged once more
 
 -- admissions close no cycle
-admitted_no_seal : (d : Domain) (place : ℕ) (requests : List Asked) (entries end : List Recorded) → SealsAreCounted →
-    admitted_from d entries place requests ≡ Ok end → seals end ≡ seals entries
-admitted_no_seal d place [] entries end counted h = ap seals (sym (same_entries entries end h))
-admitted_no_seal d place (asked ∷ more) entries end counted h =
-    let parts = admitted_parts d entries end place asked more (refusal_of d (held_in d entries (seals entries)) asked) refl h in
+admitted_no_seal : (d : Domain) (index : ℕ) (requests : List Asked) (entries end : List Recorded) → SealsAreCounted →
+    admitted_from d entries index requests ≡ Ok end → seals end ≡ seals entries
+admitted_no_seal d index [] entries end counted h = ap seals (sym (same_entries entries end h))
+admitted_no_seal d index (asked ∷ more) entries end counted h =
+    let parts = admitted_parts d entries end index asked more (refusal_of d (held_in d entries (seals entries)) asked) refl h in
     let one : seals (with_asked d entries asked) ≡ seals entries + 0 = counted entries 0 (Admits asked) (reply_to d entries (Admits asked)) in
     let rest : seals end ≡ seals (with_asked d entries asked) =
-    admitted_no_seal d (place + 1) more (with_asked d entries asked) end counted parts.1 in
+    admitted_no_seal d (index + 1) more (with_asked d entries asked) end counted parts.1 in
     omega (arith, one, rest)
 
 -- a fault is there or isn't

@@ -16,7 +16,7 @@ use Rattle.cqf_traffic.specs.Keys.{key_text as traffic_key_text}
 use Rattle.cqf_network_text.specs.declared.filling.FilledStream.{FilledStream}
 use Rattle.cqf_network_text.specs.DomainMembers.{put, texts_data}
 use Rattle.cqf_network_text.specs.Networks.{array_at, array_or_none, filled_item, filled_network, filled_stream, filled_streams, has_branches, streams_of}
-use Rattle.cqf_network_text.specs.Networks.{turns_by, with_octets, with_way}
+use Rattle.cqf_network_text.specs.Networks.{active_cycles_by, with_octets, with_path}
 use Rattle.cqf_network_text.specs.StreamMembers.{branches_data, put_branches}
 
 -- a value that is put into a table
@@ -24,14 +24,14 @@ put_shallow : (key : List ℕ) (d : Data) (members : Members) (n : ℕ) → dept
 put_shallow key d no_members n own all = omega arith
 put_shallow key d (member other that more) n own all =
     let here : depth that ≤ n = omega arith in
-    let behind : members_depth more ≤ n = omega arith in
-    by (slice_cmp nat_cmp key other) here behind (put_shallow key d more n own behind)
+    let following : members_depth more ≤ n = omega arith in
+    by (slice_cmp nat_cmp key other) here following (put_shallow key d more n own following)
   where
     by : (o : Ordering) → depth that ≤ n → members_depth more ≤ n → members_depth (put key d more) ≤ n →
         members_depth (match_ordering o (member key d (member other that more)) (member other d more) (member other that (put key d more))) ≤ n
-    by Less here behind rest = omega arith
-    by Equal here behind rest = omega arith
-    by Greater here behind rest = omega arith
+    by Less here following rest = omega arith
+    by Equal here following rest = omega arith
+    by Greater here following rest = omega arith
 
 -- names, and paths of them
 names_shallow : (names : List (List ℕ)) → items_depth (items_of (map string names)) ≤ 0
@@ -58,16 +58,16 @@ number_put : (key : List ℕ) (number : ℕ) (members : Members) (n : ℕ) → m
 number_put key number members n all = put_shallow key (integer (pos number)) members n (omega arith) all
 
 -- a stream's table
-way_shallow : (filled : FilledStream) (members : Members) (n : ℕ) → 2 ≤ n → members_depth members ≤ n → members_depth (with_way filled members) ≤ n
-way_shallow filled members n some all = by (has_branches members)
+path_shallow : (filled : FilledStream) (members : Members) (n : ℕ) → 2 ≤ n → members_depth members ≤ n → members_depth (with_path filled members) ≤ n
+path_shallow filled members n some all = by (has_branches members)
   where
     by : (b : Bool) → members_depth (if b then members else put_branches (paced_text filled.request).paths members) ≤ n
     by true = all
     by false = branches_put (paced_text filled.request).paths members n some all
 
-turns_shallow : (request : PacedRequest) (offset : Option ℕ) (members : Members) (n : ℕ) → members_depth members ≤ n → members_depth (turns_by request offset members) ≤ n
-turns_shallow request None _ n all = all
-turns_shallow request (Some offset) members n all =
+active_cycles_shallow : (request : PacedRequest) (offset : Option ℕ) (members : Members) (n : ℕ) → members_depth members ≤ n → members_depth (active_cycles_by request offset members) ≤ n
+active_cycles_shallow request None _ n all = all
+active_cycles_shallow request (Some offset) members n all =
     let first = number_put (key_text Every) request.every members n all in
     let second = number_put (key_text Phase) request.phase (put (key_text Every) (integer (pos request.every)) members) n first in
     number_put (traffic_key_text Offset) offset
@@ -76,7 +76,7 @@ turns_shallow request (Some offset) members n all =
 stream_shallow : (filled : FilledStream) (members : Members) (n : ℕ) → 2 ≤ n → members_depth members ≤ n → members_depth (filled_stream filled members) ≤ n
 stream_shallow filled members n some all =
     let octets = number_put (key_text Octets) filled.request.octets members n all in
-    turns_shallow filled.request filled.offset (with_way filled (with_octets filled members)) n (way_shallow filled (with_octets filled members) n some octets)
+    active_cycles_shallow filled.request filled.offset (with_path filled (with_octets filled members)) n (path_shallow filled (with_octets filled members) n some octets)
 
 item_shallow : (filled : FilledStream) (d : Data) (n : ℕ) → 3 ≤ n → depth d ≤ n → depth (filled_item filled d) ≤ n
 item_shallow filled (string s) n some all = all
@@ -98,7 +98,7 @@ streams_shallow (one ∷ rest) (item d ds) n some all =
     let own : depth d ≤ n = omega arith in
     let others : items_depth ds ≤ n = omega arith in
     let here : depth (filled_item one d) ≤ n = item_shallow one d n some own in
-    let behind : items_depth (filled_streams rest ds) ≤ n = streams_shallow rest ds n some others in
+    let following : items_depth (filled_streams rest ds) ≤ n = streams_shallow rest ds n some others in
     omega arith
 
 -- a value of a table
@@ -106,8 +106,8 @@ member_shallow : (key : List ℕ) (members : Members) (d : Data) (n : ℕ) → m
 member_shallow key no_members d n all is = absurd cc
 member_shallow key (member other that more) d n all is =
     let here : depth that ≤ n = omega arith in
-    let behind : members_depth more ≤ n = omega arith in
-    by (slice_cmp nat_cmp key other) here (λ later. member_shallow key more d n behind later) is
+    let following : members_depth more ≤ n = omega arith in
+    by (slice_cmp nat_cmp key other) here (λ later. member_shallow key more d n following later) is
   where
     by : (o : Ordering) → depth that ≤ n → (get_member key more ≡ Some d → depth d ≤ n) →
         match_ordering o (get_member key more) (Some that) (get_member key more) ≡ Some d → depth d ≤ n

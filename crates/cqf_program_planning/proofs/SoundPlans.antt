@@ -19,26 +19,26 @@ use Rattle.cqf_program_placing.specs.Settled.{SettledStream}
 use Rattle.cqf_program_planning.specs.declared.choosing.Search.{Search}
 use Rattle.cqf_program_planning.specs.Choosing.{IsPlanned}
 use Rattle.cqf_program_planning.specs.Judging.{deadlines_placed, first_late, first_unplaced, flow_of, flows_placed, latencies_placed, those_placed}
-use Rattle.cqf_program_planning.specs.PlanLaws.{IsSoundPlan, ReservesEnough, ToldPlanIsAdmitted, deadlines_of}
+use Rattle.cqf_program_planning.specs.PlanLaws.{IsSoundPlan, ReservesEnough, WrittenPlanIsAdmitted, deadlines_of}
 use Rattle.cqf_program_planning.proofs.AllPlaced.{AreAllGranted, all_in_time, neither}
 use Rattle.cqf_program_planning.proofs.Tried.{tried_known}
 
 -- a stream that reserves enough lacks nothing
-lacks_nothing : (cycle_time place octets : ℕ) (traffic : Option TrafficText) → ForSome traffic (λ (t : TrafficText). needed cycle_time (promise_of t) ≤ octets) →
-    lack_at cycle_time place octets traffic ≡ None
-lacks_nothing cycle_time place octets None enough = refl
-lacks_nothing cycle_time place octets (Some t) enough =
-    let need : ℕ = needed cycle_time (promise_of t) in
+lacks_nothing : (overhead cycle_time index octets : ℕ) (traffic : Option TrafficText) → ForSome traffic (λ (t : TrafficText). needed overhead cycle_time (promise_of t) ≤ octets) →
+    lack_at overhead cycle_time index octets traffic ≡ None
+lacks_nothing overhead cycle_time index octets None enough = refl
+lacks_nothing overhead cycle_time index octets (Some t) enough =
+    let need : ℕ = needed overhead cycle_time (promise_of t) in
     let no_less : nat_lt octets need ≡ false = le-ltb octets need (enough t refl) in
     cond-false (nat_lt octets need) _ None no_less
 
-pub none_lacks : (cycle_time place : ℕ) (flows : List FlowText) → All (ReservesEnough cycle_time) flows → first_lack cycle_time place (map planned_octets flows) ≡ None
-none_lacks cycle_time place [] enough = refl
-none_lacks cycle_time place (flow ∷ flows) enough =
-    let first : ReservesEnough cycle_time flow = enough 0 flow (omega arith) in
-    let rest : All (ReservesEnough cycle_time) flows = λ k other within. enough (suc k) other (omega (arith, within)) in
-    ap (λ o. option_or o (first_lack cycle_time (place + 1) (map planned_octets flows))) (lacks_nothing cycle_time place flow.0.0.octets flow.1 first)
-    ∙ none_lacks cycle_time (place + 1) flows rest
+pub none_lacks : (overhead cycle_time index : ℕ) (flows : List FlowText) → All (ReservesEnough overhead cycle_time) flows → first_lack overhead cycle_time index (map planned_octets flows) ≡ None
+none_lacks overhead cycle_time index [] enough = refl
+none_lacks overhead cycle_time index (flow ∷ flows) enough =
+    let first : ReservesEnough overhead cycle_time flow = enough 0 flow (omega arith) in
+    let rest : All (ReservesEnough overhead cycle_time) flows = λ k other within. enough (suc k) other (omega (arith, within)) in
+    ap (λ o. option_or o (first_lack overhead cycle_time (index + 1) (map planned_octets flows))) (lacks_nothing overhead cycle_time index flow.0.0.octets flow.1 first)
+    ∙ none_lacks overhead cycle_time (index + 1) flows rest
 
 -- if all streams are placed and none may be late, the plan is sound
 sound_of : (streams : List SettledStream) (placed : PlacedStreams) →
@@ -59,7 +59,7 @@ sound_of streams placed all in_time =
       entries = placed.entries;
       admitted = all.admitted 1;
       enough = all.enough;
-      none_lacks = none_lacks d.cycle_time 1 flows all.enough;
+      none_lacks = none_lacks d.overhead d.cycle_time 1 flows all.enough;
       in_time = all_in_time (latencies_of d (held_in d placed.entries 0) (deadlines_of flows)) there;
     }
 
@@ -78,8 +78,8 @@ plan_granted counted network streams search d flows plan =
     subst₂ (λ (there : Domain) (those : List FlowText). AreGranted there [] (map asked_in those)) (sym plan.domain_is) (sym plan.flows_are)
     (planned_granted counted network streams search d flows plan).granted
 
-pub told_plan_is_admitted : SealsAreCounted → ToldPlanIsAdmitted
-told_plan_is_admitted counted network streams search d flows plan =
+pub written_plan_is_admitted : SealsAreCounted → WrittenPlanIsAdmitted
+written_plan_is_admitted counted network streams search d flows plan =
     let placed = plan.placed in
     let good = neither (first_unplaced streams placed.outcomes) (first_late (latencies_placed streams placed)) plan.good in
     let all = planned_granted counted network streams search d flows plan in

@@ -10,7 +10,7 @@ use Rattle.cqf_model.specs.History.{most_beside}
 use Rattle.cqf_laws_timing.specs.Verdicts.{InTime, Late, MayBeLate, sure_of}
 use Rattle.cqf_edge.specs.declared.edge.AccessTimes.{AccessTimes}
 use Rattle.cqf_program_plans.specs.declared.latency.latencies.Latency.{Latency}
-use Rattle.cqf_program_plans.specs.Latency.Text.{deadline_of, is_not_sure, latencies_from, latencies_of, latencies_of_row, latency_behind, latency_to, listeners_of, may_miss}
+use Rattle.cqf_program_plans.specs.Latency.Text.{deadline_of, is_not_sure, latencies_from, latencies_of, latencies_of_row, latency_from_talker, latency_to, listeners_of, may_miss}
 use Rattle.cqf_program_plans.specs.Latency.Text.{said_of_latency, times_of}
 
 -- a deadline as it is written, what is left of it at the edge bridge, and how long frames take there
@@ -34,11 +34,11 @@ is_in_time least most deadline h =
     ap (λ (b : Bool). may_miss (Some (said_of_latency (cond b InTime (cond (nat_lt deadline least) Late MayBeLate))))) (le-leb most deadline h)
 
 module _ (d : Domain) (cost : ℕ) (row : Row) (written left : Option ℕ) (times : Option AccessTimes) (is_left : IsLeft written left times) where
-  one_in_time : (hop : Hop) → is_not_sure (latency_to d cost row left hop) ≡ false → is_not_sure (latency_behind times (latency_to d cost row written hop)) ≡ false
+  one_in_time : (hop : Hop) → is_not_sure (latency_to d cost row left hop) ≡ false → is_not_sure (latency_from_talker times (latency_to d cost row written hop)) ≡ false
   one_in_time hop h = by written left times is_left h
     where
       by : (w l : Option ℕ) (t : Option AccessTimes) → IsLeft w l t → is_not_sure (latency_to d cost row l hop) ≡ false →
-          is_not_sure (latency_behind t (latency_to d cost row w hop)) ≡ false
+          is_not_sure (latency_from_talker t (latency_to d cost row w hop)) ≡ false
       by w l None is h = subst (λ (x : Option ℕ). is_not_sure (latency_to d cost row x hop) ≡ false) is h
       by None l (Some t) is h = refl
       by (Some deadline) l (Some t) is h =
@@ -86,20 +86,20 @@ map_twice f g (x ∷ xs) = ap (λ ys. f (g x) ∷ ys) (map_twice f g xs)
 rows_in_time : (d : Domain) (table rows : List Row) (written left : List (Option ℕ)) (times : List (Option AccessTimes)) →
     ((n : ℕ) → IsLeft (deadline_of written n) (deadline_of left n) (times_of times n)) →
     find is_not_sure (flat_map (λ (row : Row). latencies_of_row d table row (deadline_of left row.no)) rows) ≡ None →
-    find is_not_sure (flat_map (λ (row : Row). map (latency_behind (times_of times row.no)) (latencies_of_row d table row (deadline_of written row.no))) rows) ≡ None
+    find is_not_sure (flat_map (λ (row : Row). map (latency_from_talker (times_of times row.no)) (latencies_of_row d table row (deadline_of written row.no))) rows) ≡ None
 rows_in_time d table [] written left times each h = refl
 rows_in_time d table (row ∷ rows) written left times each h =
     let both = none_first is_not_sure (latencies_of_row d table row (deadline_of left row.no))
     (flat_map (λ (row : Row). latencies_of_row d table row (deadline_of left row.no)) rows) h in
     let here = none_again is_not_sure (λ (hop : Hop). latency_to d (most_beside table row.tree.items row.pace hop.link) row (deadline_of left row.no) hop)
-    (λ (hop : Hop). latency_behind (times_of times row.no)
+    (λ (hop : Hop). latency_from_talker (times_of times row.no)
     (latency_to d (most_beside table row.tree.items row.pace hop.link) row (deadline_of written row.no) hop)) (listeners_of d row)
     (λ hop. one_in_time d (most_beside table row.tree.items row.pace hop.link) row (deadline_of written row.no) (deadline_of left row.no)
     (times_of times row.no) (each row.no) hop) both.0 in
-    let mapped = map_twice (latency_behind (times_of times row.no))
+    let mapped = map_twice (latency_from_talker (times_of times row.no))
     (λ (hop : Hop). latency_to d (most_beside table row.tree.items row.pace hop.link) row (deadline_of written row.no) hop) (listeners_of d row) in
-    none_of_both is_not_sure (map (latency_behind (times_of times row.no)) (latencies_of_row d table row (deadline_of written row.no)))
-    (flat_map (λ (row : Row). map (latency_behind (times_of times row.no)) (latencies_of_row d table row (deadline_of written row.no))) rows)
+    none_of_both is_not_sure (map (latency_from_talker (times_of times row.no)) (latencies_of_row d table row (deadline_of written row.no)))
+    (flat_map (λ (row : Row). map (latency_from_talker (times_of times row.no)) (latencies_of_row d table row (deadline_of written row.no))) rows)
     (ap (find is_not_sure) mapped ∙ here) (rows_in_time d table rows written left times each both.1)
 
 -- so all are in time from their talkers

@@ -4,10 +4,10 @@ use Rattle.std.specs.Prelude.{⊤}
 use Rattle.std.proofs.lemmas.List.Elements.{All-cons, All-nil, All-tail, All-head}
 use Rattle.cqf_model.specs.Domain.{Domain}
 use Rattle.cqf_model.specs.History.{Asked, Recorded}
-use Rattle.cqf_program_placing.specs.Placing.{ArePlacedFrom, BeginsEarly, IsPlacing, PlacedOr, Placed, Unplaced, reserved_on, turns_on}
+use Rattle.cqf_program_placing.specs.Placing.{ArePlacedFrom, BeginsEarly, IsPlacing, PlacedOr, Placed, Unplaced, reserved_on, active_cycles_on}
 use Rattle.cqf_program_placing.specs.Settled.{IsPlaceable, SettledStream, is_paced}
-use Rattle.cqf_program_placing.specs.Turns.{IsGoodEvery}
-use Rattle.cqf_program_placing.proofs.Stepping.{every_is_good_in, first_is_early, turns_good}
+use Rattle.cqf_program_placing.specs.ActiveCycles.{IsGoodEvery}
+use Rattle.cqf_program_placing.proofs.Stepping.{active_cycles_good, every_is_good_in, first_is_early}
 use Rattle.cqf_program_planning.specs.Judging.{first_unplaced, flow_of, flows_placed}
 use Rattle.cqf_program_planning.specs.Steps.{AreTurned, IsTurned}
 use Rattle.cqf_program_planning.proofs.AllPlaced.{IsGranted, granted_by}
@@ -53,7 +53,7 @@ length-placed d (stream ∷ streams) (become ∷ more) h = ap (λ n. suc n) (len
 -- a stream that is placed is granted
 pub granted_somewhere : (d : Domain) (stream : SettledStream) (asked : Asked) → (is : IsPlacedSomewhere d stream asked) →
     IsGranted d is.entries stream asked is.after
-granted_somewhere d stream asked is = granted_by d is.entries stream (reserved_on d.cycle_time d.sync stream) asked is.after refl is.placed
+granted_somewhere d stream asked is = granted_by d is.entries stream (reserved_on d.overhead d.cycle_time d.sync stream) asked is.after refl is.placed
 
 -- so it is offered early
 one_early : (d : Domain) (stream : SettledStream) (become : PlacedOr) → is_paced stream.pacing ≡ true → IsPlacedIf d stream become → BeginsEarly become
@@ -78,7 +78,7 @@ one_turned : (d : Domain) (stream : SettledStream) (asked : Asked) → is_paced 
 one_turned d stream asked paced is =
     let granted = granted_somewhere d stream asked is in
     let good : IsGoodEvery asked.every =
-    subst IsGoodEvery (sym granted.every) (every_is_good_in (turns_on d.cycle_time stream) (turns_good d.cycle_time stream.pacing stream.traffic paced)) in
+    subst IsGoodEvery (sym granted.every) (every_is_good_in (active_cycles_on d.cycle_time stream) (active_cycles_good d.cycle_time stream.pacing stream.traffic paced)) in
     record { some = good.some; few = good.few }
 
 -- so is each, if all are placed

@@ -38,36 +38,36 @@ is_better candidate other =
 
 -- a candidate is the first good one: none of those before it is good
 pub record IsFirstGood (network : NetworkDomain) (streams : List SettledStream) (tries : ℕ) (before : List ℕ) : Type 0 where
-  pub told : List Candidate
-  pub judged : AreJudgedBy network streams tries before told
-  pub bad : All IsBad told
+  pub reported : List Candidate
+  pub judged : AreJudgedBy network streams tries before reported
+  pub bad : All IsBad reported
 
 -- a good candidate is the best: it is better than each good one before it, and no good one after it is better
-pub record IsBestGood (network : NetworkDomain) (streams : List SettledStream) (tries : ℕ) (before behind : List ℕ) (candidate : Candidate) : Type 0 where
-  pub told : List Candidate
-  pub judged : AreJudgedBy network streams tries before told
-  pub better : All (λ (other : Candidate). IsBad other ⊎ (is_better candidate other ≡ true)) told
-  pub told_behind : List Candidate
-  pub judged_behind : AreJudgedBy network streams tries behind told_behind
-  pub none_better : All (λ (other : Candidate). IsBad other ⊎ (is_better other candidate ≡ false)) told_behind
+pub record IsBestGood (network : NetworkDomain) (streams : List SettledStream) (tries : ℕ) (before following : List ℕ) (candidate : Candidate) : Type 0 where
+  pub reported : List Candidate
+  pub judged : AreJudgedBy network streams tries before reported
+  pub better : All (λ (other : Candidate). IsBad other ⊎ (is_better candidate other ≡ true)) reported
+  pub written_after : List Candidate
+  pub judged_after : AreJudgedBy network streams tries following written_after
+  pub none_better : All (λ (other : Candidate). IsBad other ⊎ (is_better other candidate ≡ false)) written_after
 
 -- a good candidate is taken: as the best, or as the first good one
 abbrev pub IsTaken : Bool → NetworkDomain → List SettledStream → ℕ → List ℕ → List ℕ → Candidate → Type 0
-IsTaken true network streams tries before behind candidate = IsBestGood network streams tries before behind candidate
-IsTaken false network streams tries before behind candidate = IsFirstGood network streams tries before
+IsTaken true network streams tries before following candidate = IsBestGood network streams tries before following candidate
+IsTaken false network streams tries before following candidate = IsFirstGood network streams tries before
 
 -- a plan: its cycle time is the first good candidate, or the best, as the search says, which also says how many other orders of placing are tried;
 -- and its streams are those that are placed on it
 pub record IsPlanned (network : NetworkDomain) (streams : List SettledStream) (search : Search) (d : Domain) (flows : List FlowText) : Type 0 where
   pub before : List ℕ
   pub cycle_time : ℕ
-  pub behind : List ℕ
-  pub among : network.candidates ≡ before ++ (cycle_time ∷ behind)
+  pub following : List ℕ
+  pub among : network.candidates ≡ before ++ (cycle_time ∷ following)
   pub open_to : longest_guard network < cycle_time
   pub placed : PlacedStreams
   pub are_placed : AreTriedAt network streams search.tries cycle_time placed
   pub good : (candidate_of streams placed).fault ≡ None
-  pub taken : IsTaken search.best network streams search.tries before behind (candidate_of streams placed)
+  pub taken : IsTaken search.best network streams search.tries before following (candidate_of streams placed)
   pub domain_is : d ≡ placed.domain
   pub flows_are : flows ≡ flows_placed placed.domain.cycle_time streams placed.outcomes
 
@@ -81,7 +81,7 @@ nearer None candidate = Some candidate
 nearer (Some first) second = Some (nearer_of first second)
 
 abbrev pub nearest_of : List Candidate → Option Candidate
-nearest_of told = fold nearer None told
+nearest_of reported = fold nearer None reported
 
 -- the text about a candidate that isn't good, of `count` candidates
 abbrev pub bad_text : ℕ → ℕ → List ℕ → List ℕ
@@ -100,7 +100,7 @@ line_of_nearest count (Some nearest) = bad_line count nearest.cycle_time nearest
 
 -- no candidate is good, and this line says why the nearest isn't
 pub record IsUnplanned (network : NetworkDomain) (streams : List SettledStream) (tries : ℕ) (line : List ℕ) : Type 0 where
-  pub told : List Candidate
-  pub judged : AreJudgedBy network streams tries network.candidates told
-  pub bad : All IsBad told
-  pub line_is : line ≡ line_of_nearest (length network.candidates) (nearest_of told)
+  pub reported : List Candidate
+  pub judged : AreJudgedBy network streams tries network.candidates reported
+  pub bad : All IsBad reported
+  pub line_is : line ≡ line_of_nearest (length network.candidates) (nearest_of reported)

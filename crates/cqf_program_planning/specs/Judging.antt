@@ -16,7 +16,7 @@ use Rattle.cqf_program_plans.specs.Latency.Text.{is_not_sure, latencies_of}
 use Rattle.cqf_program_placing.specs.declared.faults.PlanFault.TheVariants as fault
 use Rattle.cqf_program_placing.specs.Placing.{ArePlaced, PlacedOr, PlacedStreams, Placed, Unplaced}
 use Rattle.cqf_program_placing.specs.Settled.{SettledStream}
-use Rattle.cqf_program_placing.specs.Turns.{is_in_step}
+use Rattle.cqf_program_placing.specs.ActiveCycles.{is_in_step}
 use Rattle.cqf_program_planning.specs.declared.candidates.Candidate.{Candidate}
 use Rattle.cqf_program_planning.specs.declared.candidates.CandidateFault.{CandidateFault}
 use Rattle.cqf_program_planning.specs.declared.candidates.CandidateFault.TheVariants as shut
@@ -28,14 +28,14 @@ abbrev pub traffic_by : ℕ → Pacing → ℕ → TrafficText → TrafficText
 traffic_by cycle_time pacing phase t =
     if is_in_step cycle_time pacing t then record t { offset = phase * cycle_time + t.offset % cycle_time } else t
 
-abbrev pub traffic_told : ℕ → SettledStream → ℕ → Option TrafficText
-traffic_told cycle_time stream phase = option_map (traffic_by cycle_time stream.pacing phase) stream.traffic
+abbrev pub traffic_written : ℕ → SettledStream → ℕ → Option TrafficText
+traffic_written cycle_time stream phase = option_map (traffic_by cycle_time stream.pacing phase) stream.traffic
 
 -- a stream that is placed, as the plan has it: with its deadline and its traffic
 abbrev pub flow_of : ℕ → SettledStream → Asked → FlowText
 flow_of cycle_time stream asked = (
   (record { name = asked.name; octets = asked.octets; every = asked.every; phase = asked.phase; paths = asked.paths }, stream.deadline),
-  traffic_told cycle_time stream asked.phase,
+  traffic_written cycle_time stream asked.phase,
 )
 
 -- those of some streams that are placed, each with its request

@@ -21,7 +21,7 @@ first_order count = each_below (λ k. k ∷ []) count
 
 -- whether the path of the stream at an index is to be found
 abbrev pub is_open_at : List SettledStream → ℕ → Bool
-is_open_at streams index = option_map_or (λ (stream : SettledStream). is_open stream.way) (slice_get streams index) false
+is_open_at streams index = option_map_or (λ (stream : SettledStream). is_open stream.path) (slice_get streams index) false
 
 -- whether a fault is that links have no room
 abbrev pub is_of_room : PlanFault → Bool
@@ -64,7 +64,7 @@ abbrev pub step_of : Bool → ℕ → Option ℕ → ℕ → ℕ × Option ℕ
 step_of movable first None index = (index, None)
 step_of movable first (Some carried) index = if index == first then (carried, None) else carried_by movable carried index
 
--- an order in which this stream is the first of those whose paths are to be found, and these move on by one up to where it was
+-- the order in which this stream comes before all others whose paths are to be found. Those that were before it move back by one
 abbrev pub moved_from : List SettledStream → ℕ → Option ℕ → List ℕ → List ℕ
 moved_from streams first carried [] = []
 moved_from streams first carried (index ∷ order) =

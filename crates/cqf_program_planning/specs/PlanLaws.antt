@@ -14,10 +14,10 @@ use Rattle.cqf_program_plans.specs.declared.latency.latencies.Latency.{Latency}
 use Rattle.cqf_program_plans.specs.Latency.Text.{is_not_sure, latencies_of}
 use Rattle.cqf_program_plans.specs.Reserving.{first_lack, planned_octets}
 use Rattle.cqf_program_offers.specs.OffersOutput.{asked_in}
-use Rattle.cqf_program_placing.specs.Placing.{PlacedStreams, is_chosen_on, turns_on}
-use Rattle.cqf_program_placing.specs.Room.{ArePlacedByRoom, MayBeWays}
+use Rattle.cqf_program_placing.specs.Placing.{PlacedStreams, active_cycles_on, is_chosen_on}
+use Rattle.cqf_program_placing.specs.Room.{ArePlacedByRoom, MayBePaths}
 use Rattle.cqf_program_placing.specs.Settled.{SettledStream}
-use Rattle.cqf_program_placing.specs.Turns.{MayBeFirst, can_step, every_in}
+use Rattle.cqf_program_placing.specs.ActiveCycles.{MayBeFirst, can_step, every_in}
 use Rattle.cqf_program_planning.specs.declared.choosing.Search.{Search}
 use Rattle.cqf_program_planning.specs.Choosing.{IsPlanned}
 use Rattle.cqf_program_planning.specs.Judging.{ArePlacedAt}
@@ -34,8 +34,8 @@ deadlines_of flows = map (λ (flow : FlowText). flow.0.1) flows
 pub record IsTakenOver (cycle_time sync : ℕ) (stream : SettledStream) (flow : FlowText) : Type 0 where
   pub name : flow.0.0.name ≡ stream.name
   pub deadline : flow.0.1 ≡ stream.deadline
-  pub every : flow.0.0.every ≡ every_in (turns_on cycle_time stream)
-  pub phase : MayBeFirst (turns_on cycle_time stream) flow.0.0.phase
+  pub every : flow.0.0.every ≡ every_in (active_cycles_on cycle_time stream)
+  pub phase : MayBeFirst (active_cycles_on cycle_time stream) flow.0.0.phase
   pub in_step : stream.pacing ≡ pacing.InStep → is_chosen_on cycle_time stream ≡ true
   pub apart : can_step cycle_time sync stream.pacing stream.traffic ≡ true
   pub promise : option_map promise_of flow.1 ≡ option_map promise_of stream.traffic
@@ -46,12 +46,12 @@ pub record IsTakenOver (cycle_time sync : ℕ) (stream : SettledStream) (flow : 
 -- the same for each of some streams, in their order
 pub record AreTakenOver (cycle_time sync : ℕ) (streams : List SettledStream) (flows : List FlowText) : Type 0 where
   pub as_many : length flows ≡ length streams
-  pub each : (place : ℕ) (stream : SettledStream) (flow : FlowText) → slice_get streams place ≡ Some stream → slice_get flows place ≡ Some flow →
+  pub each : (index : ℕ) (stream : SettledStream) (flow : FlowText) → slice_get streams index ≡ Some stream → slice_get flows index ≡ Some flow →
       IsTakenOver cycle_time sync stream flow
 
 -- a stream reserves what its talker needs in a cycle
-abbrev pub ReservesEnough : ℕ → FlowText → Type 0
-ReservesEnough cycle_time flow = ForSome flow.1 (λ (t : TrafficText). needed cycle_time (promise_of t) ≤ flow.0.0.octets)
+abbrev pub ReservesEnough : ℕ → ℕ → FlowText → Type 0
+ReservesEnough overhead cycle_time flow = ForSome flow.1 (λ (t : TrafficText). needed overhead cycle_time (promise_of t) ≤ flow.0.0.octets)
 
 -- a plan of all of these streams, in their order. Each is admitted before cycle 0, and reserves what its talker needs in a cycle, so none
 -- is refused for less. No frame of theirs may miss what is left of its deadline at its edge bridge
@@ -59,13 +59,13 @@ pub record IsSoundPlan (streams : List SettledStream) (d : Domain) (flows : List
   pub taken_over : AreTakenOver d.cycle_time d.sync streams flows
   pub entries : List Recorded
   pub admitted : admitted_from d [] 1 (map asked_in flows) ≡ Ok entries
-  pub enough : All (ReservesEnough d.cycle_time) flows
-  pub none_lacks : first_lack d.cycle_time 1 (map planned_octets flows) ≡ None
+  pub enough : All (ReservesEnough d.overhead d.cycle_time) flows
+  pub none_lacks : first_lack d.overhead d.cycle_time 1 (map planned_octets flows) ≡ None
   pub in_time : All (λ (latency : Latency). is_not_sure latency ≡ false) (latencies_of d (held_in d entries 0) (deadlines_of flows))
 
 -- each plan of a network file is sound
-abbrev pub ToldPlanIsAdmitted : Type 0
-ToldPlanIsAdmitted =
+abbrev pub WrittenPlanIsAdmitted : Type 0
+WrittenPlanIsAdmitted =
     (network : NetworkDomain) (streams : List SettledStream) (search : Search) (d : Domain) (flows : List FlowText) → IsPlanned network streams search d flows →
     IsSoundPlan streams d flows
 
@@ -73,7 +73,7 @@ ToldPlanIsAdmitted =
 -- as many nodes as the longest path
 abbrev pub NetworksArePlacedByRoom : Type 0
 NetworksArePlacedByRoom =
-    (limits : Limits) (given : Option (List ℕ)) (input : List ℕ) (source : PlanSource) (cycle_time : ℕ) (placed : PlacedStreams) → MayBeWays limits →
+    (limits : Limits) (given : Option (List ℕ)) (input : List ℕ) (source : PlanSource) (cycle_time : ℕ) (placed : PlacedStreams) → MayBePaths limits →
     IfSome given AreCandidates →
     planning_input limits given input ≡ Ok source → IsOpenCycle source.domain cycle_time →
     ArePlacedAt source.domain source.streams cycle_time placed → ArePlacedByRoom source.streams placed

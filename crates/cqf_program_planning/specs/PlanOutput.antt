@@ -44,7 +44,7 @@ network_line found = fault_line (codes "domain") (network_fault_text found)
 
 -- the line of streams that aren't settled
 abbrev pub unsettled_line : Unsettled → List ℕ
-unsettled_line (unsettled.BadName place) = stream_line place refused.BadName
+unsettled_line (unsettled.BadName index) = stream_line index refused.BadName
 unsettled_line (unsettled.Stream name found) = fault_line (codes "plan") (name ++ (codes ": " ++ plan_fault_text found))
 unsettled_line unsettled.Memory = []
 
@@ -63,7 +63,8 @@ unentered_line (edge_fault.Talker name found) = fault_line (codes "plan") (name 
 unentered_line (edge_fault.AccessFull station) = full_line station
 unentered_line edge_fault.Memory = []
 
--- its streams as they come to their edge bridges, settled, if no access link is full
+-- the settled streams of a network, at their edge bridges; or the line of the first stream that can't be settled, or else of the first access
+-- link that is full
 abbrev pub settled_edges : NetworkDomain → EdgeStreamsText → Result (List SettledStream) (List ℕ)
 settled_edges network edge =
     and_then (or_line unsettled_line (settled_of network edge.streams)) (λ settled. refuse edge.full full_line (Ok settled))
@@ -92,8 +93,8 @@ abbrev pub taken_by : Option AccessTimes → ℕ
 taken_by None = 0
 taken_by (Some times) = times.least
 
-abbrev pub offset_told : ℕ → SettledStream → FlowText → Option AccessTimes → Option ℕ
-offset_told cycle_time stream flow times =
+abbrev pub offset_written : ℕ → SettledStream → FlowText → Option AccessTimes → Option ℕ
+offset_written cycle_time stream flow times =
     if is_chosen_on cycle_time stream
     then option_map (λ (t : TrafficText). offset_before t.offset (taken_by times) cycle_time flow.0.0.every) flow.1
     else None
@@ -101,13 +102,13 @@ offset_told cycle_time stream flow times =
 -- what was chosen for a stream, and for all of them, in their order
 pub record IsChoiceOf (cycle_time : ℕ) (stream : SettledStream) (flow : FlowText) (times : Option AccessTimes) (filled : FilledStream) : Type 0 where
   pub request : paced_text filled.request ≡ flow.0.0
-  pub offset : filled.offset ≡ offset_told cycle_time stream flow times
+  pub offset : filled.offset ≡ offset_written cycle_time stream flow times
 
 pub record AreChoicesOf (cycle_time : ℕ) (streams : List SettledStream) (flows : List FlowText) (times : List (Option AccessTimes)) (filled : List FilledStream) : Type 0
   where
     pub one_each : length filled ≡ length flows
-    pub each : (place : ℕ) (stream : SettledStream) (flow : FlowText) (taken : Option AccessTimes) (one : FilledStream) →
-        slice_get streams place ≡ Some stream → slice_get flows place ≡ Some flow → slice_get times place ≡ Some taken → slice_get filled place ≡ Some one →
+    pub each : (index : ℕ) (stream : SettledStream) (flow : FlowText) (taken : Option AccessTimes) (one : FilledStream) →
+        slice_get streams index ≡ Some stream → slice_get flows index ≡ Some flow → slice_get times index ≡ Some taken → slice_get filled index ≡ Some one →
         IsChoiceOf cycle_time stream flow taken one
 
 -- the text is that of the network that is planned: the file's own, with what was chosen
@@ -121,26 +122,26 @@ pub record IsPlanText (search : Search) (source : PlanSource) (text : List ℕ) 
 
 -- the text is that of the table of all candidates
 pub record IsCandidatesText (tries : ℕ) (source : PlanSource) (text : List ℕ) : Type 0 where
-  pub told : List Candidate
-  pub judged : AreJudgedBy source.domain source.streams tries source.domain.candidates told
-  pub written : text ≡ text_of_candidates (length source.streams) told
+  pub reported : List Candidate
+  pub judged : AreJudgedBy source.domain source.streams tries source.domain.candidates reported
+  pub written : text ≡ text_of_candidates (length source.streams) reported
 
 -- the output for a network file: its plan, or the line that says that no candidate is good; or a table of the candidates
-abbrev pub IsToldOf : Bool → Search → PlanSource → Result (List ℕ) (List ℕ) → Type 0
-IsToldOf true search source (Ok text) = IsCandidatesText search.tries source text
-IsToldOf true search source (Err line) = ⊥
-IsToldOf false search source (Ok text) = IsPlanText search source text
-IsToldOf false search source (Err line) = IsUnplanned source.domain source.streams search.tries line
+abbrev pub IsWrittenOf : Bool → Search → PlanSource → Result (List ℕ) (List ℕ) → Type 0
+IsWrittenOf true search source (Ok text) = IsCandidatesText search.tries source text
+IsWrittenOf true search source (Err line) = ⊥
+IsWrittenOf false search source (Ok text) = IsPlanText search source text
+IsWrittenOf false search source (Err line) = IsUnplanned source.domain source.streams search.tries line
 
 -- the end without an output: with status 1 and the line, or with status 3 if an allocation fails
-pub record IsToldRefusal (table : Bool) (search : Search) (source : PlanSource) (stop : Stop) : Type 0 where
+pub record IsWrittenRefusal (table : Bool) (search : Search) (source : PlanSource) (stop : Stop) : Type 0 where
   pub statuses : (stop.status ≡ 1) ⊎ (stop.status ≡ 3)
-  pub line : stop.status ≡ 1 → IsToldOf table search source (Err stop.text.items)
+  pub line : stop.status ≡ 1 → IsWrittenOf table search source (Err stop.text.items)
   pub memory : stop.status ≡ 3 → stop.text.items ≡ []
 
 -- the output for what was read; for an input that is refused, the line of the first fault
 abbrev pub IsPlannedOf : Bool → Search → Result PlanSource (List ℕ) → Result (List ℕ) (List ℕ) → Type 0
-IsPlannedOf table search (Ok source) found = IsToldOf table search source found
+IsPlannedOf table search (Ok source) found = IsWrittenOf table search source found
 IsPlannedOf table search (Err line) found = Err line ≡ found
 
 -- the output for the texts of a domain and of streams, and for an input

@@ -8,7 +8,7 @@ use Rattle.cqf_laws_timing.specs.Traffic.{offers_named}
 use Rattle.cqf_model.specs.declared.frames.Offer.{Offer}
 use Rattle.cqf_model.specs.Domain.{Domain, cycle_of}
 use Rattle.cqf_model.specs.History.{Recorded, held_in, pace_of}
-use Rattle.cqf_model.specs.Paces.{is_turn}
+use Rattle.cqf_model.specs.Paces.{is_active}
 use Rattle.cqf_topology.specs.PacedText.{paced_of_text}
 use Rattle.cqf_topology.specs.PlannedText.{planned_of_text}
 use Rattle.cqf_topology.specs.StreamsText.{streams_of_text}
@@ -78,16 +78,16 @@ pub record ComesAsPlaced (cycle_time : ℕ) (stream : SettledStream) (flow there
 -- each of some streams does, in their order
 pub record ComeAsPlaced (cycle_time : ℕ) (streams : List SettledStream) (flows there : List FlowText) : Type 0 where
   pub as_many : length there ≡ length flows
-  pub each : (place : ℕ) (stream : SettledStream) (flow one : FlowText) → slice_get streams place ≡ Some stream → slice_get flows place ≡ Some flow →
-      slice_get there place ≡ Some one → ComesAsPlaced cycle_time stream flow one
+  pub each : (index : ℕ) (stream : SettledStream) (flow one : FlowText) → slice_get streams index ≡ Some stream → slice_get flows index ≡ Some flow →
+      slice_get there index ≡ Some one → ComesAsPlaced cycle_time stream flow one
 
 -- streams at their edge bridges are a good plan: each is admitted before cycle 0 and reserves what its talker needs in a cycle, so none is refused
 -- for less; and no frame of theirs may miss its deadline
 pub record IsGoodPlan (d : Domain) (flows : List FlowText) : Type 0 where
   pub entries : List Recorded
   pub admitted : admitted_from d [] 1 (map asked_in flows) ≡ Ok entries
-  pub enough : All (ReservesEnough d.cycle_time) flows
-  pub none_lacks : first_lack d.cycle_time 1 (map planned_octets flows) ≡ None
+  pub enough : All (ReservesEnough d.overhead d.cycle_time) flows
+  pub none_lacks : first_lack d.overhead d.cycle_time 1 (map planned_octets flows) ≡ None
   pub in_time : All (λ (latency : Latency). is_not_sure latency ≡ false) (latencies_of d (held_in d entries 0) (deadlines_of flows))
 
 -- every command reads a text as a plan: as the network with this domain, and as streams that arrive at their edge bridges as they were placed. No
@@ -108,21 +108,21 @@ pub record IsReadPlan (limits : Limits) (streams : List SettledStream) (d : Doma
 
 -- each text that `plan` writes for the texts of a domain and of streams is read so, if their tables aren't nested deeper than the reader allows.
 -- Candidates for the cycle time that are given have to be in their range, and at least one and at most 1,000
-abbrev pub ToldPlansReadBack : Type 0
-ToldPlansReadBack =
+abbrev pub WrittenPlansReadBack : Type 0
+WrittenPlansReadBack =
     (limits : Limits) (search : Search) (given : Option (List ℕ)) (domain_text streams_text text : List ℕ) (source : PlanSource) → IfSome given AreCandidates →
     planning_parts limits given domain_text streams_text ≡ Ok source → IsShallow source.domain_text → IsShallow source.streams_text → (plan : IsPlanText search source text) →
     IsReadPlan limits source.streams plan.domain plan.flows text
 
 -- the offers at its edge bridge of a plan's stream whose phase was chosen are in the cycles in which the stream reserves, for every
 -- seed and without one. This holds by the talker's clock, and by the edge bridge's, which may differ from it by as much as the domain's `sync`
-abbrev pub ChosenStreamsComeInTurns : Type 0
-ChosenStreamsComeInTurns =
-    (network : NetworkDomain) (streams : List SettledStream) (search : Search) (d : Domain) (flows there : List FlowText) (place : ℕ) (stream : SettledStream) (one : FlowText)
+abbrev pub ChosenStreamsComeInActiveCycles : Type 0
+ChosenStreamsComeInActiveCycles =
+    (network : NetworkDomain) (streams : List SettledStream) (search : Search) (d : Domain) (flows there : List FlowText) (index : ℕ) (stream : SettledStream) (one : FlowText)
     (until : ℕ) (seed : Option ℕ) (x : Offer) → IsPlanned network streams search d flows → ComeAsPlaced d.cycle_time streams flows there →
-    slice_get streams place ≡ Some stream → slice_get there place ≡ Some one → is_chosen_on d.cycle_time stream ≡ true →
+    slice_get streams index ≡ Some stream → slice_get there index ≡ Some one → is_chosen_on d.cycle_time stream ≡ true →
     Contains (offers_named one.0.0.name (offers_before until seed (map (sender_of d) there))) x → (at : ℕ) → x.at.0 ≤ at + d.sync → at ≤ x.at.0 + d.sync →
-    is_turn (pace_of (asked_in one)) 0 (cycle_of d at) ≡ true
+    is_active (pace_of (asked_in one)) 0 (cycle_of d at) ≡ true
 
 -- an input is planned as a text says, by every search: it is a network file that has a plan, and the text of each of its plans has the
 -- same table as the given one

@@ -30,8 +30,8 @@ candidate_fields streams candidate =
 
 -- one line for each candidate, in their order
 abbrev pub lines_of_candidates : ℕ → List Candidate → List ℕ
-lines_of_candidates streams told = flat_map (λ (candidate : Candidate). line_of_fields (candidate_fields streams candidate)) told
+lines_of_candidates streams reported = flat_map (λ (candidate : Candidate). line_of_fields (candidate_fields streams candidate)) reported
 
 -- the header, and then the lines
 abbrev pub text_of_candidates : ℕ → List Candidate → List ℕ
-text_of_candidates streams told = line_of_fields candidates_header ++ lines_of_candidates streams told
+text_of_candidates streams reported = line_of_fields candidates_header ++ lines_of_candidates streams reported

@@ -43,10 +43,10 @@ ComesOf network streams tries cycle_time (choice.Unplanned candidate) = IsBadOn 
 
 -- none of these candidates is good, and this is the nearest
 pub record AreBad (network : NetworkDomain) (streams : List SettledStream) (tries : ℕ) (cycles : List ℕ) (nearest : Option Candidate) : Type 0 where
-  pub told : List Candidate
-  pub judged : AreJudgedBy network streams tries cycles told
-  pub bad : All IsBad told
-  pub nearest_is : nearest ≡ nearest_of told
+  pub reported : List Candidate
+  pub judged : AreJudgedBy network streams tries cycles reported
+  pub bad : All IsBad reported
+  pub nearest_is : nearest ≡ nearest_of reported
   pub nearest_bad : IfSome nearest IsBad
 
 -- a cycle time on which streams were placed is the plan's
@@ -70,10 +70,10 @@ preferred (Some (choice.Unplanned first)) (choice.Unplanned second) = choice.Unp
 pub record IsBestOf (network : NetworkDomain) (streams : List SettledStream) (tries : ℕ) (cycles : List ℕ) (tried : Tried) : Type 0 where
   pub before : List ℕ
   pub cycle_time : ℕ
-  pub behind : List ℕ
-  pub among : cycles ≡ before ++ (cycle_time ∷ behind)
+  pub following : List ℕ
+  pub among : cycles ≡ before ++ (cycle_time ∷ following)
   pub good : IsGoodOn network streams tries cycle_time tried
-  pub best : IsBestGood network streams tries before behind tried.candidate
+  pub best : IsBestGood network streams tries before following tried.candidate
 
 -- the best choice of some candidates
 abbrev pub ComesOfSome : NetworkDomain → List SettledStream → ℕ → List ℕ → Option Choice → Type 0

@@ -1,6 +1,6 @@
 //! The verdict on a candidate for the cycle time.
 ghost use Rattle.std.specs.Prelude.{ℕ, ◌≡◌, ◌++◌, IfOk, OnOk, count_by, length, map};
-ghost use Rattle.cqf_admission.specs.Turns.{AreOfGoodPaces};
+ghost use Rattle.cqf_admission.specs.ActiveCycles.{AreOfGoodPaces};
 ghost use Rattle.cqf_laws_history.specs.StateLaws.{AreHeld};
 ghost use Rattle.cqf_lists.specs.Lists.{or_else};
 ghost use Rattle.cqf_program_placing.specs.Placing.{outcome_value};
@@ -46,8 +46,8 @@ fn deadlines_placed(
     ensures { IfOk result (λ deadlines. deadlines.items ≡ deadlines_placed (map settled_value streams.now) (map outcome_value outcomes.now)) }
 {
     let mut deadlines = Vec::new(alloc);
-    for (place, stream) in streams.iter().enumerate() {
-        put_deadline(&mut deadlines, stream, &outcomes[place])?;
+    for (index, stream) in streams.iter().enumerate() {
+        put_deadline(&mut deadlines, stream, &outcomes[index])?;
     }
     Ok(deadlines)
 }
@@ -100,8 +100,8 @@ fn first_unplaced(streams: &[Settled], outcomes: &[PlacingOutcome]) -> Option<Ca
     requires { length outcomes.now ≡ length streams.now }
     ensures { result ≡ first_unplaced (map settled_value streams.now) (map outcome_value outcomes.now) }
 {
-    for (place, stream) in streams.iter().enumerate() {
-        if let PlacingOutcome::Unplaced(fault) = &outcomes[place] {
+    for (index, stream) in streams.iter().enumerate() {
+        if let PlacingOutcome::Unplaced(fault) = &outcomes[index] {
             return Some(CandidateFault::Stream(stream.name.copied(), copied(fault)));
         }
     }

@@ -22,8 +22,8 @@ mod trying;
 
 pub use choosing::Search;
 pub use laws::{
-    chosen_streams_come_in_turns, networks_are_placed_where_there_is_room, plans_plan_themselves,
-    told_plan_is_admitted, told_plans_read_back,
+    chosen_streams_come_in_active_cycles, networks_are_placed_where_there_is_room,
+    plans_plan_themselves, written_plan_is_admitted, written_plans_read_back,
 };
 pub use plan_command::{open_network_part, plan_of_parts, plan_output};
 pub use trying::judge;

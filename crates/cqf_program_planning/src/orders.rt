@@ -32,7 +32,7 @@ fn is_of_room(fault: &PlanFault) -> bool
 
 /// Returns whether another order may help the stream: it is placed, or it is to find its path and finds no room.
 fn may_be_helped(stream: &Settled, outcome: &PlacingOutcome) -> bool
-    ensures { result ≡ may_be_helped (is_open (settled_value stream.now).way) (outcome_value outcome.now) }
+    ensures { result ≡ may_be_helped (is_open (settled_value stream.now).path) (outcome_value outcome.now) }
 {
     match outcome {
         PlacingOutcome::Placed(_) => true,
@@ -46,8 +46,8 @@ fn may_all_be_helped(streams: &[Settled], order: &[usize], outcomes: &[PlacingOu
     requires each { length outcomes.now ≡ length order.now }
     ensures { result ≡ may_all_be_helped (map settled_value streams.now) order.now (map outcome_value outcomes.now) }
 {
-    for (place, index) in order.iter().enumerate() {
-        if !may_be_helped(&streams[*index], &outcomes[place]) {
+    for (position, index) in order.iter().enumerate() {
+        if !may_be_helped(&streams[*index], &outcomes[position]) {
             return false;
         }
     }
@@ -66,8 +66,8 @@ fn first_without(order: &[usize], outcomes: &[PlacingOutcome]) -> Option<usize>
     requires { length outcomes.now ≡ length order.now }
     ensures { result ≡ first_without order.now (map outcome_value outcomes.now) }
 {
-    for (place, index) in order.iter().enumerate() {
-        if !is_placed(&outcomes[place]) {
+    for (position, index) in order.iter().enumerate() {
+        if !is_placed(&outcomes[position]) {
             return Some(*index);
         }
     }
@@ -95,7 +95,7 @@ fn step_of(
     carried: Option<usize>,
     index: usize,
 ) -> (usize, Option<usize>)
-    ensures { result ≡ step_of (is_open (settled_value stream.now).way) first carried index }
+    ensures { result ≡ step_of (is_open (settled_value stream.now).path) first carried index }
 {
     let Some(carried) = carried else {
         return (index, None);
@@ -109,8 +109,8 @@ fn step_of(
     }
 }
 
-/// Returns an order in which the stream `first` is the first of those whose paths are to be found. These move on by one up to where it was.
-/// Streams whose paths are given stay where they are.
+/// Returns the order in which the stream `first` comes before all others whose paths are to be found. Those that were before it move back by
+/// one. Streams whose paths are given stay where they are.
 fn moved(
     alloc: Global,
     streams: &[Settled],
@@ -179,8 +179,8 @@ fn request_at<'o>(
     requires { length outcomes.now ≡ length order.now }
     ensures { option_map (λ request. asked_paced request.now) result ≡ asked_at index order.now (map outcome_value outcomes.now) }
 {
-    for (place, other) in order.iter().enumerate() {
-        let outcome = &outcomes[place];
+    for (position, other) in order.iter().enumerate() {
+        let outcome = &outcomes[position];
         if *other == index {
             return request_in(outcome);
         }

@@ -11,7 +11,7 @@ ghost use Rattle.cqf_network.specs.StreamsText.{network_streams_of_text, stream_
 ghost use Rattle.cqf_program_placing.specs.Placing.{BeginsEarly, outcome_value};
 ghost use Rattle.cqf_program_planning.specs.Choosing.{IsBad, line_of_nearest};
 ghost use Rattle.cqf_program_planning.specs.Judging.{flows_placed};
-ghost use Rattle.cqf_program_planning.specs.PlanOutput.{IsCandidatesText, IsPartsRefusal, IsPlanOf, IsPlanOfParts, IsPlanRefusal, IsPlanText, IsToldOf, IsToldRefusal};
+ghost use Rattle.cqf_program_planning.specs.PlanOutput.{IsCandidatesText, IsPartsRefusal, IsPlanOf, IsPlanOfParts, IsPlanRefusal, IsPlanText, IsWrittenOf, IsWrittenRefusal};
 ghost use Rattle.cqf_program_planning.specs.PlanOutput.{planning_input, planning_parts, network_line, unentered_line, unsettled_line};
 ghost use Rattle.cqf_program_planning.specs.Steps.{AreSettled, AreTurned};
 ghost use Rattle.cqf_program_planning.specs.Writing.{IsTriedText, IsWritable, source_of};
@@ -88,7 +88,7 @@ fn unsettled_stop(alloc: Global, fault: Unsettled) -> Stop
     ensures memory { fault ≡ Unsettled.Memory → EndsWith 3 [] result }
 {
     match fault {
-        Unsettled::BadName(place) => stream_stop(alloc, place, Refused::BadName),
+        Unsettled::BadName(index) => stream_stop(alloc, index, Refused::BadName),
         Unsettled::Stream(name, found) => {
             Stop::with_text(alloc, REFUSED, line_of_unsettled(alloc, &name, &found))
         }
@@ -118,7 +118,7 @@ fn settled_part(
 struct PlanInput<'t> {
     domain: NetworkDomain,
     streams: Vec<Settled>,
-    /// How long the frames of each stream take to its edge bridge from the hand-over, if its talker is a station.
+    /// How long the frames of each stream take to its edge bridge from the hand-over, if that is known.
     times: Vec<Option<AccessTimes>>,
     domain_text: &'t [u8],
     streams_text: &'t [u8],
@@ -238,8 +238,8 @@ fn table_of(alloc: Global, tries: u32, given: &PlanInput<'_>) -> Result<Vec<u8>,
     ensures { IfOk result (λ text. IsCandidatesText tries (source_of given.now) text.items) }
 {
     let streams = given.streams.as_slice();
-    let told = judge_all(alloc, &given.domain, streams, tries)?;
-    let text = text_of_candidates(alloc, streams.len(), told.as_slice())?;
+    let reported = judge_all(alloc, &given.domain, streams, tries)?;
+    let text = text_of_candidates(alloc, streams.len(), reported.as_slice())?;
     Ok(text)
 }
 
@@ -281,7 +281,7 @@ fn plan_of(alloc: Global, search: Search, given: &PlanInput<'_>) -> Result<Vec<u
     requires settled { AreSettled given.now.domain (map settled_value given.now.streams.items) }
     requires written { IsWritable (source_of given.now) }
     ensures ok { IfOk result (λ text. IsPlanText search (source_of given.now) text.items) }
-    ensures err { IfErr result (IsToldRefusal false search (source_of given.now)) }
+    ensures err { IfErr result (IsWrittenRefusal false search (source_of given.now)) }
 {
     match choose(alloc, &given.domain, given.streams.as_slice(), search) {
         Ok(Choice::Planned(tried)) => match network_text(alloc, given, &tried) {
@@ -299,7 +299,7 @@ fn plan_of(alloc: Global, search: Search, given: &PlanInput<'_>) -> Result<Vec<u
 ///
 /// # Errors
 /// As [`plan_of`]; for the table, only with status 3 if an allocation fails.
-fn told_of(
+fn written_of(
     alloc: Global,
     table: bool,
     search: Search,
@@ -307,8 +307,8 @@ fn told_of(
 ) -> Result<Vec<u8>, Stop>
     requires settled { AreSettled given.now.domain (map settled_value given.now.streams.items) }
     requires written { IsWritable (source_of given.now) }
-    ensures ok { IfOk result (λ text. IsToldOf table search (source_of given.now) (Ok text.items)) }
-    ensures err { IfErr result (IsToldRefusal table search (source_of given.now)) }
+    ensures ok { IfOk result (λ text. IsWrittenOf table search (source_of given.now) (Ok text.items)) }
+    ensures err { IfErr result (IsWrittenRefusal table search (source_of given.now)) }
 {
     if !table {
         return plan_of(alloc, search, given);
@@ -337,7 +337,7 @@ pub fn plan_of_parts(
     ensures err { let said = option_map (λ cycles. cycles.items) given in IfErr result (IsPartsRefusal limits table search said domain_text.now streams_text.now) }
 {
     let found = read_parts(alloc, limits, given, domain_text, streams_text)?;
-    told_of(alloc, table, search, &found)
+    written_of(alloc, table, search, &found)
 }
 
 /// Returns the output of `plan` for an input that is read within some limits: the text of a plan, or of a table of the candidates.
@@ -359,5 +359,5 @@ pub fn plan_output(
     ensures err { IfErr result (IsPlanRefusal limits table search (option_map (λ cycles. cycles.items) given) input.now) }
 {
     let found = read_source(alloc, limits, given, input)?;
-    told_of(alloc, table, search, &found)
+    written_of(alloc, table, search, &found)
 }

@@ -7,8 +7,8 @@ ghost use Rattle.cqf_program_placing.specs.Settled.{settled_value};
 ghost use Rattle.cqf_traffic.specs.FlowsText.{flow_text};
 ghost use Rattle.cqf_traffic.specs.Keys.{bound_of};
 ghost use Rattle.cqf_program_planning.specs.Choosing.{IsBad, line_of_nearest};
-ghost use Rattle.cqf_program_planning.specs.Judging.{flow_of, flows_placed, traffic_told};
-ghost use Rattle.cqf_program_planning.specs.PlanOutput.{AreChoicesOf, offset_before, offset_told, taken_by};
+ghost use Rattle.cqf_program_planning.specs.Judging.{flow_of, flows_placed, traffic_written};
+ghost use Rattle.cqf_program_planning.specs.PlanOutput.{AreChoicesOf, offset_before, offset_written, taken_by};
 ghost use Rattle.cqf_program_planning.specs.Steps.{AreTurned, IsTurned, flows_by};
 
 use crate::candidates::Candidate;
@@ -21,11 +21,11 @@ use cqf_units::{Memory, Nanos};
 use std::alloc::Global;
 
 /// Returns the traffic of a stream that is placed on a cycle time in this phase, as the plan has it.
-fn traffic_told(stream: &Settled, cycle_time: Nanos, phase: u32) -> Option<Traffic>
+fn traffic_written(stream: &Settled, cycle_time: Nanos, phase: u32) -> Option<Traffic>
     requires some { 0 < cycle_time.0 }
     requires short { cycle_time.0 ≤ longest_cycle }
     requires early { phase < most_every }
-    ensures { result ≡ traffic_told cycle_time.0 (settled_value stream.now) phase }
+    ensures { result ≡ traffic_written cycle_time.0 (settled_value stream.now) phase }
 {
     if !stream.is_chosen_on(cycle_time) {
         return stream.traffic;
@@ -44,7 +44,7 @@ fn flow_of(stream: &Settled, cycle_time: Nanos, request: PacedRequest) -> Flow
     requires early { request.phase < most_every }
     ensures { flow_text result ≡ flow_of cycle_time.0 (settled_value stream.now) (asked_paced request) }
 {
-    let traffic = traffic_told(stream, cycle_time, request.phase);
+    let traffic = traffic_written(stream, cycle_time, request.phase);
     Flow {
         planned: Planned {
             request,
@@ -93,8 +93,8 @@ pub(crate) fn flows_placed(
         ≡ flows_placed cycle_time.0 (map settled_value streams.now) (map outcome_value outcomes.now)) }
 {
     let mut flows = Vec::new(alloc);
-    for (place, stream) in streams.iter().enumerate() {
-        put_flow(alloc, &mut flows, stream, cycle_time, &outcomes[place])?;
+    for (index, stream) in streams.iter().enumerate() {
+        put_flow(alloc, &mut flows, stream, cycle_time, &outcomes[index])?;
     }
     Ok(flows)
 }
@@ -105,7 +105,7 @@ pub(crate) fn flows_placed(
 fn offset_before(at_edge: Nanos, taken: u64, cycle_time: Nanos, every: u32) -> u32
     requires some { 0 < cycle_time.0 }
     requires short { cycle_time.0 ≤ longest_cycle }
-    requires turns { 0 < every }
+    requires active_cycles { 0 < every }
     requires few { every ≤ most_every }
     requires early { at_edge.0 ≤ bound_of TrafficKey.Offset }
     ensures { result ≡ offset_before at_edge.0 taken cycle_time.0 every }
@@ -127,7 +127,7 @@ fn taken_by(times: Option<AccessTimes>) -> u64
 
 /// Returns the instant at which the offers of a stream begin at its talker, if the cycles in which it is offered were chosen, by its traffic
 /// at its edge bridge.
-fn offset_told(
+fn offset_written(
     stream: &Settled,
     cycle_time: Nanos,
     flow: &Flow,
@@ -136,7 +136,7 @@ fn offset_told(
     requires some { 0 < cycle_time.0 }
     requires short { cycle_time.0 ≤ longest_cycle }
     requires turned { IsTurned (flow_text flow.now) }
-    ensures { result ≡ offset_told cycle_time.0 (settled_value stream.now) (flow_text flow.now) times }
+    ensures { result ≡ offset_written cycle_time.0 (settled_value stream.now) (flow_text flow.now) times }
 {
     if !stream.is_chosen_on(cycle_time) {
         return None;
@@ -165,8 +165,8 @@ pub(crate) fn choices_of(
 {
     let mut filled = Vec::with_capacity(alloc, flows.len())?;
     for flow in flows {
-        let place = filled.len();
-        let offset = offset_told(&streams[place], cycle_time, &flow, times[place]);
+        let index = filled.len();
+        let offset = offset_written(&streams[index], cycle_time, &flow, times[index]);
         filled.push(FilledStream {
             request: flow.planned.request,
             offset,

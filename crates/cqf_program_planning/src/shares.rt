@@ -1,6 +1,6 @@
 //! How much of the links' budgets is held.
 ghost use Rattle.std.specs.Prelude.{ℕ, ◌≡◌, ◌<◌, IfOk, fold, length, slice_index};
-ghost use Rattle.cqf_admission.specs.Turns.{AreOfGoodPaces};
+ghost use Rattle.cqf_admission.specs.ActiveCycles.{AreOfGoodPaces};
 ghost use Rattle.cqf_lists.specs.Lists.{each_below};
 ghost use Rattle.cqf_laws_history.specs.StateLaws.{AreHeld};
 ghost use Rattle.cqf_model.specs.Domain.{budget};

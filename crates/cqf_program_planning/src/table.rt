@@ -106,15 +106,15 @@ fn candidate_line(alloc: Global, streams: usize, candidate: &Candidate) -> Resul
 pub(crate) fn text_of_candidates(
     alloc: Global,
     streams: usize,
-    told: &[Candidate],
+    reported: &[Candidate],
 ) -> Result<Vec<u8>, Memory>
-    ensures { IfOk result (λ text. text.items ≡ text_of_candidates streams told.now) }
+    ensures { IfOk result (λ text. text.items ≡ text_of_candidates streams reported.now) }
 {
     let mut text = Vec::from_slice(
         alloc,
         b"cycle,placed,streams,used,late,tightest,slack,fault\n",
     )?;
-    for candidate in told {
+    for candidate in reported {
         let line = candidate_line(alloc, streams, candidate)?;
         text.extend_from_slice(line.as_bytes())?;
     }

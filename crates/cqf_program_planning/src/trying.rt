@@ -99,12 +99,12 @@ pub(crate) fn judge_all(
     tries: u32,
 ) -> Result<Vec<Candidate>, Memory>
     requires { AreSettled network.now (map settled_value streams.now) }
-    ensures { IfOk result (λ told. AreJudgedBy network.now (map settled_value streams.now) tries network.now.candidates told.items) }
+    ensures { IfOk result (λ reported. AreJudgedBy network.now (map settled_value streams.now) tries network.now.candidates reported.items) }
 {
-    let mut told = Vec::new(alloc);
+    let mut reported = Vec::new(alloc);
     for cycle_time in network.candidates() {
         let candidate = judge(alloc, network, streams, tries, *cycle_time)?;
-        told.push(candidate)?;
+        reported.push(candidate)?;
     }
-    Ok(told)
+    Ok(reported)
 }

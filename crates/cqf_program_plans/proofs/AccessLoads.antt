@@ -7,7 +7,9 @@ use Rattle.std.proofs.lemmas.List.{drop_all, drop_more, get_or_past}
 use Rattle.std.proofs.lemmas.Option.{none-some}
 use Rattle.std.proofs.lemmas.List.Elements.{All-map, All-weaker}
 use Rattle.cqf_edge.specs.declared.uses.Handed.{Handed}
-use Rattle.cqf_model.specs.Limits.{longest_cycle}
+use Rattle.cqf_model.specs.Limits.{longest_cycle, most_overhead}
+use Rattle.cqf_units.proofs.Costs.{cost_within}
+use Rattle.cqf_units.specs.Timing.{cost_of}
 use Rattle.cqf_network.specs.declared.domain.TalkerLink.{TalkerLink}
 use Rattle.cqf_network.specs.NetworkDomain.{HasTalkerLinks, IsTalkerLink, NetworkDomain}
 use Rattle.cqf_traffic.specs.declared.flows.Flow.{Flow}
@@ -42,11 +44,10 @@ promised_little t cycle_time ranges short =
     omega (arith, up, all)
 
 -- and so is what a reservation costs
-pub reserved_little : (octets every : ℕ) → octets < 4294967296 → div_ceil (octets + 20 * (octets / 64)) every ≤ most_taken
-reserved_little octets every small =
-    let frames : octets / 64 ≤ octets = div-le_self octets 64 in
-    let up : div_ceil (octets + 20 * (octets / 64)) every ≤ octets + 20 * (octets / 64) + 1 = rounded (octets + 20 * (octets / 64)) every in
-    omega (arith, up, frames, small)
+pub reserved_little : (overhead octets every : ℕ) → overhead ≤ most_overhead → octets < 4294967296 → div_ceil (cost_of overhead octets) every ≤ most_taken
+reserved_little overhead octets every short small =
+    let up : div_ceil (cost_of overhead octets) every ≤ cost_of overhead octets + 1 = rounded (cost_of overhead octets) every in
+    omega (arith, up, cost_within overhead octets short, small)
 
 -- an access link of a network has its ends there
 pub link_there : (network : NetworkDomain) (links : List TalkerLink) (k : ℕ) (d : TalkerLink) → HasTalkerLinks network → links ≡ network.talkers →
@@ -56,23 +57,23 @@ link_there network links k d has same below =
     each k d below
 
 -- one more is added to the link at its place
-pub added_at : (loads : List AccessLoad) (place taken : ℕ) (d : AccessLoad) → place < length loads →
-    added_load loads place taken ≡ set loads place (loaded_by taken (get_or loads place d))
-added_at [] place taken d below = absurd (omega (arith, below))
+pub added_at : (loads : List AccessLoad) (index taken : ℕ) (d : AccessLoad) → index < length loads →
+    added_load loads index taken ≡ set loads index (loaded_by taken (get_or loads index d))
+added_at [] index taken d below = absurd (omega (arith, below))
 added_at (load ∷ loads) zero taken d below = refl
-added_at (load ∷ loads) (suc place) taken d below = ap (λ (rest : List AccessLoad). load ∷ rest) (added_at loads place taken d (omega (arith, below)))
+added_at (load ∷ loads) (suc index) taken d below = ap (λ (rest : List AccessLoad). load ∷ rest) (added_at loads index taken d (omega (arith, below)))
 
 -- so the loads are those in which this one is changed
-pub added_there : (loads : List AccessLoad) (place taken : ℕ) (old after : AccessLoad) → place < length loads → old ≡ get_or loads place old →
-    after ≡ loaded_by taken old → set loads place after ≡ added_load loads place taken
-added_there loads place taken old after below is more =
-    ap (set loads place) (more ∙ ap (loaded_by taken) is) ∙ sym (added_at loads place taken old below)
+pub added_there : (loads : List AccessLoad) (index taken : ℕ) (old after : AccessLoad) → index < length loads → old ≡ get_or loads index old →
+    after ≡ loaded_by taken old → set loads index after ≡ added_load loads index taken
+added_there loads index taken old after below is more =
+    ap (set loads index) (more ∙ ap (loaded_by taken) is) ∙ sym (added_at loads index taken old below)
 
 -- where there is none, nothing changes
-pub added_none : (loads : List AccessLoad) (place taken : ℕ) → length loads ≤ place → added_load loads place taken ≡ loads
-added_none [] place taken above = refl
+pub added_none : (loads : List AccessLoad) (index taken : ℕ) → length loads ≤ index → added_load loads index taken ≡ loads
+added_none [] index taken above = refl
 added_none (load ∷ loads) zero taken above = absurd (omega (arith, above))
-added_none (load ∷ loads) (suc place) taken above = ap (λ (rest : List AccessLoad). load ∷ rest) (added_none loads place taken (omega (arith, above)))
+added_none (load ∷ loads) (suc index) taken above = ap (λ (rest : List AccessLoad). load ∷ rest) (added_none loads index taken (omega (arith, above)))
 
 -- some of a number of streams are some of one more
 more_streams : (count : ℕ) (load : AccessLoad) → IsLoadedBy count load → IsLoadedBy (count + 1) load
@@ -96,76 +97,76 @@ item_at [] k below = absurd (omega (arith, below))
 item_at (x ∷ xs) zero below = (x, refl)
 item_at (x ∷ xs) (suc k) below = item_at xs k (omega (arith, below))
 
--- the loads with what the streams before a place take
-pub record AreLoaded (cycle_time : ℕ) (first : List AccessLoad) (handed : List (Option Handed)) (flows : List Flow) (place : ℕ) (loads : List AccessLoad) :
+-- the loads with what the streams before an index take
+pub record AreLoaded (overhead cycle_time : ℕ) (first : List AccessLoad) (handed : List (Option Handed)) (flows : List Flow) (index : ℕ) (loads : List AccessLoad) :
     Type 0 where
-  pub is : loads_with cycle_time first handed (map flow_text flows) ≡ loads_with cycle_time loads (drop place handed) (map flow_text (drop place flows))
-  pub all : All (IsLoadedBy place) loads
+  pub is : loads_with overhead cycle_time first handed (map flow_text flows) ≡ loads_with overhead cycle_time loads (drop index handed) (map flow_text (drop index flows))
+  pub all : All (IsLoadedBy index) loads
 
 -- of no stream anything is handed over where none is left
-none_left : (cycle_time : ℕ) (loads : List AccessLoad) (handed : List (Option Handed)) → loads_with cycle_time loads handed [] ≡ loads
-none_left cycle_time loads [] = refl
-none_left cycle_time loads (one ∷ more) = refl
+none_left : (overhead cycle_time : ℕ) (loads : List AccessLoad) (handed : List (Option Handed)) → loads_with overhead cycle_time loads handed [] ≡ loads
+none_left overhead cycle_time loads [] = refl
+none_left overhead cycle_time loads (one ∷ more) = refl
 
-module _ (cycle_time : ℕ) (first : List AccessLoad) (handed : List (Option Handed)) (flows : List Flow) where
-  pub loaded_none : All (IsLoadedBy 0) first → AreLoaded cycle_time first handed flows 0 first
+module _ (overhead cycle_time : ℕ) (first : List AccessLoad) (handed : List (Option Handed)) (flows : List Flow) where
+  pub loaded_none : All (IsLoadedBy 0) first → AreLoaded overhead cycle_time first handed flows 0 first
   loaded_none all = record { is = refl; all = all }
 
-  pub loaded_all : (place : ℕ) (loads : List AccessLoad) → length flows ≤ place → AreLoaded cycle_time first handed flows place loads →
-      loads ≡ loads_with cycle_time first handed (map flow_text flows)
-  loaded_all place loads last so_far =
+  pub loaded_all : (index : ℕ) (loads : List AccessLoad) → length flows ≤ index → AreLoaded overhead cycle_time first handed flows index loads →
+      loads ≡ loads_with overhead cycle_time first handed (map flow_text flows)
+  loaded_all index loads last so_far =
       sym (so_far.is
-      ∙ ap (λ (rest : List Flow). loads_with cycle_time loads (drop place handed) (map flow_text rest)) (drop_all place flows last)
-      ∙ none_left cycle_time loads (drop place handed))
+      ∙ ap (λ (rest : List Flow). loads_with overhead cycle_time loads (drop index handed) (map flow_text rest)) (drop_all index flows last)
+      ∙ none_left overhead cycle_time loads (drop index handed))
 
-  module _ (place : ℕ) (flow : Flow) (loads : List AccessLoad) (below : place < length flows) (here : flow ≡ get_or flows place flow)
-      (so_far : AreLoaded cycle_time first handed flows place loads) where
-    abbrev behind : List Flow
-    behind = drop (place + 1) flows
+  module _ (index : ℕ) (flow : Flow) (loads : List AccessLoad) (below : index < length flows) (here : flow ≡ get_or flows index flow)
+      (so_far : AreLoaded overhead cycle_time first handed flows index loads) where
+    abbrev following : List Flow
+    following = drop (index + 1) flows
 
     -- the streams from the place on
-    from_place : drop place flows ≡ flow ∷ behind
-    from_place = drop_more flows place flow below ∙ ap (λ (f : Flow). f ∷ behind) (sym here)
+    from_index : drop index flows ≡ flow ∷ following
+    from_index = drop_more flows index flow below ∙ ap (λ (f : Flow). f ∷ following) (sym here)
 
-    at_place : (rest : List (Option Handed)) → drop place handed ≡ rest →
-        loads_with cycle_time first handed (map flow_text flows) ≡ loads_with cycle_time loads rest (flow_text flow ∷ map flow_text behind)
-    at_place rest is =
+    at_index : (rest : List (Option Handed)) → drop index handed ≡ rest →
+        loads_with overhead cycle_time first handed (map flow_text flows) ≡ loads_with overhead cycle_time loads rest (flow_text flow ∷ map flow_text following)
+    at_index rest is =
         so_far.is
-        ∙ (λ i. loads_with cycle_time loads (is i) (map flow_text (from_place i)))
+        ∙ (λ i. loads_with overhead cycle_time loads (is i) (map flow_text (from_index i)))
 
     -- one that hands nothing over
-    skips : (place < length handed) ⊎ (length handed ≤ place) → get_or handed place None ≡ None →
-        loads_with cycle_time first handed (map flow_text flows) ≡ loads_with cycle_time loads (drop (place + 1) handed) (map flow_text behind)
+    skips : (index < length handed) ⊎ (length handed ≤ index) → get_or handed index None ≡ None →
+        loads_with overhead cycle_time first handed (map flow_text flows) ≡ loads_with overhead cycle_time loads (drop (index + 1) handed) (map flow_text following)
     skips (inl l) none =
-        at_place (None ∷ drop (place + 1) handed)
-        (drop_more handed place None l ∙ ap (λ (one : Option Handed). one ∷ drop (place + 1) handed) none)
+        at_index (None ∷ drop (index + 1) handed)
+        (drop_more handed index None l ∙ ap (λ (one : Option Handed). one ∷ drop (index + 1) handed) none)
     skips (inr g) none =
-        at_place [] (drop_all place handed g)
-        ∙ ap (λ (rest : List (Option Handed)). loads_with cycle_time loads rest (map flow_text behind)) (sym (drop_all (place + 1) handed (omega (arith, g))))
+        at_index [] (drop_all index handed g)
+        ∙ ap (λ (rest : List (Option Handed)). loads_with overhead cycle_time loads rest (map flow_text following)) (sym (drop_all (index + 1) handed (omega (arith, g))))
 
-    pub loaded_skip : get_or handed place None ≡ None → AreLoaded cycle_time first handed flows (place + 1) loads
+    pub loaded_skip : get_or handed index None ≡ None → AreLoaded overhead cycle_time first handed flows (index + 1) loads
     loaded_skip none = record {
-      is = skips (cases_lt place (length handed)) none;
-      all = all_same place loads loads refl so_far.all;
+      is = skips (cases_lt index (length handed)) none;
+      all = all_same index loads loads refl so_far.all;
     }
 
     -- one that does is there
-    there : (one : Handed) → (place < length handed) ⊎ (length handed ≤ place) → get_or handed place None ≡ Some one → drop place handed ≡ Some one ∷ drop (place + 1) handed
-    there one (inl l) some = drop_more handed place None l ∙ ap (λ (found : Option Handed). found ∷ drop (place + 1) handed) some
-    there one (inr g) some = absurd (none-some one (sym (get_or_past handed place None g) ∙ some))
+    there : (one : Handed) → (index < length handed) ⊎ (length handed ≤ index) → get_or handed index None ≡ Some one → drop index handed ≡ Some one ∷ drop (index + 1) handed
+    there one (inl l) some = drop_more handed index None l ∙ ap (λ (found : Option Handed). found ∷ drop (index + 1) handed) some
+    there one (inr g) some = absurd (none-some one (sym (get_or_past handed index None g) ∙ some))
 
-    pub loaded_more : (one : Handed) (after : List AccessLoad) → get_or handed place None ≡ Some one →
-        after ≡ added_load loads one.place (taken_by cycle_time one flow.planned.request.octets flow.planned.request.every) → All (IsLoadedBy (place + 1)) after →
-        AreLoaded cycle_time first handed flows (place + 1) after
+    pub loaded_more : (one : Handed) (after : List AccessLoad) → get_or handed index None ≡ Some one →
+        after ≡ added_load loads one.index (taken_by overhead cycle_time one flow.planned.request.octets flow.planned.request.every) → All (IsLoadedBy (index + 1)) after →
+        AreLoaded overhead cycle_time first handed flows (index + 1) after
     loaded_more one after some is all = record {
-      is = at_place (Some one ∷ drop (place + 1) handed) (there one (cases_lt place (length handed)) some)
-          ∙ ap (λ (now_loaded : List AccessLoad). loads_with cycle_time now_loaded (drop (place + 1) handed) (map flow_text behind)) (sym is);
+      is = at_index (Some one ∷ drop (index + 1) handed) (there one (cases_lt index (length handed)) some)
+          ∙ ap (λ (now_loaded : List AccessLoad). loads_with overhead cycle_time now_loaded (drop (index + 1) handed) (map flow_text following)) (sym is);
       all = all;
     }
 
   -- so one that hands nothing over changes nothing
-  pub loaded_past : (place : ℕ) (loads : List AccessLoad) → place < length flows → AreLoaded cycle_time first handed flows place loads →
-      get_or handed place None ≡ None → AreLoaded cycle_time first handed flows (place + 1) loads
-  loaded_past place loads below so_far none =
-      let found = item_at flows place below in
-      loaded_skip place found.0 loads below found.1 so_far none
+  pub loaded_past : (index : ℕ) (loads : List AccessLoad) → index < length flows → AreLoaded overhead cycle_time first handed flows index loads →
+      get_or handed index None ≡ None → AreLoaded overhead cycle_time first handed flows (index + 1) loads
+  loaded_past index loads below so_far none =
+      let found = item_at flows index below in
+      loaded_skip index found.0 loads below found.1 so_far none

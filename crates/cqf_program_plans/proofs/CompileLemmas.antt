@@ -90,11 +90,11 @@ module _ (old new : Administration) (asked : Asked) (receipt : Receipt) (answers
   entered = answers.entered refl ∙ ap (λ reply. with_entry old.entries 0 (Admits asked) reply) (answers.due refl)
 
   -- so the streams after it are admitted after that entry
-  pub granted-goes_on : (place : ℕ) (more : List Asked) →
-      admitted_from old.domain old.entries place (asked ∷ more) ≡ admitted_from old.domain new.entries (place + 1) more
-  granted-goes_on place more =
-      ap (λ (r : Option Refused). refuse r (stream_line place) (admitted_from old.domain (with_asked old.domain old.entries asked) (place + 1) more)) none_due
-      ∙ ap (λ (entries : List Recorded). admitted_from old.domain entries (place + 1) more) (sym entered)
+  pub granted-goes_on : (index : ℕ) (more : List Asked) →
+      admitted_from old.domain old.entries index (asked ∷ more) ≡ admitted_from old.domain new.entries (index + 1) more
+  granted-goes_on index more =
+      ap (λ (r : Option Refused). refuse r (stream_line index) (admitted_from old.domain (with_asked old.domain old.entries asked) (index + 1) more)) none_due
+      ∙ ap (λ (entries : List Recorded). admitted_from old.domain entries (index + 1) more) (sym entered)
 
   -- so its stream is held with the others
   pub granted-held : HistoryGoesOn → SealsAreCounted → GrantedIsHeld → GrantedFindsRoom → AreAllHeld old.domain old.entries → AreAllHeld new.domain new.entries
@@ -107,9 +107,9 @@ entered_unless : (refused : Refused) → refused ≢ HistoryFull → refused ≢
 entered_unless BadName full memory = refl
 entered_unless BadOctets full memory = refl
 entered_unless BadPace full memory = refl
-entered_unless (UnknownNode place) full memory = refl
-entered_unless (BrokenPath place) full memory = refl
-entered_unless (LoopingPath place) full memory = refl
+entered_unless (UnknownNode index) full memory = refl
+entered_unless (BrokenPath index) full memory = refl
+entered_unless (LoopingPath index) full memory = refl
 entered_unless (NotATree branch) full memory = refl
 entered_unless TooManyHops full memory = refl
 entered_unless NameHeld full memory = refl
@@ -126,9 +126,9 @@ is_memory Memory = inl refl
 is_memory BadName = inr (λ h. cc)
 is_memory BadOctets = inr (λ h. cc)
 is_memory BadPace = inr (λ h. cc)
-is_memory (UnknownNode place) = inr (λ h. cc)
-is_memory (BrokenPath place) = inr (λ h. cc)
-is_memory (LoopingPath place) = inr (λ h. cc)
+is_memory (UnknownNode index) = inr (λ h. cc)
+is_memory (BrokenPath index) = inr (λ h. cc)
+is_memory (LoopingPath index) = inr (λ h. cc)
 is_memory (NotATree branch) = inr (λ h. cc)
 is_memory TooManyHops = inr (λ h. cc)
 is_memory NameHeld = inr (λ h. cc)
@@ -153,27 +153,27 @@ never_full : (old new : Administration) (asked : Asked) → AreAllHeld old.domai
 never_full old new asked all answers = omega (arith, answers.full.0 refl, all.few)
 
 -- a refused stream ends the run with its line, or with the status of an allocation failure
-pub refused_so : (d : Domain) (entries : List Recorded) (asked : Asked) (refused : Refused) (place : ℕ) (stop : Stop) (more : List Asked) →
+pub refused_so : (d : Domain) (entries : List Recorded) (asked : Asked) (refused : Refused) (index : ℕ) (stop : Stop) (more : List Asked) →
     (refused ≢ Memory → refusal_of d (held_in d entries (seals entries)) asked ≡ Some refused) →
-    (refused ≢ Memory → EndsWith 1 (stream_line place refused) stop) →
-    (refused ≡ Memory → EndsWith 3 [] stop) → IsRefused (admitted_from d entries place (asked ∷ more)) stop
-refused_so d entries asked refused place stop more due line memory =
-    let found = admitted_from d entries place (asked ∷ more) in
+    (refused ≢ Memory → EndsWith 1 (stream_line index refused) stop) →
+    (refused ≡ Memory → EndsWith 3 [] stop) → IsRefused (admitted_from d entries index (asked ∷ more)) stop
+refused_so d entries asked refused index stop more due line memory =
+    let found = admitted_from d entries index (asked ∷ more) in
     elim (is_memory refused) [
       | inl lacks ↦ IsRefused-memory found stop (memory lacks)
       | inr there ↦
-          IsRefused-line found (stream_line place refused) stop
-          (ap (λ r. refuse r (stream_line place) (admitted_from d (with_asked d entries asked) (place + 1) more)) (due there)) (line there)
+          IsRefused-line found (stream_line index refused) stop
+          (ap (λ r. refuse r (stream_line index) (admitted_from d (with_asked d entries asked) (index + 1) more)) (due there)) (line there)
     ]
 
 -- what a refused call implies
-pub refused-ends : (old new : Administration) (asked : Asked) (refused : Refused) (place : ℕ) (stop : Stop) (more : List Asked) →
-    AreAllHeld old.domain old.entries → Answers old new 0 (Admits asked) (Err refused) → (refused ≢ Memory → EndsWith 1 (stream_line place refused) stop) →
-    (refused ≡ Memory → EndsWith 3 [] stop) → IsRefused (admitted_from old.domain old.entries place (asked ∷ more)) stop
-refused-ends old new asked refused place stop more all answers line memory =
+pub refused-ends : (old new : Administration) (asked : Asked) (refused : Refused) (index : ℕ) (stop : Stop) (more : List Asked) →
+    AreAllHeld old.domain old.entries → Answers old new 0 (Admits asked) (Err refused) → (refused ≢ Memory → EndsWith 1 (stream_line index refused) stop) →
+    (refused ≡ Memory → EndsWith 3 [] stop) → IsRefused (admitted_from old.domain old.entries index (asked ∷ more)) stop
+refused-ends old new asked refused index stop more all answers line memory =
     let full : refused ≢ HistoryFull = λ is. never_full old new asked all (subst (λ r. Answers old new 0 (Admits asked) (Err r)) is answers) in
     let refusal : Option Refused = refusal_of old.domain (held_in old.domain old.entries (seals old.entries)) asked in
-    refused_so old.domain old.entries asked refused place stop more
+    refused_so old.domain old.entries asked refused index stop more
     (λ there. refused_for (next_number old.domain old.entries) (seals old.entries) refused refusal (answers.due (entered_unless refused full there)))
     line memory
 

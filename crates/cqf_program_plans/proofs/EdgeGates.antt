@@ -10,8 +10,8 @@ use Rattle.cqf_lists.proofs.Any.{list_any-map}
 use Rattle.cqf_lists.proofs.Members.{all_from_members, any_member, contains_from_filter, contains_from_map, contains_map, find_member, member_any}
 use Rattle.cqf_lists.proofs.Pairs.{pairs_map}
 use Rattle.cqf_admission.specs.Tables.{AreAlongLinks}
-use Rattle.cqf_admission.specs.Turns.{AreOfGoodPaces, IsOfGoodPace}
-use Rattle.cqf_compile.specs.BridgeGates.{first_hop, gate_at, way_to}
+use Rattle.cqf_admission.specs.ActiveCycles.{AreOfGoodPaces, IsOfGoodPace}
+use Rattle.cqf_compile.specs.BridgeGates.{first_hop, gate_at, ingress_at}
 use Rattle.cqf_compile.specs.WrittenGates.{FramesComeThatWay}
 use Rattle.cqf_gates.specs.ReservedSpans.{reserved_spans}
 use Rattle.cqf_laws_history.specs.TreeLaws.{GatesStandWhereLinksLeave}
@@ -19,13 +19,13 @@ use Rattle.cqf_model.specs.declared.topology.Hop.{Hop}
 use Rattle.cqf_model.specs.declared.topology.Link.{Link}
 use Rattle.cqf_model.specs.declared.topology.Row.{Row}
 use Rattle.cqf_model.specs.Domain.{Domain, bridge_of, leaves}
-use Rattle.cqf_model.specs.Table.{IsTree, begins_at, bridges_of, depth_behind, links_of, same_way}
+use Rattle.cqf_model.specs.Table.{IsTree, begins_at, bridges_of, hop_number_after, links_of, same_ingress}
 use Rattle.cqf_model.proofs.Links.{leaves_its_bridge}
 use Rattle.cqf_program_plans.specs.Compile.Gated.{EdgeGatesAreAtTheEdge, edge_hops, edge_row, gated_rows}
 
 -- the value past the end of a list of hops
 abbrev no_hop : Hop
-no_hop = record { link = 0; depth = 0; from = None }
+no_hop = record { link = 0; hop_number = 0; from = None }
 
 -- one more hop is kept, or isn't
 one_more : (hops : List Hop) (k : ℕ) (d : Hop) → k < length hops →
@@ -107,10 +107,10 @@ found_any test (x ∷ xs) = by (test x) (found_any test xs)
     by true e = refl
     by false e = e
 
--- a way that isn't there is the edge
-none_way : (o : Option ℕ) → is_none o ≡ same_way o None
-none_way None = refl
-none_way (Some l) = refl
+-- an ingress that isn't there is the edge
+none_ingress : (o : Option ℕ) → is_none o ≡ same_ingress o None
+none_ingress None = refl
+none_ingress (Some l) = refl
 
 none_is : (o : Option ℕ) → is_none o ≡ true → o ≡ None
 none_is None e = refl
@@ -133,22 +133,22 @@ module _ (d : Domain) (row : Row) (bridge : ℕ) where
   -- some kept hop leaves the bridge exactly if the stream begins there
   any_begins : list_any here (edge_hops row.tree.items) ≡ begins_at d row bridge
   any_begins =
-      let tests : (λ (hop : Hop). is_none hop.from) ≡ (λ (hop : Hop). same_way hop.from None) = λ i. λ hop. none_way hop.from i in
+      let tests : (λ (hop : Hop). is_none hop.from) ≡ (λ (hop : Hop). same_ingress hop.from None) = λ i. λ hop. none_ingress hop.from i in
       ap (λ (test : Hop → Bool). list_any here (filter test row.tree.items)) tests
-      ∙ sym (list_any-map (λ l. leaves d l bridge) (λ (hop : Hop). hop.link) (filter (λ (hop : Hop). same_way hop.from None) row.tree.items))
+      ∙ sym (list_any-map (λ l. leaves d l bridge) (λ (hop : Hop). hop.link) (filter (λ (hop : Hop). same_ingress hop.from None) row.tree.items))
 
   -- a first hop of kept ones follows no other
-  edge_way : (o : Option Hop) → find here (edge_hops row.tree.items) ≡ o → option_and_then (λ (hop : Hop). hop.from) o ≡ None
-  edge_way None e = refl
-  edge_way (Some hop) e = none_is hop.from (kept_hop row.tree.items hop (find_member here (edge_hops row.tree.items) hop e).0).1
+  edge_ingress : (o : Option Hop) → find here (edge_hops row.tree.items) ≡ o → option_and_then (λ (hop : Hop). hop.from) o ≡ None
+  edge_ingress None e = refl
+  edge_ingress (Some hop) e = none_is hop.from (kept_hop row.tree.items hop (find_member here (edge_hops row.tree.items) hop e).0).1
 
   -- so the gate is the same
   same_gate : FramesComeThatWay → IsTree d row.tree.items → begins_at d row bridge ≡ true → gate_at d (edge_row row) bridge ≡ gate_at d row bridge
-  same_gate ways tree begins =
-      let edge : way_to d bridge (edge_row row) ≡ None = edge_way (first_hop d bridge (edge_row row)) refl in
-      let own : None ≡ way_to d bridge row = ways d row None bridge tree begins in
-      ap (λ (way : Option ℕ). reserved_spans d.cycle_time row.octets row.pace (depth_behind (edge_row row) way)) edge
-      ∙ ap (λ (way : Option ℕ). reserved_spans d.cycle_time row.octets row.pace (depth_behind row way)) own
+  same_gate ingresses tree begins =
+      let edge : ingress_at d bridge (edge_row row) ≡ None = edge_ingress (first_hop d bridge (edge_row row)) refl in
+      let own : None ≡ ingress_at d bridge row = ingresses d row None bridge tree begins in
+      ap (λ (ingress : Option ℕ). reserved_spans d.cycle_time row.octets row.pace (hop_number_after (edge_row row) ingress)) edge
+      ∙ ap (λ (ingress : Option ℕ). reserved_spans d.cycle_time row.octets row.pace (hop_number_after row ingress)) own
 
   -- a gate is there exactly if the stream begins there
   there : GatesStandWhereLinksLeave → IsTree d row.tree.items → Contains (bridges_of d (edge_row row)) bridge → begins_at d row bridge ≡ true
@@ -169,8 +169,8 @@ module _ (d : Domain) (row : Row) (bridge : ℕ) where
 
 -- the law
 pub edge_gates : FramesComeThatWay → GatesStandWhereLinksLeave → EdgeGatesAreAtTheEdge
-edge_gates ways gates d row bridge tree = record {
+edge_gates ingresses gates d row bridge tree = record {
   gates = (there d row bridge gates tree, back d row bridge gates);
   leaves = found_any (λ (hop : Hop). leaves d hop.link bridge) (edge_hops row.tree.items) ∙ any_begins d row bridge;
-  same = same_gate d row bridge ways tree;
+  same = same_gate d row bridge ingresses tree;
 }

@@ -14,21 +14,21 @@ use Rattle.cqf_program_plans.proofs.CompileLemmas.{refuse_ok, same_ok}
 use Rattle.cqf_laws_timing.specs.Streams.{AreGranted, ArePaced, IsOfList, ListCostsItsTable, cost_of_all, most_beside_all, with_all}
 
 -- each of them is granted, and the history is that of all
-all_granted : (d : Domain) (entries all : List Recorded) (place : ℕ) (streams : List Asked) → admitted_from d entries place streams ≡ Ok all →
+all_granted : (d : Domain) (entries all : List Recorded) (index : ℕ) (streams : List Asked) → admitted_from d entries index streams ≡ Ok all →
     AreGranted d entries streams × (all ≡ with_all d entries streams)
-all_granted d entries all place [] h = (tt, sym (same_ok entries all h))
-all_granted d entries all place (asked ∷ more) h =
-    let parts = refuse_ok (refusal_of d (held_in d entries (seals entries)) asked) (stream_line place)
-    (admitted_from d (with_asked d entries asked) (place + 1) more) all h in
-    let rest = all_granted d (with_asked d entries asked) all (place + 1) more parts.1 in
+all_granted d entries all index [] h = (tt, sym (same_ok entries all h))
+all_granted d entries all index (asked ∷ more) h =
+    let parts = refuse_ok (refusal_of d (held_in d entries (seals entries)) asked) (stream_line index)
+    (admitted_from d (with_asked d entries asked) (index + 1) more) all h in
+    let rest = all_granted d (with_asked d entries asked) all (index + 1) more parts.1 in
     ((parts.0, rest.0), rest.1)
 
 -- so the table of cycle 0 costs what the list does
-pub table_costs_list : (d : Domain) (streams : List Asked) (plan : List Recorded) (link turn : ℕ) → ListCostsItsTable → admitted_from d [] 1 streams ≡ Ok plan →
-    cost_of_all d streams link turn ≡ link_cost (held_in d plan 0) link turn
-table_costs_list d streams plan link turn costs h =
+pub table_costs_list : (d : Domain) (streams : List Asked) (plan : List Recorded) (link active_cycle : ℕ) → ListCostsItsTable → admitted_from d [] 1 streams ≡ Ok plan →
+    cost_of_all d streams link active_cycle ≡ link_cost (held_in d plan 0) link active_cycle
+table_costs_list d streams plan link active_cycle costs h =
     let granted = all_granted d [] plan 1 streams h in
-    sym (costs d streams link turn granted.0) ∙ sym (ap (λ entries. link_cost (held_in d entries 0) link turn) granted.1)
+    sym (costs d streams link active_cycle granted.0) ∙ sym (ap (λ entries. link_cost (held_in d entries 0) link active_cycle) granted.1)
 
 -- and so does the most that it costs in a cycle of one of its streams
 pub table_costs_most : (d : Domain) (streams : List Asked) (plan : List Recorded) (row : Row) (link : ℕ) → ListCostsItsTable →

@@ -9,10 +9,10 @@ pub mod Loading
 pub mod GrantedPlans
 pub mod LookedOver
 pub mod Found
-mod CostsByTurn
+mod CostsByActiveCycle
 mod LatencyLines
 mod AccessLoads
-mod LatencyBehind
+mod LatencyFromTalker
 mod Steps
 mod LoadSteps
 pub mod EdgeGates

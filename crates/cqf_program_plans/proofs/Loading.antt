@@ -14,21 +14,21 @@ use Rattle.cqf_program_plans.specs.Load.Listing.{IsListed, listed_row, listing_r
 use Rattle.cqf_program_plans.specs.Load.Output.{listed_from}
 
 -- a stream that isn't refused is appended to the others
-pub listed_behind : (d : Domain) (rows after : List Row) (asked : Asked) (row : Row) → IsListed d rows asked row → after ≡ rows ++ row ∷ [] →
+pub listed_after : (d : Domain) (rows after : List Row) (asked : Asked) (row : Row) → IsListed d rows asked row → after ≡ rows ++ row ∷ [] →
     (more : List Asked) → listed_from d rows (asked ∷ more) ≡ listed_from d after more
-listed_behind d rows after asked row is grown more =
+listed_after d rows after asked row is grown more =
     ap (λ (r : Option Refused). refuse r (stream_line (length rows + 1)) (listed_from d (rows ++ listed_row d rows asked ∷ []) more)) is.none
     ∙ ap (λ (rs : List Row). listed_from d rs more) (ap (λ (r : Row). rows ++ r ∷ []) (sym is.is) ∙ sym grown)
 
 -- the first stream that is refused ends the listing
-pub refused_ends : (d : Domain) (rows : List Row) (asked : Asked) (refused : Refused) (place : ℕ) (stop : Stop) →
-    listing_refusal d rows asked ≡ Some refused → place ≡ length rows + 1 → (refused ≢ Memory → EndsWith 1 (stream_line place refused) stop) →
+pub refused_ends : (d : Domain) (rows : List Row) (asked : Asked) (refused : Refused) (index : ℕ) (stop : Stop) →
+    listing_refusal d rows asked ≡ Some refused → index ≡ length rows + 1 → (refused ≢ Memory → EndsWith 1 (stream_line index refused) stop) →
     (refused ≡ Memory → EndsWith 3 [] stop) → (more : List Asked) → IsRefused (listed_from d rows (asked ∷ more)) stop
-refused_ends d rows asked refused place stop due is line memory more =
+refused_ends d rows asked refused index stop due is line memory more =
     let found = listed_from d rows (asked ∷ more) in
     elim (is_memory refused) [
       | inl lacks ↦ IsRefused-memory found stop (memory lacks)
-      | inr there ↦ IsRefused-line found (stream_line place refused) stop
+      | inr there ↦ IsRefused-line found (stream_line index refused) stop
           (ap (λ (r : Option Refused). refuse r (stream_line (length rows + 1)) (listed_from d (rows ++ listed_row d rows asked ∷ []) more)) due
           ∙ ap {B = Result (List Row) (List ℕ)} (λ (n : ℕ). Err (stream_line n refused)) (sym is)) (line there)
     ]

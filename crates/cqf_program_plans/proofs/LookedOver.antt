@@ -12,12 +12,12 @@ use Rattle.cqf_model.specs.declared.history.Refused.TheVariants.{BadName, BadOct
 use Rattle.cqf_model.specs.declared.topology.Row.{Row}
 use Rattle.cqf_model.specs.Domain.{Domain, is_text}
 use Rattle.cqf_model.specs.History.{Asked, is_pace, refused_if}
-use Rattle.cqf_model.specs.Limits.{most_reserved, streams_within}
+use Rattle.cqf_model.specs.Limits.{most_overhead, most_reserved, streams_within}
 use Rattle.cqf_model.specs.Table.{links_of}
 use Rattle.cqf_units.specs.Name.{is_name}
-use Rattle.cqf_admission.proofs.TurnLemmas.{asked_is_good}
+use Rattle.cqf_admission.proofs.ActiveCycleLemmas.{asked_is_good}
 use Rattle.cqf_admission.specs.Branches.{tree_refusal}
-use Rattle.cqf_admission.specs.Turns.{IsOfGoodPace}
+use Rattle.cqf_admission.specs.ActiveCycles.{IsOfGoodPace}
 use Rattle.cqf_program_plans.proofs.Fits.{first_none, not_due, second_none}
 use Rattle.cqf_program_plans.specs.Load.Listing.{IsListed, listed_row}
 
@@ -37,10 +37,10 @@ form_paced d asked form =
     (first_none pace tree (second_none octets (or_else pace tree) (second_none name (or_else octets (or_else pace tree)) form))))
 
 -- if its form is good, its name is free and there aren't too many streams, a stream is listed with its row
-pub is_listed : (d : Domain) (rows : List Row) (asked : Asked) (row : Row) → form_refusal d asked ≡ None → asked.octets ≤ most_reserved →
+pub is_listed : (d : Domain) (rows : List Row) (asked : Asked) (row : Row) → d.overhead ≤ most_overhead → form_refusal d asked ≡ None → asked.octets ≤ most_reserved →
     list_any (λ (other : Row). is_text other.name asked.name) rows ≡ false → length rows < streams_within d.limits → row ≡ listed_row d rows asked →
     IsListed d rows asked row
-is_listed d rows asked row form most free few is = record {
+is_listed d rows asked row short form most free few is = record {
   none = ap (λ o. or_else o (or_else (refused_if (list_any (λ (other : Row). is_text other.name asked.name) rows) NameHeld)
       (refused_if (nat_le (streams_within d.limits) (length rows)) TooManyStreams))) form
       ∙ ap (λ (b : Bool). or_else (refused_if b NameHeld) (refused_if (nat_le (streams_within d.limits) (length rows)) TooManyStreams)) free
@@ -48,7 +48,7 @@ is_listed d rows asked row form most free few is = record {
   is = is;
   paced = ap (λ (r : Row). r.pace) is;
   good = subst IsOfGoodPace (sym is) (asked_is_good asked (form_paced d asked form));
-  countable = granted_countable d row asked (length rows) 0 is most;
+  countable = granted_countable d row asked (length rows) 0 short is most;
   few = few_of d.limits.streams (length rows) few;
   free = ap (λ (r : Row). list_any (λ (other : Row). is_text other.name r.name) rows) is ∙ free;
 }
@@ -57,6 +57,7 @@ is_listed d rows asked row form most free few is = record {
 pub countable_within : (row : Row) (links most : ℕ) → links ≤ most → IsCountable links row → IsCountable most row
 countable_within row links most few is = record {
   octets = is.octets;
+  overhead = is.overhead;
   inside = All-weaker (λ (l : ℕ). l < links) (λ (l : ℕ). l < most) (λ l below. omega (arith, below, few)) (links_of row) is.inside;
   apart = is.apart;
 }

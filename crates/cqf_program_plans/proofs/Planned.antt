@@ -15,10 +15,10 @@ use Rattle.cqf_topology.specs.declared.paced.PacedRequest.{PacedRequest}
 use Rattle.cqf_program_plans.specs.Compile.Output.{AreAllHeld, ArePlanned, admitted_from}
 
 -- the request at an index, as it was requested
-pub asked_at : (requests : List PacedRequest) (place : ℕ) (request : PacedRequest) → place < length requests → request ≡ get_or requests place request →
-    asked_paced request ≡ request_at (map asked_paced requests) place
-asked_at requests place request low is =
-    sym (get_or-map asked_paced requests place request (record { name = []; octets = 0; every = 1; phase = 0; paths = [] }) low ∙ ap asked_paced (sym is))
+pub asked_at : (requests : List PacedRequest) (index : ℕ) (request : PacedRequest) → index < length requests → request ≡ get_or requests index request →
+    asked_paced request ≡ request_at (map asked_paced requests) index
+asked_at requests index request low is =
+    sym (get_or-map asked_paced requests index request (record { name = []; octets = 0; every = 1; phase = 0; paths = [] }) low ∙ ap asked_paced (sym is))
 
 -- one more stream is planned
 planned_step : (d : Domain) (requests : List Asked) (old new : Kept) (rows after : List Row) (row : Row) (receipt : Receipt) (k : ℕ) → old.requests ≡ requests →

@@ -9,7 +9,7 @@ use Rattle.cqf_port.proofs.Kept.{starts_inside}
 use Rattle.cqf_port.specs.PortState.{PortState, AreOnly, AreTaken, IsPort, RunsUpTo, start_of}
 use Rattle.cqf_report.specs.Arrivals.{AreArrivals}
 use Rattle.cqf_report.specs.Starts.{text_of_starts}
-use Rattle.cqf_program_scenario.specs.PortLines.{AreTellable}
+use Rattle.cqf_program_scenario.specs.PortLines.{AreExpressible}
 use Rattle.cqf_units.specs.Timing.{ticks_of_octet}
 use Rattle.cqf_units.specs.declared.timing.Rate.{Rate}
 use Rattle.cqf_program_plans.specs.Port.Output.{AreOfferable, IsStartsText}
@@ -25,14 +25,14 @@ AreOfferable-read arrivals are = record {
 -- arrivals that can be offered are those that a port takes
 pub AreTaken-offerable : (arrivals : List Arrival) → AreOfferable arrivals → AreTaken arrivals
 AreTaken-offerable arrivals are = record {
-  classes = λ place inside. are.classes place no_arrival inside;
-  early = λ place inside. are.early place no_arrival inside;
-  by_class = λ place later before inside same. are.in_order place later no_arrival before inside;
+  classes = λ index inside. are.classes index no_arrival inside;
+  early = λ index inside. are.early index no_arrival inside;
+  by_class = λ index later before inside same. are.in_order index later no_arrival before inside;
 }
 
 -- what a port has started can be written
-pub AreTellable-started : (p : PortState) → IsPort p → AreTellable p.arrivals p.starts
-AreTellable-started p facts = record {
+pub AreExpressible-started : (p : PortState) → IsPort p → AreExpressible p.arrivals p.starts
+AreExpressible-started p facts = record {
   inside = starts_inside p.rules p.arrivals p.reached p.starts facts.legal;
   early = λ k d inside.
       let x : Transmission = slice_index_or p.starts k d in

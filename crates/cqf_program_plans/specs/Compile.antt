@@ -1,3 +1,3 @@
 pub mod Output
-pub mod Told
+pub mod Written
 pub mod Gated

@@ -23,12 +23,12 @@ full_line station = edge_line (fault.AccessFull station)
 abbrev pub has_access : NetworkDomain → Bool
 has_access network = nat_lt 0 (length network.talkers)
 
--- the streams of a part of a network in which a station has one, at their edge bridges; or the line of the first fault: of the part, or of the
--- first stream whose talker or listeners don't fit
+-- the streams of a part of a network in which a station has an access link, at their edge bridges; or the line of the first fault: of the
+-- part, or of the first stream whose talker or listeners don't fit
 abbrev pub edges_by_access : NetworkDomain → List ℕ → Result EdgeFlowsText (List ℕ)
 edges_by_access network text = and_then (or_line flows_line (network_flows_of_text text)) (λ flows. or_line edge_line (edge_flows network flows))
 
--- where none has, each begins at its edge bridge
+-- the streams of a part of a network in which no station has an access link: each begins at its edge bridge
 abbrev pub edges_without : List ℕ → Result EdgeFlowsText (List ℕ)
 edges_without text = and_then (or_line flows_line (flows_of_text text)) (λ flows. Ok (at_edges flows))
 
@@ -36,7 +36,7 @@ edges_without text = and_then (or_line flows_line (flows_of_text text)) (λ flow
 abbrev pub edges_of_part : NetworkDomain → List ℕ → Result EdgeFlowsText (List ℕ)
 edges_of_part network text = if has_access network then edges_by_access network text else edges_without text
 
--- where no access link is full
+-- the streams of a part of a network, if no access link is full; else the line for the first that is
 abbrev pub open_edges_of_part : NetworkDomain → List ℕ → Result EdgeFlowsText (List ℕ)
 open_edges_of_part network text = and_then (edges_of_part network text) (λ edge. refuse edge.full full_line (Ok edge))
 

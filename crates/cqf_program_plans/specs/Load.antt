@@ -4,6 +4,6 @@ pub mod Listing
 pub mod Fitting
 pub mod Laws
 pub mod Access
-pub mod Told
+pub mod Written
 pub mod Read
 pub mod Streams

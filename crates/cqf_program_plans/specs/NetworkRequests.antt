@@ -7,8 +7,9 @@ use Rattle.cqf_program_scenario.specs.Networks.{domain_of}
 use Rattle.cqf_program_plans.specs.Edges.{has_access, open_edges_of_part}
 use Rattle.cqf_program_plans.specs.Reserving.{requests_at, requests_in}
 
--- the requests, or the line of the first fault: of the part, of the first stream whose talker or listeners don't fit, of the first access link
--- that is full, and of the first stream that reserves less than its traffic needs. Where no station has an access link, deadlines aren't read
+-- the requests, or the line of the first fault: of the part, of the first stream whose talker or listeners don't fit, of the first access
+-- link that is full, and of the first stream that reserves less than its traffic needs. If no station has an access link, deadlines aren't
+-- read
 abbrev pub requests_of_network : NetworkDomain → List ℕ → Result (List PacedText) (List ℕ)
 requests_of_network network text =
     if has_access network

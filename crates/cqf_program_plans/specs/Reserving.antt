@@ -17,23 +17,23 @@ abbrev pub flows_line : FlowsFault → List ℕ
 flows_line fault = fault_line (codes "streams") (flows_fault_text fault)
 
 -- the lack of a stream at this position, from 1, that reserves this number of octets, if its traffic needs more per cycle
-abbrev pub lack_at : ℕ → ℕ → ℕ → Option TrafficText → Option Lack
-lack_at cycle_time place octets None = None
-lack_at cycle_time place octets (Some t) =
-    if nat_lt octets (needed cycle_time (promise_of t))
-    then Some (record { place = place; octets = octets; needed = needed cycle_time (promise_of t) })
+abbrev pub lack_at : ℕ → ℕ → ℕ → ℕ → Option TrafficText → Option Lack
+lack_at overhead cycle_time index octets None = None
+lack_at overhead cycle_time index octets (Some t) =
+    if nat_lt octets (needed overhead cycle_time (promise_of t))
+    then Some (record { index = index; octets = octets; needed = needed overhead cycle_time (promise_of t) })
     else None
 
--- the lack of the first of these streams that reserves too little, where the first one has this position; each stream is given by its
--- octets and its traffic
-abbrev pub first_lack : ℕ → ℕ → List (ℕ × Option TrafficText) → Option Lack
-first_lack cycle_time place [] = None
-first_lack cycle_time place (stream ∷ more) = option_or (lack_at cycle_time place stream.0 stream.1) (first_lack cycle_time (place + 1) more)
+-- the lack of the first of these streams that reserves too little, if the first one has this position; each stream is given by its octets
+-- and its traffic
+abbrev pub first_lack : ℕ → ℕ → ℕ → List (ℕ × Option TrafficText) → Option Lack
+first_lack overhead cycle_time index [] = None
+first_lack overhead cycle_time index (stream ∷ more) = option_or (lack_at overhead cycle_time index stream.0 stream.1) (first_lack overhead cycle_time (index + 1) more)
 
 -- the line for a stream that reserves too little
 abbrev pub lack_line : Lack → List ℕ
 lack_line lack =
-    line_of (codes "cqf: stream " ++ (decimal lack.place ++ (codes ": BelowTraffic " ++ (decimal lack.octets ++ (codes " " ++ decimal lack.needed)))))
+    line_of (codes "cqf: stream " ++ (decimal lack.index ++ (codes ": BelowTraffic " ++ (decimal lack.octets ++ (codes " " ++ decimal lack.needed)))))
 
 -- the streams of a text for a domain, or the line of the first fault: of the text, then of the first stream that reserves less than its
 -- traffic needs
@@ -42,12 +42,12 @@ reserved_octets flow = (flow.0.octets, flow.1)
 
 abbrev pub requests_in : Domain → List ℕ → Result (List PacedText) (List ℕ)
 requests_in d text = and_then (or_line flows_line (paced_flows_of_text text)) (λ flows.
-    refuse (first_lack d.cycle_time 1 (map reserved_octets flows)) lack_line (Ok (map (λ (flow : PacedFlowText). flow.0) flows)))
+    refuse (first_lack d.overhead d.cycle_time 1 (map reserved_octets flows)) lack_line (Ok (map (λ (flow : PacedFlowText). flow.0) flows)))
 
--- the same with their deadlines
+-- what a stream with a deadline reserves, and its traffic
 abbrev pub planned_octets : FlowText → ℕ × Option TrafficText
 planned_octets flow = (flow.0.0.octets, flow.1)
 
--- those of streams at their edge bridges
+-- the requests of streams at their edge bridges, or the line of the first that reserves less than its traffic needs
 abbrev pub requests_at : Domain → List FlowText → Result (List PacedText) (List ℕ)
-requests_at d flows = refuse (first_lack d.cycle_time 1 (map planned_octets flows)) lack_line (Ok (map (λ (flow : FlowText). flow.0.0) flows))
+requests_at d flows = refuse (first_lack d.overhead d.cycle_time 1 (map planned_octets flows)) lack_line (Ok (map (λ (flow : FlowText). flow.0.0) flows))

@@ -46,7 +46,7 @@ fn edges_by_access(alloc: Global, network: &NetworkDomain, text: &[u8]) -> Resul
     }
 }
 
-/// Reads the streams of a part of a network in which no station has one.
+/// Reads the streams of a part of a network in which no station has an access link.
 fn edges_without(alloc: Global, text: &[u8]) -> Result<EdgeFlows, Stop>
     ensures ok { IfOk result (λ edge. edges_without text.now ≡ Ok (edges_text edge)) }
     ensures err { IfErr result (IsRefused (edges_without text.now)) }
@@ -61,8 +61,8 @@ fn edges_without(alloc: Global, text: &[u8]) -> Result<EdgeFlows, Stop>
     }
 }
 
-/// Returns the streams of a part of a network as they are at their edge bridges, with deadlines and traffic. On an access link that is full,
-/// they don't wait.
+/// Returns the streams of a part of a network as they are at their edge bridges, with deadlines and traffic. If an access link is full, the
+/// promises and deadlines of its streams are as if no frame waited there.
 ///
 /// # Errors
 /// With status 1 and the line of the first fault of the part, or of the first stream whose talker or listeners don't fit. With
@@ -78,10 +78,10 @@ pub fn edges_part(alloc: Global, network: &NetworkDomain, text: &[u8]) -> Result
     }
 }
 
-/// Refuses a network one of whose access links is full.
+/// Ends the command if an access link of a network is full.
 ///
 /// # Errors
-/// With status 1 and the line that names the station of the first.
+/// With status 1 and the line that names the station of the first link that is full.
 pub fn refuse_full(alloc: Global, edge: &EdgeFlows) -> Result<(), Stop>
     ensures ok { OnOk result (edge.now.full ≡ None) }
     ensures err { IfErr result (EndsAsFull edge.now.full) }

@@ -7,4 +7,4 @@ pub(crate) mod laws;
 pub(crate) mod listeners;
 pub(crate) mod outputs;
 pub(crate) mod reading;
-pub(crate) mod telling;
+pub(crate) mod writing;

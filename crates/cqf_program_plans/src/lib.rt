@@ -1,7 +1,7 @@
 //! The commands over a plan: `port`, `compile`, `load` and `latency`.
 //!
 //! Each command has a function that returns its output for its input, or the end of the run with the line of the input's first fault. An output's
-//! `tell` writes the output and allocates no memory.
+//! `write` writes the output and allocates no memory.
 //!
 //! - [`port_output`]: the starts of one output port before an instant, by a gate list and the arrivals ([`PortOutput`]).
 //! - [`compile_output`]: the gate lists and stream gates of a domain and its streams ([`ConfigOutput`]). [`read_plan`] reads the domain and the
@@ -14,10 +14,10 @@
 //! - [`latency_output`]: how long the frames of each stream take to each of its listeners, at least and at most, and whether they are certain to
 //!   keep their deadline ([`LatencyOutput`], with one [`Latency`] per line, and its `Verdict`). [`latencies_of_rows`] returns this for the rows
 //!   of a table, and [`link_costs`] what they cost of each link in a cycle at most. [`add_cost`] adds the cost of one row to sums. [`parted`]
-//!   separates streams from their deadlines. [`told_latencies_hold`] proves that frames take no less and no more time in any run over the plan,
-//!   and that the verdicts are true; [`told_latencies_hold_loosely`] proves it for every loose network.
+//!   separates streams from their deadlines. [`written_latencies_hold`] proves that frames take no less and no more time in any run over the plan,
+//!   and that the verdicts are true; [`written_latencies_hold_loosely`] proves it for every loose network.
 //!
-//! Each command has a folder in `src/` and in `specs/`. There `Output` defines the value of an input, and `Told` or `Text` the text of an output
+//! Each command has a folder in `src/` and in `specs/`. There `Output` defines the value of an input, and `Written` or `Text` the text of an output
 //! (for `latency`, `Latency/Input` defines the value of an input).
 //!
 //! ```text
@@ -57,17 +57,17 @@ pub use edges::{edge_stop, edges_part, open_edges_part, refuse_full};
 pub use latency::command::latency_output;
 pub use latency::costs::link_costs;
 pub use latency::latencies::Latency;
-pub use latency::laws::{told_latencies_hold, told_latencies_hold_loosely};
+pub use latency::laws::{written_latencies_hold, written_latencies_hold_loosely};
 pub use latency::listeners::{latencies_from_talkers, latencies_of_rows, listener_at, most_to};
 pub use latency::outputs::LatencyOutput;
 pub use latency::reading::{parted, parted_flows};
-pub use latency::telling::put_deadline;
+pub use latency::writing::put_deadline;
 pub use load::access::{AccessLoad, access_loads};
 pub use load::command::{load_output, load_streams_output};
 pub use load::laws::{greatest_fits, plan_fits};
 pub use load::outputs::LoadOutput;
+pub use load::reported::megabits_of;
 pub use load::streams::StreamLoadsOutput;
-pub use load::told::megabits_of;
 pub use port::command::port_output;
 pub use port::outputs::PortOutput;
 pub use reserving::{flows_stop, requests_at};

@@ -5,6 +5,6 @@ pub(crate) mod command;
 pub(crate) mod laws;
 pub(crate) mod listing;
 pub(crate) mod outputs;
+pub(crate) mod reported;
 pub(crate) mod shares;
 pub(crate) mod streams;
-pub(crate) mod told;

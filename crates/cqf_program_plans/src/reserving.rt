@@ -13,14 +13,14 @@ use cqf_network::NetworkDomain;
 use cqf_output::{REFUSED, Stop};
 use cqf_topology::{Domain, PacedRequest, StreamsFault};
 use cqf_traffic::{Flow, FlowsFault, PacedFlow, Traffic, read_paced_flows};
-use cqf_units::{Memory, Nanos};
+use cqf_units::Memory;
 use std::alloc::Global;
 
 /// A stream that reserves too little: its position among the streams, from 1, the octets that it reserves per cycle, and the octets that
 /// its traffic needs.
 #[derive(Clone, Copy, Debug)]
 pub(crate) struct Lack {
-    place: usize,
+    index: usize,
     octets: u32,
     needed: u128,
 }
@@ -37,17 +37,18 @@ pub fn flows_stop(alloc: Global, fault: FlowsFault) -> Stop
     }
 }
 
-/// Returns the lack of a stream at position `place`, from 1, that reserves `octets` octets per cycle, or `None` if it reserves enough.
-fn lack_at(cycle_time: Nanos, place: usize, octets: u32, traffic: Option<Traffic>) -> Option<Lack>
-    ensures { result ≡ lack_at cycle_time.0 place octets traffic }
+/// Returns the lack, on a domain, of a stream at position `index`, from 1, that reserves `octets` octets per cycle, or `None` if it reserves
+/// enough.
+fn lack_at(domain: &Domain, index: usize, octets: u32, traffic: Option<Traffic>) -> Option<Lack>
+    ensures { result ≡ lack_at domain.now.overhead domain.now.cycle_time index octets traffic }
 {
     let Some(traffic) = traffic else {
         return None;
     };
-    let needed = traffic.needed(cycle_time);
+    let needed = traffic.needed(domain.overhead(), domain.cycle_time());
     if u128::from(octets) < needed {
         return Some(Lack {
-            place,
+            index,
             octets,
             needed,
         });
@@ -56,12 +57,12 @@ fn lack_at(cycle_time: Nanos, place: usize, octets: u32, traffic: Option<Traffic
 }
 
 /// Returns the lack of the first of these streams that reserves too little.
-fn first_lack(cycle_time: Nanos, flows: &[PacedFlow]) -> Option<Lack>
-    ensures { result ≡ first_lack cycle_time.0 1 (map reserved_octets (map paced_flow_text flows.now)) }
+fn first_lack(domain: &Domain, flows: &[PacedFlow]) -> Option<Lack>
+    ensures { result ≡ first_lack domain.now.overhead domain.now.cycle_time 1 (map reserved_octets (map paced_flow_text flows.now)) }
 {
-    for place in 0..flows.len() {
-        let flow = &flows[place];
-        let lack = lack_at(cycle_time, place + 1, flow.request.octets, flow.traffic);
+    for index in 0..flows.len() {
+        let flow = &flows[index];
+        let lack = lack_at(domain, index + 1, flow.request.octets, flow.traffic);
         if lack.is_some() {
             return lack;
         }
@@ -70,13 +71,13 @@ fn first_lack(cycle_time: Nanos, flows: &[PacedFlow]) -> Option<Lack>
 }
 
 /// Returns the lack of the first of these streams with deadlines that reserves too little.
-fn first_planned_lack(cycle_time: Nanos, flows: &[Flow]) -> Option<Lack>
-    ensures { result ≡ first_lack cycle_time.0 1 (map planned_octets (map flow_text flows.now)) }
+fn first_planned_lack(domain: &Domain, flows: &[Flow]) -> Option<Lack>
+    ensures { result ≡ first_lack domain.now.overhead domain.now.cycle_time 1 (map planned_octets (map flow_text flows.now)) }
 {
-    for place in 0..flows.len() {
-        let flow = &flows[place];
+    for index in 0..flows.len() {
+        let flow = &flows[index];
         let octets = flow.planned.request.octets;
-        let lack = lack_at(cycle_time, place + 1, octets, flow.traffic);
+        let lack = lack_at(domain, index + 1, octets, flow.traffic);
         if lack.is_some() {
             return lack;
         }
@@ -89,11 +90,11 @@ fn line_of_lack(alloc: Global, lack: Lack) -> Result<String, Memory>
     ensures { IfOk result (λ line. string_bytes line ≡ lack_line lack) }
 {
     let Lack {
-        place,
+        index,
         octets,
         needed,
     } = lack;
-    let line = format!(in alloc; "cqf: stream {place}: BelowTraffic {octets} {needed}\n")?;
+    let line = format!(in alloc; "cqf: stream {index}: BelowTraffic {octets} {needed}\n")?;
     Ok(line)
 }
 
@@ -138,7 +139,7 @@ pub fn requests_at(
     ensures ok { IfOk result (λ requests. requests_at domain.now (map flow_text flows.items) ≡ Ok (map paced_text requests.items)) }
     ensures err { IfErr result (IsRefused (requests_at domain.now (map flow_text flows.items))) }
 {
-    if let Some(lack) = first_planned_lack(domain.cycle_time(), flows.as_slice()) {
+    if let Some(lack) = first_planned_lack(domain, flows.as_slice()) {
         return Err(lack_stop(alloc, lack));
     }
     match requests_of_flows(alloc, flows) {
@@ -188,7 +189,7 @@ pub(crate) fn requests_in(
         Ok(flows) => flows,
         Err(fault) => return Err(flows_stop(alloc, fault)),
     };
-    if let Some(lack) = first_lack(domain.cycle_time(), flows.as_slice()) {
+    if let Some(lack) = first_lack(domain, flows.as_slice()) {
         return Err(lack_stop(alloc, lack));
     }
     match requests_of(alloc, flows) {

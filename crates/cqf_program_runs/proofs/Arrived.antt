@@ -14,7 +14,7 @@ use Rattle.cqf_model.specs.Book.{Contents}
 use Rattle.cqf_model.specs.Domain.{end_of}
 use Rattle.cqf_model.specs.Run.{Run}
 use Rattle.cqf_model.specs.Shift.{InShift, IsCovered, offer_cycle}
-use Rattle.cqf_model.specs.Traffic.{DroppedFor, ExceedsGate, LacksRow, Queued, Verdict, numbered}
+use Rattle.cqf_model.specs.Policing.{DroppedFor, ExceedsGate, LacksRow, Queued, Verdict, numbered}
 use Rattle.cqf_model.specs.Promise.{SaysTheShift, IsDecided}
 use Rattle.cqf_topology.specs.PlannedText.{PlannedText}
 use Rattle.cqf_laws_shift.proofs.Decided.{is_decided, judged}
@@ -53,8 +53,8 @@ at_start starts frame link start is =
 
 module _ (run : Run) (streams : List PlannedText) (book : Contents) (says : SaysTheShift run book) where
   -- the delivery of a frame to the end of a hop, given its start there
-  abbrev way : Offered → Hop → Option Started → Delivery
-  way x hop start = delivery_of run.domain x (passage.Goes (record {
+  abbrev path : Offered → Hop → Option Started → Delivery
+  path x hop start = delivery_of run.domain x (passage.Goes (record {
     listener = name_of_end run.domain hop.link;
     whole = option_map (whole_instant run.domain) start;
     deadline = deadline_named streams x.offer.stream;
@@ -67,7 +67,7 @@ module _ (run : Run) (streams : List PlannedText) (book : Contents) (says : Says
 
   -- a delivery to a listener, if the frame starts on the link there
   abbrev by_start : (x : Offered) (row : Row) (hop : Hop) (delivery : Delivery) → IsCovered run x row → Contains (listeners_of run.domain row) hop →
-      way x hop (start_on book.starts x.frame hop.link) ≡ delivery → (start : Started) → start_on book.starts x.frame hop.link ≡ Some start →
+      path x hop (start_on book.starts x.frame hop.link) ≡ delivery → (start : Started) → start_on book.starts x.frame hop.link ≡ Some start →
       IsArrivalOfOffer run streams book delivery
   by_start x row hop delivery covered among is start e = record {
     x = x;
@@ -78,15 +78,15 @@ module _ (run : Run) (streams : List PlannedText) (book : Contents) (says : Says
     among = among;
     starts = e;
     in_shift = shifted x hop start (at_start book.starts x.frame hop.link start e);
-    is = sym is ∙ ap (way x hop) e;
+    is = sym is ∙ ap (path x hop) e;
   }
 
   -- a delivery to a listener that has arrived
   to_listener : (x : Offered) (row : Row) (hop : Hop) (delivery : Delivery) → IsCovered run x row → Contains (listeners_of run.domain row) hop →
-      way x hop (start_on book.starts x.frame hop.link) ≡ delivery → has_come (fate_of delivery) ≡ true →
+      path x hop (start_on book.starts x.frame hop.link) ≡ delivery → has_come (fate_of delivery) ≡ true →
       (found : Option Started) → start_on book.starts x.frame hop.link ≡ found → IsArrivalOfOffer run streams book delivery
   to_listener x row hop delivery covered among is come None e = absurd (false≢true (
-      ap (λ (o : Option Started). has_come (fate_of (way x hop o))) (sym e) ∙ ap (λ (z : Delivery). has_come (fate_of z)) is ∙ come))
+      ap (λ (o : Option Started). has_come (fate_of (path x hop o))) (sym e) ∙ ap (λ (z : Delivery). has_come (fate_of z)) is ∙ come))
   to_listener x row hop delivery covered among is come (Some start) e = by_start x row hop delivery covered among is start e
 
   -- of an offer of a cycle that is run
@@ -135,14 +135,14 @@ module _ (run : Run) (streams : List PlannedText) (book : Contents) (says : Says
       let own : Contains (deliveries_of_offer run streams book x) delivery =
       subst (λ (ds : List Delivery). Contains ds delivery) (sym (of_covered run streams book says x shift.covered.offered within row shift.covered))
       (contains_map (delivery_to run.domain whole deadline x) (listeners_of run.domain row) hop among) in
-      let told = says.each frame link cycle shift in
-      let start = told.0 in
-      let same_frame : start.frame ≡ x.frame = told.2 ∙ shift.is_frame in
-      let same_link : start.link ≡ hop.link = told.3 ∙ sym shift.is_hop.is_link in
+      let reported = says.each frame link cycle shift in
+      let start = reported.0 in
+      let same_frame : start.frame ≡ x.frame = reported.2 ∙ shift.is_frame in
+      let same_link : start.link ≡ hop.link = reported.3 ∙ sym shift.is_hop.is_link in
       let passes : ((start.frame == x.frame) && (start.link == hop.link)) ≡ true = both start x hop same_frame same_link in
-      let found = find_some (λ (s : Started). (s.frame == x.frame) && (s.link == hop.link)) book.starts start told.1 passes in
+      let found = find_some (λ (s : Started). (s.frame == x.frame) && (s.link == hop.link)) book.starts start reported.1 passes in
       let come : has_come (fate_of delivery) ≡ true =
-      ap (λ (o : Option Started). has_come (fate_of (way x hop o))) found.1 ∙ come_by x.offer.at.0 (whole_instant run.domain found.0) deadline in
+      ap (λ (o : Option Started). has_come (fate_of (path x hop o))) found.1 ∙ come_by x.offer.at.0 (whole_instant run.domain found.0) deadline in
       record {
         delivery = delivery;
         listed = contains_flat (deliveries_of_offer run streams book) (numbered run.offers) x delivery shift.covered.offered own;

@@ -2,7 +2,7 @@
 use Rattle.std.proofs.Common.{◌≡◌, ◌∙◌, ◌+◌, ℕ, Bool, true, false, not, List, Option, Some, None, Result, Ok, ap, filter, refl, sym}
 use Rattle.std.proofs.lemmas.Bool.{false≢true}
 use Rattle.cqf_lists.specs.Results.{refuse}
-use Rattle.cqf_lists.proofs.Members.{contains_at, contains_filter, contains_from_filter, place_of_member}
+use Rattle.cqf_lists.proofs.Members.{contains_at, contains_filter, contains_from_filter, index_of_member}
 use Rattle.cqf_lists.proofs.Numbered.{enum_at, enum_there}
 use Rattle.cqf_model.specs.declared.history.Refused.{Refused}
 use Rattle.cqf_model.specs.declared.history.Reply.{Reply}
@@ -42,9 +42,9 @@ module _ (entries : List Recorded) where
   pub none_is_refused : first_refused entries ≡ None → NoneIsRefused entries
   none_is_refused none e fault among call is =
       let own = contains_filter is_call entries e among (is_false (is_seal e.act) call) in
-      let place = place_of_member (filter is_call entries) e own in
-      let listed = enum_there 1 place.0 (1 + place.0) (filter is_call entries) e refl place.1 in
-      false≢true (sym (none_passes refused (numbered_calls entries) none (1 + place.0, e) listed) ∙ ap is_refused is)
+      let index = index_of_member (filter is_call entries) e own in
+      let listed = enum_there 1 index.0 (1 + index.0) (filter is_call entries) e refl index.1 in
+      false≢true (sym (none_passes refused (numbered_calls entries) none (1 + index.0, e) listed) ∙ ap is_refused is)
 
   -- and conversely
   pub none_refused : NoneIsRefused entries → first_refused entries ≡ None

@@ -8,7 +8,7 @@ use Rattle.std.proofs.lemmas.List.Elements.{filter-append}
 use Rattle.std.proofs.lemmas.List.Folds.{find-append}
 use Rattle.std.proofs.lemmas.List.Sums.{length-filter}
 use Rattle.cqf_model.specs.declared.frames.Offered.{Offered}
-use Rattle.cqf_model.specs.Traffic.{numbered}
+use Rattle.cqf_model.specs.Policing.{numbered}
 use Rattle.cqf_program_runs.specs.declared.check.checked.CheckCounts.{CheckCounts}
 use Rattle.cqf_program_runs.specs.declared.check.checked.OfferCounts.{OfferCounts}
 use Rattle.cqf_program_runs.specs.declared.deliveries.delivery.Delivery.{Delivery}
@@ -60,26 +60,26 @@ abbrev pub ends_it : Delivery → Bool
 ends_it delivery = is_bad (fate_of delivery)
 
 -- those of one offer, of a run that is over
-module _ (over : Over) (place : ℕ) (here : List Delivery) (within : place < length over.offers)
-    (are : (x : Offered) → slice_get (numbered over.offers) place ≡ Some x → here ≡ deliveries_at over x)
-    (well : NoneBad (deliveries_among over (take place (numbered over.offers)))) where
+module _ (over : Over) (index : ℕ) (here : List Delivery) (within : index < length over.offers)
+    (are : (x : Offered) → slice_get (numbered over.offers) index ≡ Some x → here ≡ deliveries_at over x)
+    (well : NoneBad (deliveries_among over (take index (numbered over.offers)))) where
   -- the result of the search in its deliveries is that of the search in the deliveries up to it
-  found_here : (found : Option Delivery) → find ends_it here ≡ found → find ends_it (deliveries_among over (take (place + 1) (numbered over.offers))) ≡ found
+  found_here : (found : Option Delivery) → find ends_it here ≡ found → find ends_it (deliveries_among over (take (index + 1) (numbered over.offers))) ≡ found
   found_here found is =
-      ap (find ends_it) (sym (among_more over place here within are))
-      ∙ find-append ends_it (deliveries_among over (take place (numbered over.offers))) here
+      ap (find ends_it) (sym (among_more over index here within are))
+      ∙ find-append ends_it (deliveries_among over (take index (numbered over.offers))) here
       ∙ (λ i. option_or (well i) (is i))
 
   -- no delivery so far is bad if none of this offer is
-  pub none_bad_more : find ends_it here ≡ None → NoneBad (deliveries_among over (take (place + 1) (numbered over.offers)))
+  pub none_bad_more : find ends_it here ≡ None → NoneBad (deliveries_among over (take (index + 1) (numbered over.offers)))
   none_bad_more is = found_here None is
 
   -- otherwise its first bad delivery is the first of all
   pub first_bad_of_all : (bad : Delivery) → find ends_it here ≡ Some bad → find ends_it (deliveries_over over) ≡ Some bad
   first_bad_of_all bad is =
-      let front = take (place + 1) (numbered over.offers) in
-      let back = drop (place + 1) (numbered over.offers) in
-      ap (find ends_it) (ap (deliveries_among over) (sym (take-append-drop (place + 1) (numbered over.offers)))
+      let front = take (index + 1) (numbered over.offers) in
+      let back = drop (index + 1) (numbered over.offers) in
+      ap (find ends_it) (ap (deliveries_among over) (sym (take-append-drop (index + 1) (numbered over.offers)))
       ∙ flat_map-append (deliveries_at over) front back)
       ∙ find-append ends_it (deliveries_among over front) (deliveries_among over back)
       ∙ ap (λ (o : Option Delivery). option_or o (find ends_it (deliveries_among over back))) (found_here (Some bad) is)

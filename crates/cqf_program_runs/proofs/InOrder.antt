@@ -1,4 +1,4 @@
--- Offers in order of instant are in order of cycle; and from some distance on, an offer's cycle is at least `depth`
+-- Offers in order of instant are in order of cycle; and from some distance on, an offer's cycle is at least `hop_number`
 -- cycles after that of the offer this far before it.
 use Rattle.std.proofs.Common.{◌≡◌, ◌∙◌, ◌+◌, ◌-◌, ◌/◌, ◌<◌, ◌≤◌, ℕ, List, Some, ap, arith, get_or, inl, inr, length, sym}
 use Rattle.std.specs.Prelude.{slice_get, suc, zero}
@@ -15,10 +15,10 @@ pub cycles_rise : (n s t : ℕ) → s ≤ t → s / n ≤ t / n
 cycles_rise zero s t order = omega (arith, div-zero s, div-zero t)
 cycles_rise (suc n) s t order = cycles_ordered (suc n) s t (omega arith) order
 
--- below a place, an offer `frames` positions after another is of a cycle at least `depth` cycles after the other's
+-- below a place, an offer `frames` positions after another is of a cycle at least `hop_number` cycles after the other's
 abbrev pub EnoughBelow : ℕ → List Offer → ℕ → ℕ → ℕ → Type 0
-EnoughBelow n offers depth place frames = (p : ℕ) (early late : Offer) → p + frames < place → slice_get offers p ≡ Some early →
-    slice_get offers (p + frames) ≡ Some late → cycle_at n early.at.0 + depth ≤ cycle_at n late.at.0
+EnoughBelow n offers hop_number index frames = (p : ℕ) (early late : Offer) → p + frames < index → slice_get offers p ≡ Some early →
+    slice_get offers (p + frames) ≡ Some late → cycle_at n early.at.0 + hop_number ≤ cycle_at n late.at.0
 
 module _ (n : ℕ) (offers : List Offer) (ordered : StandInOrder offers) where
   pub in_order : (p q : ℕ) (a b : Offer) → p ≤ q → slice_get offers p ≡ Some a → slice_get offers q ≡ Some b → cycle_at n a.at.0 ≤ cycle_at n b.at.0
@@ -35,19 +35,19 @@ module _ (n : ℕ) (offers : List Offer) (ordered : StandInOrder offers) where
         omega (arith, ap (λ (o : Offer). cycle_at n o.at.0) is)
   ]
 
-  module _ (depth place frames : ℕ) (below : EnoughBelow n offers depth place frames) where
+  module _ (hop_number index frames : ℕ) (below : EnoughBelow n offers hop_number index frames) where
     -- if that holds for the last one too
-    pub enough_same : ((p : ℕ) (early late : Offer) → p + frames ≡ place → slice_get offers p ≡ Some early → slice_get offers place ≡ Some late →
-        cycle_at n early.at.0 + depth ≤ cycle_at n late.at.0) → EnoughBelow n offers depth (place + 1) frames
-    enough_same last p early late inside at_early at_late = elim (cases_lt (p + frames) place) [
+    pub enough_same : ((p : ℕ) (early late : Offer) → p + frames ≡ index → slice_get offers p ≡ Some early → slice_get offers index ≡ Some late →
+        cycle_at n early.at.0 + hop_number ≤ cycle_at n late.at.0) → EnoughBelow n offers hop_number (index + 1) frames
+    enough_same last p early late inside at_early at_late = elim (cases_lt (p + frames) index) [
       | inl less ↦ below p early late less at_early at_late
       | inr past ↦
-          let here : p + frames ≡ place = omega (arith, inside, past) in
+          let here : p + frames ≡ index = omega (arith, inside, past) in
           last p early late here at_early (ap (slice_get offers) (sym here) ∙ at_late)
     ]
 
     -- otherwise for a distance of one position more
-    pub enough_more : 0 < frames → EnoughBelow n offers depth (place + 1) (frames + 1)
+    pub enough_more : 0 < frames → EnoughBelow n offers hop_number (index + 1) (frames + 1)
     enough_more some p early late inside at_early at_late =
         let before : p + frames < length offers = omega (arith, slice_get_within offers (p + (frames + 1)) late at_late) in
         let middle = get_or offers (p + frames) early in

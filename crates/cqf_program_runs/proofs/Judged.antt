@@ -13,20 +13,20 @@ use Rattle.cqf_model.specs.Book.{Contents}
 use Rattle.cqf_model.specs.Domain.{Domain, is_text}
 use Rattle.cqf_model.specs.History.{Asked, Recorded, seals, table_at, tables_of}
 use Rattle.cqf_model.specs.Shift.{offer_cycle}
-use Rattle.cqf_model.specs.Traffic.{numbered}
+use Rattle.cqf_model.specs.Policing.{numbered}
 use Rattle.cqf_model.specs.Promise.{IsDecided}
 use Rattle.cqf_topology.specs.declared.paced.PacedRequest.{PacedRequest}
 use Rattle.cqf_topology.specs.PlannedText.{PlannedText}
 use Rattle.cqf_admission.specs.Asking.{asked_by, asked_paced}
 use Rattle.cqf_lists.proofs.Mapped.{position-map}
-use Rattle.cqf_admission.specs.Names.{place_named}
+use Rattle.cqf_admission.specs.Names.{index_named}
 use Rattle.cqf_lists.proofs.Firsts.{found_nowhere, found_there}
 use Rattle.cqf_laws_coverage.specs.Counted.{AreDecided}
 use Rattle.cqf_laws_coverage.specs.Judged.{OffersAreJudged, StandInOrder}
 use Rattle.cqf_instants_run.specs.declared.judged.EdgeVerdict.{EdgeVerdict}
 use Rattle.cqf_instants_run.specs.Coverage.{AreJudged}
 use Rattle.cqf_instants_run.specs.Columns.{verdict_at}
-use Rattle.cqf_instants_run.proofs.JudgedSums.{at_place}
+use Rattle.cqf_instants_run.proofs.JudgedSums.{at_index}
 use Rattle.cqf_program_plans.specs.Latency.Input.{deadlines_in}
 use Rattle.cqf_program_scenario.specs.Books.{IsBookOfScenario}
 use Rattle.cqf_program_scenario.specs.Calls.{history_of}
@@ -63,20 +63,20 @@ pub due_is : (streams : List PlannedText) (requests : List PacedRequest) (deadli
     → (name : List ℕ) →
     deadline_in (record { requests = requests; deadlines = deadlines }) name ≡ deadline_named streams name
 due_is streams requests deadlines planned name =
-    ap (option_and_then (λ (k : ℕ). get_or deadlines k None)) places
+    ap (option_and_then (λ (k : ℕ). get_or deadlines k None)) indices
     ∙ ap (λ (ends : List (Option ℕ)). option_and_then (λ (k : ℕ). get_or ends k None) (position (named name) streams)) planned.ends
     ∙ by (position (named name) streams) refl
   where
     -- the first request with the name has the index of the first such stream
-    places : place_named requests name ≡ position (named name) streams
-    places =
+    indices : index_named requests name ≡ position (named name) streams
+    indices =
         sym (position-map (λ (asked : Asked). is_text asked.name name) asked_paced requests)
         ∙ ap (position (λ (asked : Asked). is_text asked.name name)) planned.asked
         ∙ position-map (λ (asked : Asked). is_text asked.name name) (λ (p : PlannedText). asked_by p.0) streams
 
     -- whether there is one
-    by : (place : Option ℕ) → position (named name) streams ≡ place →
-        option_and_then (λ (k : ℕ). get_or (deadlines_in streams) k None) place ≡ deadline_named streams name
+    by : (index : Option ℕ) → position (named name) streams ≡ index →
+        option_and_then (λ (k : ℕ). get_or (deadlines_in streams) k None) index ≡ deadline_named streams name
     by None is = ap (option_and_then (λ (planned : PlannedText). planned.1)) (found_nowhere (named name) streams is)
     by (Some k) is = due_at streams k (find (named name) streams) (found_there (named name) streams k is)
 
@@ -89,7 +89,7 @@ edge_verdicts_decide law cycles s book rows edge_verdicts is_book judged ordered
     let early : offer_cycle s.domain x < cycles = omega (arith, within, many) in
     let sealed : cycles ≤ seals (history_of cycles s) = is_book.is_book.sealed in
     subst (IsDecided (run_of_scenario cycles s) x)
-    (sym (at_place s.domain (history_of cycles s) rows s.offers edge_verdicts judged cycles sealed x inside early))
+    (sym (at_index s.domain (history_of cycles s) rows s.offers edge_verdicts judged cycles sealed x inside early))
     (law s.domain (history_of cycles s) s.offers s.background cycles x sealed ordered inside early)
 
 -- the deliveries by the verdicts are those by the book

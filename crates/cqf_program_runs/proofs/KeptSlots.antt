@@ -69,8 +69,8 @@ module _ (d : Domain) (starts : List Started) (s : Started) (frame link : ℕ) w
   whole_at_first one two = by_both true (both_these s.frame s.link frame link one two)
 
 -- the row by which an offer goes on is one of the rows
-pub row_at_member : (rows : List Row) (edge_verdicts : List EdgeVerdict) (place : ℕ) (row : Row) → row_at rows edge_verdicts place ≡ Some row → Contains rows row
-row_at_member rows edge_verdicts place row found = by (slice_get edge_verdicts place) found
+pub row_at_member : (rows : List Row) (edge_verdicts : List EdgeVerdict) (index : ℕ) (row : Row) → row_at rows edge_verdicts index ≡ Some row → Contains rows row
+row_at_member rows edge_verdicts index row found = by (slice_get edge_verdicts index) found
   where
     by : (o : Option EdgeVerdict) → option_and_then (row_judged rows) o ≡ Some row → Contains rows row
     by None e = absurd (cc)
@@ -78,13 +78,13 @@ row_at_member rows edge_verdicts place row found = by (slice_get edge_verdicts p
     by (Some (Dropped reason)) e = absurd (cc)
 
 -- and the offer has a verdict
-pub row_at_within : (rows : List Row) (edge_verdicts : List EdgeVerdict) (place : ℕ) (row : Row) → row_at rows edge_verdicts place ≡ Some row →
-    place < length edge_verdicts
-row_at_within rows edge_verdicts place row found = by (slice_get edge_verdicts place) refl found
+pub row_at_within : (rows : List Row) (edge_verdicts : List EdgeVerdict) (index : ℕ) (row : Row) → row_at rows edge_verdicts index ≡ Some row →
+    index < length edge_verdicts
+row_at_within rows edge_verdicts index row found = by (slice_get edge_verdicts index) refl found
   where
-    by : (o : Option EdgeVerdict) → slice_get edge_verdicts place ≡ o → option_and_then (row_judged rows) o ≡ Some row → place < length edge_verdicts
+    by : (o : Option EdgeVerdict) → slice_get edge_verdicts index ≡ o → option_and_then (row_judged rows) o ≡ Some row → index < length edge_verdicts
     by None at e = absurd (cc)
-    by (Some edge_verdict) at e = slice_get_within edge_verdicts place edge_verdict at
+    by (Some edge_verdict) at e = slice_get_within edge_verdicts index edge_verdict at
 
 -- a column is one of a listener, and of one link
 pub column_within : (d : Domain) (row : Row) (link column : ℕ) → column_of d row link ≡ Some column → column < length (listeners_of d row)
@@ -125,16 +125,16 @@ column_of_station d row link column at =
     ∙ (contains_from_filter (λ (h : Hop). is_station (end_of d h.link)) row.tree.items hop among).1
 
 -- the slot at an index is set
-pub keeps_set : (slots : List (Vec (Option Nanos) Global)) (behind column : ℕ) (own old default : Vec (Option Nanos) Global) (whole : Nanos) →
-    behind < length slots → old ≡ get_or slots behind default → KeepsFirst old.items own.items column whole →
-    KeepsInSlot (slots_of slots) (slots_of (set slots behind own)) behind column whole
-keeps_set slots behind column own old default whole below at keeps = record {
-  as_many = ap length same ∙ length-set (slots_of slots) behind own.items;
-  own = subst (λ (before : List (Option Nanos)). KeepsFirst before (get_or (slots_of (set slots behind own)) behind []) column whole)
-      (ap items at ∙ sym (get_or-map items slots behind default [] below))
+pub keeps_set : (slots : List (Vec (Option Nanos) Global)) (following column : ℕ) (own old default : Vec (Option Nanos) Global) (whole : Nanos) →
+    following < length slots → old ≡ get_or slots following default → KeepsFirst old.items own.items column whole →
+    KeepsInSlot (slots_of slots) (slots_of (set slots following own)) following column whole
+keeps_set slots following column own old default whole below at keeps = record {
+  as_many = ap length same ∙ length-set (slots_of slots) following own.items;
+  own = subst (λ (before : List (Option Nanos)). KeepsFirst before (get_or (slots_of (set slots following own)) following []) column whole)
+      (ap items at ∙ sym (get_or-map items slots following default [] below))
       (subst (λ (after : List (Option Nanos)). KeepsFirst old.items after column whole) (sym set_there) keeps);
   others = λ other apart.
-      ap (λ (zs : List (List (Option Nanos))). get_or zs other []) same ∙ get_or-set_other (slots_of slots) behind other own.items [] apart;
+      ap (λ (zs : List (List (Option Nanos))). get_or zs other []) same ∙ get_or-set_other (slots_of slots) following other own.items [] apart;
 }
   where
     -- the columns of a slot
@@ -142,13 +142,13 @@ keeps_set slots behind column own old default whole below at keeps = record {
     items v = v.items
 
     -- setting a slot sets its columns
-    same : slots_of (set slots behind own) ≡ set (slots_of slots) behind own.items
-    same = map-set (λ (v : Vec (Option Nanos) Global). v.items) slots behind own
+    same : slots_of (set slots following own) ≡ set (slots_of slots) following own.items
+    same = map-set (λ (v : Vec (Option Nanos) Global). v.items) slots following own
 
-    set_there : get_or (slots_of (set slots behind own)) behind [] ≡ own.items
+    set_there : get_or (slots_of (set slots following own)) following [] ≡ own.items
     set_there =
-        ap (λ (zs : List (List (Option Nanos))). get_or zs behind []) same
-        ∙ get_or-set_same (slots_of slots) behind own.items [] (omega (arith, below, length-map slots items))
+        ap (λ (zs : List (List (Option Nanos))). get_or zs following []) same
+        ∙ get_or-set_same (slots_of slots) following own.items [] (omega (arith, below, length-map slots items))
 
 -- the first slot is set and becomes the last
 pub turned : (slots : List (Vec (Option Nanos) Global)) (own : Vec (Option Nanos) Global) → 0 < length slots →
@@ -168,8 +168,8 @@ abbrev no_columns : List (Option Nanos)
 no_columns = []
 
 -- past the end there is nothing
-past_none : (behind : ℕ) → get_or no_slots behind [] ≡ []
-past_none behind = get_or_past no_slots behind [] (omega arith)
+past_none : (following : ℕ) → get_or no_slots following [] ≡ []
+past_none following = get_or_past no_slots following [] (omega arith)
 
 none_past : (column : ℕ) → get_or no_columns column None ≡ None
 none_past column = get_or_past no_columns column None (omega arith)
@@ -178,10 +178,10 @@ none_past column = get_or_past no_columns column None (omega arith)
 pub empty_none : (width : ℕ) (slots : List (Vec (Option Nanos) Global)) → slots ≡ [] → AreEmptySlots width 0 (slots_of slots)
 empty_none width slots none = record {
   count = ap (λ (xs : List (Vec (Option Nanos) Global)). length (slots_of xs)) none;
-  wide = λ behind below. absurd (omega (arith, below));
-  none = λ behind column.
-      ap (λ (xs : List (Vec (Option Nanos) Global)). get_or (get_or (slots_of xs) behind []) column None) none
-      ∙ ap (λ (xs : List (Option Nanos)). get_or xs column None) (past_none behind)
+  wide = λ following below. absurd (omega (arith, below));
+  none = λ following column.
+      ap (λ (xs : List (Vec (Option Nanos) Global)). get_or (get_or (slots_of xs) following []) column None) none
+      ∙ ap (λ (xs : List (Option Nanos)). get_or xs column None) (past_none following)
       ∙ none_past column;
 }
 
@@ -190,8 +190,8 @@ pub empty_more : (width n : ℕ) (slots after : List (Vec (Option Nanos) Global)
     AreEmptySlots width (n + 1) (slots_of after)
 empty_more width n slots after last empty is joined = record {
   count = ap length same ∙ length-append (slots_of slots) (last.items ∷ []) ∙ ap (λ (k : ℕ). k + 1) empty.count;
-  wide = λ behind below. ap (λ (xs : List (List (Option Nanos))). length (get_or xs behind [])) same ∙ wide_at behind below (cases_lt behind n);
-  none = λ behind column. ap (λ (xs : List (List (Option Nanos))). get_or (get_or xs behind []) column None) same ∙ none_at behind column (cases_lt behind n);
+  wide = λ following below. ap (λ (xs : List (List (Option Nanos))). length (get_or xs following [])) same ∙ wide_at following below (cases_lt following n);
+  none = λ following column. ap (λ (xs : List (List (Option Nanos))). get_or (get_or xs following []) column None) same ∙ none_at following column (cases_lt following n);
 }
   where
     same : slots_of after ≡ slots_of slots ++ last.items ∷ []
@@ -214,27 +214,27 @@ empty_more width n slots after last empty is joined = record {
         at_end [] = refl
         at_end (x ∷ xs) = at_end xs
 
-    wide_at : (behind : ℕ) → behind < n + 1 → (behind < n) ⊎ (n ≤ behind) → length (get_or (slots_of slots ++ last.items ∷ []) behind []) ≡ width
-    wide_at behind below (inl l) =
-        ap (λ (slot : List (Option Nanos)). length slot) (get_or_append_left (slots_of slots) (last.items ∷ []) [] behind (omega (arith, l, empty.count)))
-        ∙ empty.wide behind l
-    wide_at behind below (inr g) =
-        let here : behind ≡ n = omega (arith, below, g) in
+    wide_at : (following : ℕ) → following < n + 1 → (following < n) ⊎ (n ≤ following) → length (get_or (slots_of slots ++ last.items ∷ []) following []) ≡ width
+    wide_at following below (inl l) =
+        ap (λ (slot : List (Option Nanos)). length slot) (get_or_append_left (slots_of slots) (last.items ∷ []) [] following (omega (arith, l, empty.count)))
+        ∙ empty.wide following l
+    wide_at following below (inr g) =
+        let here : following ≡ n = omega (arith, below, g) in
         ap (λ (k : ℕ). length (get_or (slots_of slots ++ last.items ∷ []) k [])) here
         ∙ ap (λ (slot : List (Option Nanos)). length slot) (at_last ∙ is) ∙ length-replicate {A = Option Nanos} width None
 
-    none_at : (behind column : ℕ) → (behind < n) ⊎ (n ≤ behind) → get_or (get_or (slots_of slots ++ last.items ∷ []) behind []) column None ≡ None
-    none_at behind column (inl l) =
+    none_at : (following column : ℕ) → (following < n) ⊎ (n ≤ following) → get_or (get_or (slots_of slots ++ last.items ∷ []) following []) column None ≡ None
+    none_at following column (inl l) =
         ap (λ (slot : List (Option Nanos)). get_or slot column None)
-        (get_or_append_left (slots_of slots) (last.items ∷ []) [] behind (omega (arith, l, empty.count)))
-        ∙ empty.none behind column
-    none_at behind column (inr g) = elim (cases_lt n behind) [
+        (get_or_append_left (slots_of slots) (last.items ∷ []) [] following (omega (arith, l, empty.count)))
+        ∙ empty.none following column
+    none_at following column (inr g) = elim (cases_lt n following) [
       | inl past ↦
           ap (λ (slot : List (Option Nanos)). get_or slot column None)
-          (get_or_past (slots_of slots ++ last.items ∷ []) behind [] (omega (arith, past, empty.count, length-append (slots_of slots) (last.items ∷ []))))
+          (get_or_past (slots_of slots ++ last.items ∷ []) following [] (omega (arith, past, empty.count, length-append (slots_of slots) (last.items ∷ []))))
           ∙ none_past column
       | inr least ↦
-          let here : behind ≡ n = omega (arith, g, least) in
+          let here : following ≡ n = omega (arith, g, least) in
           ap (λ (k : ℕ). get_or (get_or (slots_of slots ++ last.items ∷ []) k []) column None) here
           ∙ ap (λ (slot : List (Option Nanos)). get_or slot column None) at_last ∙ nothing column
     ]
@@ -249,151 +249,151 @@ same_or_other a b = elim (cases_Bool (a == b)) [
 pub some_same : {X : Type 0} (x y : X) → Some x ≡ Some y → x ≡ y
 some_same x y e = cc
 
-module _ (d : Domain) (rows : List Row) (edge_verdicts : List EdgeVerdict) (place : ℕ) where
+module _ (d : Domain) (rows : List Row) (edge_verdicts : List EdgeVerdict) (index : ℕ) where
   -- nothing more is noted
-  pub notes_none : (slots : List (List (Option Nanos))) → NotesAll d rows edge_verdicts place [] slots slots
+  pub notes_none : (slots : List (List (Option Nanos))) → NotesAll d rows edge_verdicts index [] slots slots
   notes_none slots = record {
     as_many = refl;
-    noted = λ starts width are. subst (λ (ss : List Started). AreSlots d rows edge_verdicts ss place width slots) (sym (append-nil starts)) are;
+    noted = λ starts width are. subst (λ (ss : List Started). AreSlots d rows edge_verdicts ss index width slots) (sym (append-nil starts)) are;
   }
 
   -- starts after starts
   pub notes_then : (first second : List Started) (before between after : List (List (Option Nanos))) →
-      NotesAll d rows edge_verdicts place first before between → NotesAll d rows edge_verdicts place second between after →
-      NotesAll d rows edge_verdicts place (first ++ second) before after
+      NotesAll d rows edge_verdicts index first before between → NotesAll d rows edge_verdicts index second between after →
+      NotesAll d rows edge_verdicts index (first ++ second) before after
   notes_then first second before between after one two = record {
     as_many = two.as_many ∙ one.as_many;
     noted = λ starts width are.
-        subst (λ (ss : List Started). AreSlots d rows edge_verdicts ss place width after) (append_assoc starts first second)
+        subst (λ (ss : List Started). AreSlots d rows edge_verdicts ss index width after) (append_assoc starts first second)
         (two.noted (starts ++ first) width (one.noted starts width are));
   }
 
   module _ (s : Started) where
     -- a start is skipped if it is of no frame that is kept, or reaches none of its listeners
     pub passed_over : (slots : List (List (Option Nanos))) →
-        ((behind : ℕ) (row : Row) (column : ℕ) → behind < length slots → row_at rows edge_verdicts (place + behind) ≡ Some row →
-        column_of d row s.link ≡ Some column → s.frame ≡ place + behind + 1 → ⊥) →
-        NotesAll d rows edge_verdicts place (s ∷ []) slots slots
+        ((following : ℕ) (row : Row) (column : ℕ) → following < length slots → row_at rows edge_verdicts (index + following) ≡ Some row →
+        column_of d row s.link ≡ Some column → s.frame ≡ index + following + 1 → ⊥) →
+        NotesAll d rows edge_verdicts index (s ∷ []) slots slots
     passed_over slots none = record {
       as_many = refl;
       noted = λ starts width are. record {
         room = are.room;
         wide = are.wide;
-        tell = λ behind below row link column found at.
-            are.tell behind below row link column found at
-            ∙ sym (whole_as_before d starts s (place + behind + 1) link (λ own on.
-            none behind row column below found (subst (λ (l : ℕ). column_of d row l ≡ Some column) (sym on) at) own));
+        write = λ following below row link column found at.
+            are.write following below row link column found at
+            ∙ sym (whole_as_before d starts s (index + following + 1) link (λ own on.
+            none following row column below found (subst (λ (l : ℕ). column_of d row l ≡ Some column) (sym on) at) own));
       };
     }
 
     -- and another start is noted
-    module _ (before after : List (List (Option Nanos))) (row : Row) (behind column : ℕ) (own : s.frame ≡ place + behind + 1)
-        (below : behind < length before) (found : row_at rows edge_verdicts (place + behind) ≡ Some row) (at : column_of d row s.link ≡ Some column)
-        (keeps : KeepsInSlot before after behind column (whole_instant d s)) where
-      module _ (starts : List Started) (width : ℕ) (are : AreSlots d rows edge_verdicts starts place width before) where
-        wide_then : (k : ℕ) → k < length after → (k ≡ behind) ⊎ (k ≢ behind) → length (get_or after k []) ≡ width
+    module _ (before after : List (List (Option Nanos))) (row : Row) (following column : ℕ) (own : s.frame ≡ index + following + 1)
+        (below : following < length before) (found : row_at rows edge_verdicts (index + following) ≡ Some row) (at : column_of d row s.link ≡ Some column)
+        (keeps : KeepsInSlot before after following column (whole_instant d s)) where
+      module _ (starts : List Started) (width : ℕ) (are : AreSlots d rows edge_verdicts starts index width before) where
+        wide_then : (k : ℕ) → k < length after → (k ≡ following) ⊎ (k ≢ following) → length (get_or after k []) ≡ width
         wide_then k inside (inl same) =
-            ap (λ (j : ℕ). length (get_or after j [])) same ∙ keeps.own.as_many ∙ are.wide behind below
+            ap (λ (j : ℕ). length (get_or after j [])) same ∙ keeps.own.as_many ∙ are.wide following below
         wide_then k inside (inr other) =
             ap (λ (slot : List (Option Nanos)). length slot) (keeps.others k other) ∙ are.wide k (omega (arith, inside, keeps.as_many))
 
         -- in the same slot
-        tell_there : (other : Row) (link c : ℕ) → row_at rows edge_verdicts (place + behind) ≡ Some other → column_of d other link ≡ Some c →
-            (c ≡ column) ⊎ (c ≢ column) → get_or (get_or after behind []) c None ≡ whole_on d (starts ++ s ∷ []) (place + behind + 1) link
-        tell_there other link c found_it at_it (inl same) =
+        write_there : (other : Row) (link c : ℕ) → row_at rows edge_verdicts (index + following) ≡ Some other → column_of d other link ≡ Some c →
+            (c ≡ column) ⊎ (c ≢ column) → get_or (get_or after following []) c None ≡ whole_on d (starts ++ s ∷ []) (index + following + 1) link
+        write_there other link c found_it at_it (inl same) =
             let is_row : other ≡ row = some_same other row (sym found_it ∙ found) in
             let here : column_of d row link ≡ Some column = subst (λ (r : Row). column_of d r link ≡ Some column) is_row (at_it ∙ ap Some same) in
             let on : s.link ≡ link = one_link d row s.link link column at here in
-            let inside : column < length (get_or before behind []) =
-            omega (arith, column_within d row s.link column at, are.room row (row_at_member rows edge_verdicts (place + behind) row found), are.wide behind below) in
-            ap (λ (j : ℕ). get_or (get_or after behind []) j None) same
+            let inside : column < length (get_or before following []) =
+            omega (arith, column_within d row s.link column at, are.room row (row_at_member rows edge_verdicts (index + following) row found), are.wide following below) in
+            ap (λ (j : ℕ). get_or (get_or after following []) j None) same
             ∙ keeps.own.own inside
-            ∙ ap (λ (o : Option Nanos). option_or o (Some (whole_instant d s))) (are.tell behind below row link column found here)
-            ∙ sym (whole_at_first d starts s (place + behind + 1) link own on)
-        tell_there other link c found_it at_it (inr apart) =
+            ∙ ap (λ (o : Option Nanos). option_or o (Some (whole_instant d s))) (are.write following below row link column found here)
+            ∙ sym (whole_at_first d starts s (index + following + 1) link own on)
+        write_there other link c found_it at_it (inr apart) =
             let is_row : other ≡ row = some_same other row (sym found_it ∙ found) in
             let here : column_of d row link ≡ Some c = subst (λ (r : Row). column_of d r link ≡ Some c) is_row at_it in
             keeps.own.others c apart
-            ∙ are.tell behind below other link c found_it at_it
-            ∙ sym (whole_as_before d starts s (place + behind + 1) link (λ _ on.
+            ∙ are.write following below other link c found_it at_it
+            ∙ sym (whole_as_before d starts s (index + following + 1) link (λ _ on.
             apart (some_same c column (sym here ∙ ap (column_of d row) (sym on) ∙ at))))
 
-        tell_then : (k : ℕ) (other : Row) (link c : ℕ) → k < length after → row_at rows edge_verdicts (place + k) ≡ Some other →
-            column_of d other link ≡ Some c → (k ≡ behind) ⊎ (k ≢ behind) →
-            get_or (get_or after k []) c None ≡ whole_on d (starts ++ s ∷ []) (place + k + 1) link
-        tell_then k other link c inside found_it at_it (inl same) =
-            subst (λ (j : ℕ). get_or (get_or after j []) c None ≡ whole_on d (starts ++ s ∷ []) (place + j + 1) link) (sym same)
-            (tell_there other link c (subst (λ (j : ℕ). row_at rows edge_verdicts (place + j) ≡ Some other) same found_it) at_it (same_or_other c column))
-        tell_then k other link c inside found_it at_it (inr apart) =
+        write_then : (k : ℕ) (other : Row) (link c : ℕ) → k < length after → row_at rows edge_verdicts (index + k) ≡ Some other →
+            column_of d other link ≡ Some c → (k ≡ following) ⊎ (k ≢ following) →
+            get_or (get_or after k []) c None ≡ whole_on d (starts ++ s ∷ []) (index + k + 1) link
+        write_then k other link c inside found_it at_it (inl same) =
+            subst (λ (j : ℕ). get_or (get_or after j []) c None ≡ whole_on d (starts ++ s ∷ []) (index + j + 1) link) (sym same)
+            (write_there other link c (subst (λ (j : ℕ). row_at rows edge_verdicts (index + j) ≡ Some other) same found_it) at_it (same_or_other c column))
+        write_then k other link c inside found_it at_it (inr apart) =
             ap (λ (slot : List (Option Nanos)). get_or slot c None) (keeps.others k apart)
-            ∙ are.tell k (omega (arith, inside, keeps.as_many)) other link c found_it at_it
-            ∙ sym (whole_as_before d starts s (place + k + 1) link (λ frame _. apart (omega (arith, frame, own))))
+            ∙ are.write k (omega (arith, inside, keeps.as_many)) other link c found_it at_it
+            ∙ sym (whole_as_before d starts s (index + k + 1) link (λ frame _. apart (omega (arith, frame, own))))
 
-      pub noted_there : NotesAll d rows edge_verdicts place (s ∷ []) before after
+      pub noted_there : NotesAll d rows edge_verdicts index (s ∷ []) before after
       noted_there = record {
         as_many = keeps.as_many;
         noted = λ starts width are. record {
           room = are.room;
-          wide = λ k inside. wide_then starts width are k inside (same_or_other k behind);
-          tell = λ k inside other link c found_it at_it. tell_then starts width are k other link c inside found_it at_it (same_or_other k behind);
+          wide = λ k inside. wide_then starts width are k inside (same_or_other k following);
+          write = λ k inside other link c found_it at_it. write_then starts width are k other link c inside found_it at_it (same_or_other k following);
         };
       }
 
 -- the first slot is emptied and becomes that of the frame after the last one; nothing is known of that frame
-module _ (d : Domain) (rows : List Row) (edge_verdicts : List EdgeVerdict) (starts : List Started) (place width : ℕ)
+module _ (d : Domain) (rows : List Row) (edge_verdicts : List EdgeVerdict) (starts : List Started) (index width : ℕ)
     (emptied : List (Option Nanos)) where
-  slots_next_of : (first : List (Option Nanos)) (more : List (List (Option Nanos))) → AreSlots d rows edge_verdicts starts place width (first ∷ more) →
+  slots_next_of : (first : List (Option Nanos)) (more : List (List (Option Nanos))) → AreSlots d rows edge_verdicts starts index width (first ∷ more) →
       length emptied ≡ width → ((column : ℕ) → get_or emptied column None ≡ None) →
-      ((row : Row) (link : ℕ) → row_at rows edge_verdicts (place + (length more + 1)) ≡ Some row →
-      whole_on d starts (place + (length more + 1) + 1) link ≡ None) →
-      AreSlots d rows edge_verdicts starts (place + 1) width (more ++ emptied ∷ [])
+      ((row : Row) (link : ℕ) → row_at rows edge_verdicts (index + (length more + 1)) ≡ Some row →
+      whole_on d starts (index + (length more + 1) + 1) link ≡ None) →
+      AreSlots d rows edge_verdicts starts (index + 1) width (more ++ emptied ∷ [])
   slots_next_of first more are as_wide none nothing = record {
     room = are.room;
-    wide = λ behind inside. wide_at behind inside (cases_lt behind (length more));
-    tell = λ behind inside row link column found at. tell_at behind inside row link column found at (cases_lt behind (length more));
+    wide = λ following inside. wide_at following inside (cases_lt following (length more));
+    write = λ following inside row link column found at. write_at following inside row link column found at (cases_lt following (length more));
   }
     where
       -- the last slot is the emptied one
-      last : (behind : ℕ) → behind < length (more ++ emptied ∷ []) → length more ≤ behind → get_or (more ++ emptied ∷ []) behind [] ≡ emptied
-      last behind inside past =
-          let here : behind ≡ length more = omega (arith, inside, past, length-append more (emptied ∷ [])) in
+      last : (following : ℕ) → following < length (more ++ emptied ∷ []) → length more ≤ following → get_or (more ++ emptied ∷ []) following [] ≡ emptied
+      last following inside past =
+          let here : following ≡ length more = omega (arith, inside, past, length-append more (emptied ∷ [])) in
           ap (λ (k : ℕ). get_or (more ++ emptied ∷ []) k []) here ∙ at_end more
         where
           at_end : (xs : List (List (Option Nanos))) → get_or (xs ++ emptied ∷ []) (length xs) [] ≡ emptied
           at_end [] = refl
           at_end (x ∷ xs) = at_end xs
 
-      wide_at : (behind : ℕ) → behind < length (more ++ emptied ∷ []) → (behind < length more) ⊎ (length more ≤ behind) →
-          length (get_or (more ++ emptied ∷ []) behind []) ≡ width
-      wide_at behind inside (inl before) =
-          ap (λ (slot : List (Option Nanos)). length slot) (get_or_append_left more (emptied ∷ []) [] behind before)
-          ∙ are.wide (suc behind) (omega (arith, before))
-      wide_at behind inside (inr past) = ap (λ (slot : List (Option Nanos)). length slot) (last behind inside past) ∙ as_wide
+      wide_at : (following : ℕ) → following < length (more ++ emptied ∷ []) → (following < length more) ⊎ (length more ≤ following) →
+          length (get_or (more ++ emptied ∷ []) following []) ≡ width
+      wide_at following inside (inl before) =
+          ap (λ (slot : List (Option Nanos)). length slot) (get_or_append_left more (emptied ∷ []) [] following before)
+          ∙ are.wide (suc following) (omega (arith, before))
+      wide_at following inside (inr past) = ap (λ (slot : List (Option Nanos)). length slot) (last following inside past) ∙ as_wide
 
-      tell_at : (behind : ℕ) → behind < length (more ++ emptied ∷ []) → (row : Row) (link column : ℕ) →
-          row_at rows edge_verdicts (place + 1 + behind) ≡ Some row → column_of d row link ≡ Some column →
-          (behind < length more) ⊎ (length more ≤ behind) →
-          get_or (get_or (more ++ emptied ∷ []) behind []) column None ≡ whole_on d starts (place + 1 + behind + 1) link
-      tell_at behind inside row link column found at (inl before) =
-          let shift : place + 1 + behind ≡ place + suc behind = omega arith in
-          ap (λ (slot : List (Option Nanos)). get_or slot column None) (get_or_append_left more (emptied ∷ []) [] behind before)
-          ∙ are.tell (suc behind) (omega (arith, before)) row link column (subst (λ (k : ℕ). row_at rows edge_verdicts k ≡ Some row) shift found) at
+      write_at : (following : ℕ) → following < length (more ++ emptied ∷ []) → (row : Row) (link column : ℕ) →
+          row_at rows edge_verdicts (index + 1 + following) ≡ Some row → column_of d row link ≡ Some column →
+          (following < length more) ⊎ (length more ≤ following) →
+          get_or (get_or (more ++ emptied ∷ []) following []) column None ≡ whole_on d starts (index + 1 + following + 1) link
+      write_at following inside row link column found at (inl before) =
+          let shift : index + 1 + following ≡ index + suc following = omega arith in
+          ap (λ (slot : List (Option Nanos)). get_or slot column None) (get_or_append_left more (emptied ∷ []) [] following before)
+          ∙ are.write (suc following) (omega (arith, before)) row link column (subst (λ (k : ℕ). row_at rows edge_verdicts k ≡ Some row) shift found) at
           ∙ ap (λ (k : ℕ). whole_on d starts (k + 1) link) (sym shift)
-      tell_at behind inside row link column found at (inr past) =
-          let here : place + (length more + 1) ≡ place + 1 + behind = omega (arith, inside, past, length-append more (emptied ∷ [])) in
-          ap (λ (slot : List (Option Nanos)). get_or slot column None) (last behind inside past)
+      write_at following inside row link column found at (inr past) =
+          let here : index + (length more + 1) ≡ index + 1 + following = omega (arith, inside, past, length-append more (emptied ∷ [])) in
+          ap (λ (slot : List (Option Nanos)). get_or slot column None) (last following inside past)
           ∙ none column
           ∙ sym (nothing row link (subst (λ (k : ℕ). row_at rows edge_verdicts k ≡ Some row) (sym here) found))
           ∙ ap (λ (k : ℕ). whole_on d starts (k + 1) link) here
 
-  pub slots_next : (slots after : List (List (Option Nanos))) → 0 < length slots → AreSlots d rows edge_verdicts starts place width slots →
+  pub slots_next : (slots after : List (List (Option Nanos))) → 0 < length slots → AreSlots d rows edge_verdicts starts index width slots →
       length emptied ≡ width → ((column : ℕ) → get_or emptied column None ≡ None) → after ≡ drop 1 slots ++ emptied ∷ [] →
-      ((row : Row) (link : ℕ) → row_at rows edge_verdicts (place + length slots) ≡ Some row →
-      whole_on d starts (place + length slots + 1) link ≡ None) → AreSlots d rows edge_verdicts starts (place + 1) width after
+      ((row : Row) (link : ℕ) → row_at rows edge_verdicts (index + length slots) ≡ Some row →
+      whole_on d starts (index + length slots + 1) link ≡ None) → AreSlots d rows edge_verdicts starts (index + 1) width after
   slots_next [] after some are as_wide none is nothing = absurd (omega (arith, some))
   slots_next (first ∷ more) after some are as_wide none is nothing =
-      subst (λ (xs : List (List (Option Nanos))). AreSlots d rows edge_verdicts starts (place + 1) width xs) (sym is)
+      subst (λ (xs : List (List (Option Nanos))). AreSlots d rows edge_verdicts starts (index + 1) width xs) (sym is)
       (slots_next_of first more are as_wide none (λ row link found.
-      let same : place + (length more + 1) ≡ place + length (first ∷ more) = omega arith in
+      let same : index + (length more + 1) ≡ index + length (first ∷ more) = omega arith in
       ap (λ (k : ℕ). whole_on d starts (k + 1) link) same
       ∙ nothing row link (subst (λ (k : ℕ). row_at rows edge_verdicts k ≡ Some row) same found)))

@@ -5,25 +5,25 @@ use Rattle.std.proofs.lemmas.List.Sums.{count_by_more_no, count_by_more_yes}
 use Rattle.std.proofs.lemmas.Option.{get_or_from_slice_get, slice_get_within}
 use Rattle.cqf_model.specs.declared.frames.Offer.{Offer}
 use Rattle.cqf_model.specs.declared.frames.Offered.{Offered}
-use Rattle.cqf_model.specs.Traffic.{numbered}
+use Rattle.cqf_model.specs.Policing.{numbered}
 use Rattle.cqf_instants_run.proofs.Covers.{numbered_at}
 
-module _ (late : Offered → Bool) (offers : List Offer) (place : ℕ) (offer : Offer) (at : slice_get offers place ≡ Some offer) where
+module _ (late : Offered → Bool) (offers : List Offer) (index : ℕ) (offer : Offer) (at : slice_get offers index ≡ Some offer) where
   -- the offer with its number
   abbrev x : Offered
-  x = record { frame = place + 1; offer = offer }
+  x = record { frame = index + 1; offer = offer }
 
-  inside : place < length (numbered offers)
-  inside = slice_get_within (numbered offers) place x (numbered_at offers place offer at)
+  inside : index < length (numbered offers)
+  inside = slice_get_within (numbered offers) index x (numbered_at offers index offer at)
 
-  is : (b : Bool) → late x ≡ b → late (get_or (numbered offers) place x) ≡ b
-  is b e = ap late (get_or_from_slice_get (numbered offers) place x x (numbered_at offers place offer at)) ∙ e
+  is : (b : Bool) → late x ≡ b → late (get_or (numbered offers) index x) ≡ b
+  is b e = ap late (get_or_from_slice_get (numbered offers) index x x (numbered_at offers index offer at)) ∙ e
 
   -- it is counted if its cycle isn't run
-  pub one_later : late x ≡ true → (so_far : ℕ) → so_far ≡ count_by late (take place (numbered offers)) →
-      so_far + 1 ≡ count_by late (take (place + 1) (numbered offers))
-  one_later e so_far counted = omega (arith, counted, count_by_more_yes late (numbered offers) place x inside (is true e))
+  pub one_later : late x ≡ true → (so_far : ℕ) → so_far ≡ count_by late (take index (numbered offers)) →
+      so_far + 1 ≡ count_by late (take (index + 1) (numbered offers))
+  one_later e so_far counted = omega (arith, counted, count_by_more_yes late (numbered offers) index x inside (is true e))
 
-  pub none_later : late x ≡ false → (so_far : ℕ) → so_far ≡ count_by late (take place (numbered offers)) →
-      so_far ≡ count_by late (take (place + 1) (numbered offers))
-  none_later e so_far counted = omega (arith, counted, count_by_more_no late (numbered offers) place x inside (is false e))
+  pub none_later : late x ≡ false → (so_far : ℕ) → so_far ≡ count_by late (take index (numbered offers)) →
+      so_far ≡ count_by late (take (index + 1) (numbered offers))
+  none_later e so_far counted = omega (arith, counted, count_by_more_no late (numbered offers) index x inside (is false e))

@@ -17,15 +17,15 @@ mod Planned
 mod Passing
 mod Later
 pub mod Judged
-mod Told
+mod Written
 mod OfCycles
 mod Room
 pub mod OneMore
 mod Counted
 mod KeptSlots
-pub mod ToldStarts
+pub mod WrittenStarts
 mod InOrder
 mod FollowedOn
-pub mod BehindOffers
-mod SlotsTell
+pub mod AfterOffers
+mod SlotsWrite
 pub mod Greatest

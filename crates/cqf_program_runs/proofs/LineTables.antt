@@ -31,7 +31,7 @@ record HasClosed (cycles : ℕ) (entries : List Recorded) : Type 0 where
 
 -- no entries are a legal history
 none_legal : IsLegalHistory line_domain []
-none_legal = record { replies = λ place e is. cc; few_seals = omega arith; few_calls = omega arith }
+none_legal = record { replies = λ index e is. cc; few_seals = omega arith; few_calls = omega arith }
 
 -- the stream is granted
 granted_first : TableLaws → (offers : List Offer) → HasClosed 0 (called_for (line_scenario offers))
@@ -56,8 +56,8 @@ closes_one laws cycles entries h few = record {
   counted = laws.counted entries 1 Seals Sealed ∙ ap (λ (n : ℕ). n + 1) h.counted;
   tables = λ cycle within. elim (cases_lt cycle cycles) [
     | inl before ↦ laws.stays line_domain entries 1 Seals Sealed cycle (omega (arith, before, h.counted)) ∙ h.tables cycle before
-    | inr behind ↦
-        let last : seals entries ≡ cycle = omega (arith, within, behind, h.counted) in
+    | inr following ↦
+        let last : seals entries ≡ cycle = omega (arith, within, following, h.counted) in
         subst (λ (n : ℕ). table_at line_domain (with_call line_domain entries (1, Seals)) n ≡ line_row ∷ []) last
         (laws.closes line_domain entries (line_row ∷ []) 1 1 h.state)
   ];

@@ -20,7 +20,7 @@ use Rattle.cqf_model.specs.Domain.{Domain, end_of, is_text}
 use Rattle.cqf_model.specs.Run.{Run}
 use Rattle.cqf_model.specs.Shift.{IsCovered, offer_cycle, row_for}
 use Rattle.cqf_model.specs.Table.{AreOrderly, IsTree, table_of}
-use Rattle.cqf_model.specs.Traffic.{numbered}
+use Rattle.cqf_model.specs.Policing.{numbered}
 use Rattle.cqf_model.specs.Promise.{SaysTheShift}
 use Rattle.cqf_model.proofs.Texts.{is_text_itself, is_text_same}
 use Rattle.cqf_topology.specs.DomainText.{IsDomain}
@@ -30,7 +30,7 @@ use Rattle.cqf_program_plans.specs.EndNames.{name_of_end}
 use Rattle.cqf_program_plans.specs.Latency.Text.{is_station, listeners_of}
 use Rattle.cqf_program_runs.specs.declared.deliveries.delivery.Passage.TheVariants as passage
 use Rattle.cqf_program_runs.specs.declared.deliveries.delivery.Delivery.{Delivery}
-use Rattle.cqf_program_runs.specs.Deliveries.ArrivalLaws.{IsToldOnce, goes_to, told_of_frame, told_to}
+use Rattle.cqf_program_runs.specs.Deliveries.ArrivalLaws.{IsWrittenOnce, goes_to, written_of_frame, written_to}
 use Rattle.cqf_program_runs.specs.Deliveries.{deadline_named, deliveries_by, deliveries_of_offer, deliveries_unless}
 use Rattle.cqf_program_runs.specs.Deliveries.{delivery_of, delivery_to, drop_of, whole_on}
 use Rattle.cqf_program_runs.proofs.Listeners.{one_listener}
@@ -52,9 +52,9 @@ filter_alone {X} p (y ∷ xs) x apart inside passes =
           let none : filter p xs ≡ [] =
           filter_none p xs (λ z c. not_passing (p z) (λ second. pairs_head excluded y xs z apart c first second)) in
           cond-true (p y) (y ∷ filter p xs) (filter p xs) first ∙ ap₂ (λ (a : X) (rest : List X). a ∷ rest) same none
-      | inr behind ↦
-          cond-false (p y) (y ∷ filter p xs) (filter p xs) (not_passing (p y) (λ first. pairs_head excluded y xs x apart behind first passes))
-          ∙ filter_alone p xs x (pairs_tail excluded y xs apart) behind passes
+      | inr following ↦
+          cond-false (p y) (y ∷ filter p xs) (filter p xs) (not_passing (p y) (λ first. pairs_head excluded y xs x apart following first passes))
+          ∙ filter_alone p xs x (pairs_tail excluded y xs apart) following passes
     ]
 
 module _ (run : Run) (streams : List PlannedText) (book : Contents) where
@@ -96,18 +96,18 @@ module _ (run : Run) (streams : List PlannedText) (book : Contents) where
             let two : b.frame ≡ x.frame = grind (arith, nat_tests) in
             omega (arith, less, one, two)
 
-    told_is_own : told_of_frame run streams book x.frame ≡ deliveries_of_offer run streams book x
-    told_is_own =
+    written_is_own : written_of_frame run streams book x.frame ≡ deliveries_of_offer run streams book x
+    written_is_own =
         let itself : (x.frame == x.frame) ≡ true = grind (arith, nat_tests) in
         filter_made (deliveries_of_offer run streams book) (λ (y : Offered). y.frame == x.frame) (λ (delivery : Delivery). delivery.frame == x.frame)
         (numbered run.offers) (λ y delivery among c. ap (λ (n : ℕ). n == x.frame) (frame_of y delivery c))
         ∙ ap (flat_map (deliveries_of_offer run streams book)) (filter_alone (λ (y : Offered). y.frame == x.frame) (numbered run.offers) x apart inside itself)
         ∙ append-nil (deliveries_of_offer run streams book x)
 
-    pub is_told_once : SaysTheShift run book → offer_cycle run.domain x < length run.tables → IsToldOnce run streams book x
-    is_told_once says within = record {
-      as_covered = λ row covered. told_is_own ∙ of_covered run streams book says x inside within row covered;
-      as_dropped = λ reason uncovered. told_is_own ∙ of_uncovered run streams book says x inside within reason uncovered;
+    pub is_written_once : SaysTheShift run book → offer_cycle run.domain x < length run.tables → IsWrittenOnce run streams book x
+    is_written_once says within = record {
+      as_covered = λ row covered. written_is_own ∙ of_covered run streams book says x inside within row covered;
+      as_dropped = λ reason uncovered. written_is_own ∙ of_uncovered run streams book says x inside within reason uncovered;
     }
 
     -- and exactly one delivery goes to each listener
@@ -138,14 +138,14 @@ module _ (run : Run) (streams : List PlannedText) (book : Contents) where
           (is_text_same (name_of_end d a.link) (name_of_end d hop.link) first ∙ sym (is_text_same (name_of_end d b.link) (name_of_end d hop.link) second))))
           (AllPairs-filter ends (λ (h : Hop). is_station (end_of d h.link)) row.tree.items tree.reached_once)
 
-      pub told_to_one : told_to run streams book x.frame (name_of_end d hop.link) ≡ 1
-      told_to_one =
+      pub written_to_one : written_to run streams book x.frame (name_of_end d hop.link) ≡ 1
+      written_to_one =
           let to = delivery_to d (whole_on d book.starts x.frame) (deadline_named streams x.offer.stream) x in
           let counts : Hop → ℕ = λ h. if to_it h then 1 else 0 in
-          let told : told_to run streams book x.frame (name_of_end d hop.link) ≡ sum_by counts (listeners_of d row) =
+          let reported : written_to run streams book x.frame (name_of_end d hop.link) ≡ sum_by counts (listeners_of d row) =
           ap (λ (ds : List Delivery). count_by (λ (z : Delivery). goes_to (name_of_end d hop.link) z.passage) ds)
-          ((is_told_once says within).as_covered row covered)
+          ((is_written_once says within).as_covered row covered)
           ∙ sum_map (λ (z : Delivery). cond (goes_to (name_of_end d hop.link) z.passage) 1 0) to (listeners_of d row) in
           let most : sum_by counts (listeners_of d row) ≤ 1 = sum_at_most_one to_it 1 (listeners_of d row) one_hop in
           let least : counts hop ≤ sum_by counts (listeners_of d row) = sum_member counts (listeners_of d row) hop among in
-          omega (arith, told, most, least, ap {B = ℕ} (λ (b : Bool). if b then 1 else 0) (is_text_itself (name_of_end d hop.link)))
+          omega (arith, reported, most, least, ap {B = ℕ} (λ (b : Bool). if b then 1 else 0) (is_text_itself (name_of_end d hop.link)))

@@ -10,7 +10,7 @@ use Rattle.cqf_model.specs.declared.frames.Offered.{Offered}
 use Rattle.cqf_model.specs.declared.frames.Reason.TheVariants.{Unknown}
 use Rattle.cqf_model.specs.declared.topology.Row.{Row}
 use Rattle.cqf_model.specs.Domain.{Domain}
-use Rattle.cqf_model.specs.Traffic.{Verdict, numbered}
+use Rattle.cqf_model.specs.Policing.{Verdict, numbered}
 use Rattle.cqf_instants_run.specs.declared.judged.EdgeVerdict.{EdgeVerdict}
 use Rattle.cqf_instants_run.specs.declared.judged.EdgeVerdict.TheVariants.{Dropped}
 use Rattle.cqf_instants_run.specs.Coverage.{verdict_of}
@@ -19,26 +19,26 @@ use Rattle.cqf_instants_run.specs.Columns.{verdict_at}
 use Rattle.cqf_program_runs.specs.declared.deliveries.delivery.Delivery.{Delivery}
 use Rattle.cqf_program_runs.specs.Deliveries.ByVerdict.{Known, deliveries_of_all, deliveries_within}
 
-module _ (d : Domain) (cycles : ℕ) (known : Known) (verdict : Offered → Verdict) (offers : List Offer) (place : ℕ) (offer : Offer)
-    (at : slice_get offers place ≡ Some offer) where
+module _ (d : Domain) (cycles : ℕ) (known : Known) (verdict : Offered → Verdict) (offers : List Offer) (index : ℕ) (offer : Offer)
+    (at : slice_get offers index ≡ Some offer) where
   -- the offer with its number
   abbrev x : Offered
-  x = record { frame = place + 1; offer = offer }
+  x = record { frame = index + 1; offer = offer }
 
   -- its deliveries follow those of the offers before it
-  pub deliveries_more : (done : List Delivery) → done ≡ deliveries_of_all d cycles known verdict (take place (numbered offers)) →
-      done ++ deliveries_within d cycles known verdict x ≡ deliveries_of_all d cycles known verdict (take (place + 1) (numbered offers))
+  pub deliveries_more : (done : List Delivery) → done ≡ deliveries_of_all d cycles known verdict (take index (numbered offers)) →
+      done ++ deliveries_within d cycles known verdict x ≡ deliveries_of_all d cycles known verdict (take (index + 1) (numbered offers))
   deliveries_more done so_far =
       ap (λ z. z ++ deliveries_within d cycles known verdict x) so_far
-      ∙ sym (flat_map_found (deliveries_within d cycles known verdict) (numbered offers) place (deliveries_within d cycles known verdict x)
-      (ap (option_map (deliveries_within d cycles known verdict)) (numbered_at offers place offer at)))
+      ∙ sym (flat_map_found (deliveries_within d cycles known verdict) (numbered offers) index (deliveries_within d cycles known verdict x)
+      (ap (option_map (deliveries_within d cycles known verdict)) (numbered_at offers index offer at)))
 
 -- the verdict on it is that at its index
-pub verdict_here : (d : Domain) (rows : List Row) (edge_verdicts : List EdgeVerdict) (place : ℕ) (offer : Offer) (other : EdgeVerdict) →
-    place < length edge_verdicts →
-    verdict_of rows (cycle_at d.cycle_time offer.at.0) (get_or edge_verdicts place other)
-    ≡ verdict_at d rows edge_verdicts (record { frame = place + 1; offer = offer })
-verdict_here d rows edge_verdicts place offer other inside =
-    let back : place ≡ place + 1 - 1 = omega arith in
+pub verdict_here : (d : Domain) (rows : List Row) (edge_verdicts : List EdgeVerdict) (index : ℕ) (offer : Offer) (other : EdgeVerdict) →
+    index < length edge_verdicts →
+    verdict_of rows (cycle_at d.cycle_time offer.at.0) (get_or edge_verdicts index other)
+    ≡ verdict_at d rows edge_verdicts (record { frame = index + 1; offer = offer })
+verdict_here d rows edge_verdicts index offer other inside =
+    let back : index ≡ index + 1 - 1 = omega arith in
     ap (λ (j : EdgeVerdict). verdict_of rows (cycle_at d.cycle_time offer.at.0) j)
-    (get_or_default edge_verdicts place other (Dropped Unknown) inside ∙ ap (λ (k : ℕ). get_or edge_verdicts k (Dropped Unknown)) back)
+    (get_or_default edge_verdicts index other (Dropped Unknown) inside ∙ ap (λ (k : ℕ). get_or edge_verdicts k (Dropped Unknown)) back)

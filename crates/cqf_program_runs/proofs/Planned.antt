@@ -15,7 +15,7 @@ use Rattle.cqf_program_scenario.specs.Lines.{streams_line}
 use Rattle.cqf_program_scenario.specs.Parts.{RunTexts}
 use Rattle.cqf_program_plans.specs.Edges.{has_access, open_edges_of_part}
 use Rattle.cqf_program_plans.specs.Latency.Input.{asked_in}
-use Rattle.cqf_program_scenario.specs.Scenario.{Scenario, scenario_behind}
+use Rattle.cqf_program_scenario.specs.Scenario.{Scenario, scenario_after}
 use Rattle.cqf_output.specs.declared.stops.Stop.{Stop}
 use Rattle.cqf_output.specs.Stops.{IsRefused, or_line}
 use Rattle.cqf_program_runs.specs.Deliveries.PlannedScenario.{planned_of_part, planned_scenario_of}
@@ -48,7 +48,7 @@ module _ (limits : Limits) (cycles : ℕ) (texts : RunTexts) where
   with_scenario found scenario = Ok (scenario, found)
 
   abbrev with_streams : NetworkDomain → List PlannedText → Result (Scenario × List PlannedText) (List ℕ)
-  with_streams network found = and_then (scenario_behind cycles (domain_of network) (asked_in found) texts) (with_scenario found)
+  with_streams network found = and_then (scenario_after cycles (domain_of network) (asked_in found) texts) (with_scenario found)
 
   abbrev with_network : NetworkDomain → Result (Scenario × List PlannedText) (List ℕ)
   with_network network = and_then (planned_of_part network texts.streams) (with_streams network)
@@ -70,26 +70,26 @@ module _ (limits : Limits) (cycles : ℕ) (texts : RunTexts) (network : NetworkD
     (part : network_of_part limits texts.domain ≡ Ok network) (domain : d ≡ domain_of network)
     (read : planned_of_part network texts.streams ≡ Ok streams) where
   -- what follows the domain and the streams decides
-  planned_is : planned_scenario_of limits cycles texts ≡ and_then (scenario_behind cycles d (asked_in streams) texts) (with_scenario limits cycles texts streams)
+  planned_is : planned_scenario_of limits cycles texts ≡ and_then (scenario_after cycles d (asked_in streams) texts) (with_scenario limits cycles texts streams)
   planned_is =
       network_is limits cycles texts network part
       ∙ ap (λ found. and_then found (with_streams limits cycles texts network)) read
-      ∙ ap (λ own. and_then (scenario_behind cycles own (asked_in streams) texts) (with_scenario limits cycles texts streams)) (sym domain)
+      ∙ ap (λ own. and_then (scenario_after cycles own (asked_in streams) texts) (with_scenario limits cycles texts streams)) (sym domain)
 
   -- if that is read, all is
   pub planned-Ok : (requests : List PacedRequest) (s : Scenario) → map asked_paced requests ≡ asked_in streams →
-      scenario_behind cycles d (map asked_paced requests) texts ≡ Ok s → planned_scenario_of limits cycles texts ≡ Ok (s, streams)
+      scenario_after cycles d (map asked_paced requests) texts ≡ Ok s → planned_scenario_of limits cycles texts ≡ Ok (s, streams)
   planned-Ok requests s asked is =
       planned_is
-      ∙ ap (λ found. and_then found (with_scenario limits cycles texts streams)) (ap (λ (found : List Asked). scenario_behind cycles d found texts) (sym asked) ∙ is)
+      ∙ ap (λ found. and_then found (with_scenario limits cycles texts streams)) (ap (λ (found : List Asked). scenario_after cycles d found texts) (sym asked) ∙ is)
 
   -- and if that is refused, all is
   pub planned-refused : (requests : List PacedRequest) (stop : Stop) → map asked_paced requests ≡ asked_in streams →
-      IsRefused (scenario_behind cycles d (map asked_paced requests) texts) stop → IsRefused (planned_scenario_of limits cycles texts) stop
+      IsRefused (scenario_after cycles d (map asked_paced requests) texts) stop → IsRefused (planned_scenario_of limits cycles texts) stop
   planned-refused requests stop asked refused = record {
     statuses = refused.statuses;
     line = λ one. planned_is
-        ∙ ap (λ found. and_then found (with_scenario limits cycles texts streams)) (ap (λ (found : List Asked). scenario_behind cycles d found texts) (sym asked)
+        ∙ ap (λ found. and_then found (with_scenario limits cycles texts streams)) (ap (λ (found : List Asked). scenario_after cycles d found texts) (sym asked)
         ∙ refused.line one);
     memory = refused.memory;
   }

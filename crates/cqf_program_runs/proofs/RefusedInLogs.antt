@@ -32,7 +32,7 @@ module _ (requests : List Asked) (script : List ℕ) where
 
   -- a call isn't a Seal
   call_is : (what : What) → not (is_seal (act_in requests script what)) ≡ is_call what
-  call_is (Admit place) = refl
+  call_is (Admit index) = refl
   call_is (Withdraw from octets) = refl
   call_is Seal = refl
 
@@ -80,19 +80,19 @@ module _ (log : List Logged) (index number : ℕ) (h : refused_from (number + 1)
     from_it : refused_from (number + 1) (logged ∷ drop (index + 1) log) ≡ refused_from 1 log
     from_it = sym (ap (refused_from (number + 1)) (drop_more log index d inside)) ∙ h
 
-    pub behind_seal : is_call logged.what ≡ false → refused_from (number + 1) (drop (index + 1) log) ≡ refused_from 1 log
-    behind_seal none = sym (seal_passed (number + 1) logged (drop (index + 1) log) none) ∙ from_it
+    pub after_seal : is_call logged.what ≡ false → refused_from (number + 1) (drop (index + 1) log) ≡ refused_from 1 log
+    after_seal none = sym (seal_passed (number + 1) logged (drop (index + 1) log) none) ∙ from_it
 
-    pub behind_call : is_call logged.what ≡ true → is_refused logged.reply ≡ false →
+    pub after_call : is_call logged.what ≡ true → is_refused logged.reply ≡ false →
         refused_from (number + 1 + 1) (drop (index + 1) log) ≡ refused_from 1 log
-    behind_call call fine = sym (call_passed (number + 1) logged (drop (index + 1) log) call fine) ∙ from_it
+    after_call call fine = sym (call_passed (number + 1) logged (drop (index + 1) log) call fine) ∙ from_it
 
     pub at_call : is_call logged.what ≡ true → is_refused logged.reply ≡ true → Some (number + 1, logged) ≡ refused_from 1 log
     at_call call bad = sym (call_found (number + 1) logged (drop (index + 1) log) call bad) ∙ from_it
 
   -- past the end no call is left
-  pub behind_all : length log ≤ index → None ≡ refused_from 1 log
-  behind_all past = sym (ap (refused_from (number + 1)) (drop_all index log past)) ∙ h
+  pub after_all : length log ≤ index → None ≡ refused_from 1 log
+  after_all past = sym (ap (refused_from (number + 1)) (drop_all index log past)) ∙ h
 
 -- the call that is found is an entry of the log, and refused
 pub found_refused : (log : List Logged) (call : ℕ × Logged) → refused_from 1 log ≡ Some call → Contains log call.1 × (is_refused call.1.reply ≡ true)

@@ -15,7 +15,7 @@ use Rattle.cqf_model.specs.Book.{Contents}
 use Rattle.cqf_model.specs.History.{Recorded, streams_of}
 use Rattle.cqf_model.specs.Run.{Run}
 use Rattle.cqf_model.specs.Shift.{IsCovered, IsUncovered, offer_cycle}
-use Rattle.cqf_model.specs.Traffic.{DroppedFor, ExceedsGate, LacksRow, Queued, Verdict, numbered}
+use Rattle.cqf_model.specs.Policing.{DroppedFor, ExceedsGate, LacksRow, Queued, Verdict, numbered}
 use Rattle.cqf_model.specs.Promise.{SaysTheShift, IsDecided}
 use Rattle.cqf_topology.specs.PlannedText.{PlannedText}
 use Rattle.cqf_laws_shift.proofs.Decided.{is_decided, judged}

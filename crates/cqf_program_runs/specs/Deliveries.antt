@@ -24,7 +24,7 @@ use Rattle.cqf_model.specs.Book.{Contents}
 use Rattle.cqf_model.specs.Domain.{Domain, is_text}
 use Rattle.cqf_model.specs.Run.{Run}
 use Rattle.cqf_model.specs.Shift.{offer_cycle, row_for}
-use Rattle.cqf_model.specs.Traffic.{numbered}
+use Rattle.cqf_model.specs.Policing.{numbered}
 use Rattle.cqf_topology.specs.PlannedText.{PlannedText}
 use Rattle.cqf_topology.specs.NodeNames.{name_of_bridge}
 use Rattle.cqf_laws_timing.specs.Latency.{whole_of}

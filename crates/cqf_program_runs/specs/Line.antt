@@ -1,6 +1,6 @@
 -- The smallest network: one bridge, one station, the link from one to the other, and one stream.
 pub mod Output
-pub mod Told
+pub mod Written
 use Rattle.std.specs.Prelude.{ℕ, List, [], ◌∷◌, None, codes}
 use Rattle.cqf_units.specs.declared.timing.Rate.TheVariants.{Mb1000}
 use Rattle.cqf_lists.specs.Lists.{each_below}
@@ -26,6 +26,7 @@ line_domain = record {
   cycle_time = 125000;
   guard = 5000;
   sync = 0;
+  overhead = 0;
   bridges = codes "a" ∷ [];
   stations = codes "s" ∷ [];
   links = line_link ∷ [];
@@ -42,11 +43,11 @@ line_scenario offers = record { domain = line_domain; calls = (0, Admits line_as
 
 -- the one hop of the stream's tree
 abbrev pub line_hop : Hop
-line_hop = record { link = 0; depth = 1; from = None }
+line_hop = record { link = 0; hop_number = 1; from = None }
 
 -- the stream's row: 1,500 octets per cycle on that link, live in every cycle
 abbrev pub line_row : Row
-line_row = record { no = 0; name = codes "x"; octets = 1500; pace = each_cycle; tree = record { items = line_hop ∷ [] }; admitted = record { 0 = 0 }; withdrawn = None }
+line_row = record { no = 0; name = codes "x"; octets = 1500; overhead = 0; pace = each_cycle; tree = record { items = line_hop ∷ [] }; admitted = record { 0 = 0 }; withdrawn = None }
 
 -- the tables of the first cycles: the stream, and no other, is held in each
 abbrev pub line_tables : ℕ → List (List Row)

@@ -1,7 +1,7 @@
 //! The commands over a run on one thread: `line`, `run`, `report`, `deliveries` and `check`.
 //!
 //! Each has a function that returns its output for its input, or the stop with the line of the input's first fault. If
-//! an output has a `tell`, this writes the output and allocates no memory.
+//! an output has a `write`, this writes the output and allocates no memory.
 //!
 //! - [`line_output`]: the book of one bridge with one stream, by its offers ([`LineOutput`]).
 //! - [`run_output`]: the history and the book of a scenario ([`RunOutput`]).
@@ -19,8 +19,8 @@
 //!   ([`PlannedGiven`]), [`noted_of_scenario`] the notes about it (`Noted`, [`CompletedRun`]) and the frames under way
 //!   ([`UnderWay`]), and [`put_those_of`] puts the deliveries of one offer ([`Few`]).
 //! - `complaint_about`, `none_offered_line`, `unfinished_line` and `well_line` are the lines of a check.
-//! - The law [`verdicts_tell_deliveries`] relates deliveries by the verdicts on offers to those of a book.
-//!   [`arrivals_are_the_shift`] says which have arrived, [`each_is_told_once`] which deliveries an offer has, and
+//! - The law [`verdicts_give_deliveries`] relates deliveries by the verdicts on offers to those of a book.
+//!   [`arrivals_are_the_shift`] says which have arrived, [`each_is_written_once`] which deliveries an offer has, and
 //!   [`check_is_well_exactly`] when a check reports that all is well.
 //!
 //! Each command is a folder in `src/` and in `specs/`. The `Output` of each defines when a text is the output. `Line`
@@ -62,10 +62,10 @@ pub(crate) use deliveries::noted::Noted;
 pub use deliveries::noted::noted_of_scenario;
 pub use deliveries::outputs::DeliveriesOutput;
 pub use deliveries::reading::{PlannedGiven, read_planned_given};
-pub use deliveries::rooms::deepest;
+pub use deliveries::rooms::greatest_hop_number;
 pub use deliveries::under_way::UnderWay;
 pub use laws::{
-    arrivals_are_the_shift, check_is_well_exactly, each_is_told_once, verdicts_tell_deliveries,
+    arrivals_are_the_shift, check_is_well_exactly, each_is_written_once, verdicts_give_deliveries,
 };
 pub use line::command::line_output;
 pub use line::outputs::LineOutput;

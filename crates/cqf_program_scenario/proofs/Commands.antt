@@ -113,33 +113,33 @@ AreCommandsBy-call found call n before after other adds h = record {
         adds.others admin none apart ∙ h.each admin none below ∙ sym (commands-same found call admin is)
 
 -- a command is added to the list at its administrator's index
-pub AddsCommand-set : (lists : List (Vec Command Global)) (place admin : ℕ) (own : Vec Command Global) (old : Vec Command Global)
+pub AddsCommand-set : (lists : List (Vec Command Global)) (index admin : ℕ) (own : Vec Command Global) (old : Vec Command Global)
     (d : Vec Command Global) (command : Command) →
-    place ≡ admin → place < length lists → old ≡ get_or lists place d → own.items ≡ old.items ++ command ∷ [] →
-    AddsCommand (acts_of_each lists) (acts_of_each (set lists place own)) admin (act_of_command command)
-AddsCommand-set lists place admin own old d command is below at more = record {
-  as_many = ap length same ∙ length-set (acts_of_each lists) place (acts_parted own);
+    index ≡ admin → index < length lists → old ≡ get_or lists index d → own.items ≡ old.items ++ command ∷ [] →
+    AddsCommand (acts_of_each lists) (acts_of_each (set lists index own)) admin (act_of_command command)
+AddsCommand-set lists index admin own old d command is below at more = record {
+  as_many = ap length same ∙ length-set (acts_of_each lists) index (acts_parted own);
   own = λ none inside.
       ap (λ (zs : List (List Act)). get_or zs admin none) same
-      ∙ ap (λ (k : ℕ). get_or (set (acts_of_each lists) place (acts_parted own)) k none) (sym is)
-      ∙ get_or-set_same (acts_of_each lists) place (acts_parted own) none (omega (arith, below, length-map lists acts_parted))
+      ∙ ap (λ (k : ℕ). get_or (set (acts_of_each lists) index (acts_parted own)) k none) (sym is)
+      ∙ get_or-set_same (acts_of_each lists) index (acts_parted own) none (omega (arith, below, length-map lists acts_parted))
       ∙ ap (map act_of_command) more ∙ map-append act_of_command old.items (command ∷ [])
       ∙ ap (λ (v : Vec Command Global). acts_parted v ++ act_of_command command ∷ []) at
-      ∙ ap (λ (acts : List Act). acts ++ act_of_command command ∷ []) (sym (get_or-map acts_parted lists place d none below))
+      ∙ ap (λ (acts : List Act). acts ++ act_of_command command ∷ []) (sym (get_or-map acts_parted lists index d none below))
       ∙ ap (λ (k : ℕ). get_or (acts_of_each lists) k none ++ act_of_command command ∷ []) is;
   others = λ other none apart.
       ap (λ (zs : List (List Act)). get_or zs other none) same
-      ∙ get_or-set_other (acts_of_each lists) place other (acts_parted own) none (λ e. apart (e ∙ is));
+      ∙ get_or-set_other (acts_of_each lists) index other (acts_parted own) none (λ e. apart (e ∙ is));
 }
   where
     -- the list that was set is seen at its index
-    same : acts_of_each (set lists place own) ≡ set (acts_of_each lists) place (acts_parted own)
-    same = map-set acts_parted lists place own
+    same : acts_of_each (set lists index own) ≡ set (acts_of_each lists) index (acts_parted own)
+    same = map-set acts_parted lists index own
 
 -- the first index at which an element of a list, under a function, passes
-pub place-map : {X Y : Type 0} (p : Y → Bool) (f : X → Y) (xs : List X) → position_or_len p (map f xs) ≡ position_or_len (λ x. p (f x)) xs
-place-map p f [] = refl
-place-map p f (x ∷ xs) = ap (λ (n : ℕ). cond (not (p (f x))) (1 + n) 0) (place-map p f xs)
+pub index-map : {X Y : Type 0} (p : Y → Bool) (f : X → Y) (xs : List X) → position_or_len p (map f xs) ≡ position_or_len (λ x. p (f x)) xs
+index-map p f [] = refl
+index-map p f (x ∷ xs) = ap (λ (n : ℕ). cond (not (p (f x))) (1 + n) 0) (index-map p f xs)
 
 -- an index that is found is the first one at which an element passes
 module _ {X : Type 0} (p : X → Bool) (xs : List X) where
@@ -164,23 +164,23 @@ module _ {X : Type 0} (p : X → Bool) (xs : List X) where
 module _ (calls : List (ℕ × Call)) where
   -- the index of that Seal among the acts
   seal_at : position_or_len closes (map called_of calls) ≡ position_or_len (λ (call : ℕ × Call). closes (called_of call)) calls
-  seal_at = place-map closes called_of calls
+  seal_at = index-map closes called_of calls
 
   -- the calls before it are the opening calls, and those from it on are the others
   pub opening-cut : (k : ℕ) → position (λ (call : ℕ × Call). closes (called_of call)) calls ≡ Some k →
       map called_of (take k calls) ≡ opening_calls (map called_of calls)
   opening-cut k h = sym (take-map called_of k calls) ∙ ap (λ (n : ℕ). take n (map called_of calls)) (sym (seal_at ∙ found_at _ calls k h))
 
-  pub behind-cut : (k : ℕ) → position (λ (call : ℕ × Call). closes (called_of call)) calls ≡ Some k →
+  pub following-cut : (k : ℕ) → position (λ (call : ℕ × Call). closes (called_of call)) calls ≡ Some k →
       map called_of (drop k calls) ≡ calls_from_seal (map called_of calls)
-  behind-cut k h = sym (drop-map called_of k calls) ∙ ap (λ (n : ℕ). drop n (map called_of calls)) (sym (seal_at ∙ found_at _ calls k h))
+  following-cut k h = sym (drop-map called_of k calls) ∙ ap (λ (n : ℕ). drop n (map called_of calls)) (sym (seal_at ∙ found_at _ calls k h))
 
   -- if there is none, all are opening calls, and there are no others
   pub opening-all : position (λ (call : ℕ × Call). closes (called_of call)) calls ≡ None → map called_of calls ≡ opening_calls (map called_of calls)
   opening-all h = sym (take_all _ (map called_of calls) (omega (arith, found_none _ calls h, seal_at, length-map calls called_of)))
 
-  pub behind-none : position (λ (call : ℕ × Call). closes (called_of call)) calls ≡ None → [] ≡ calls_from_seal (map called_of calls)
-  behind-none h = sym (drop_all _ (map called_of calls) (omega (arith, found_none _ calls h, seal_at, length-map calls called_of)))
+  pub following-none : position (λ (call : ℕ × Call). closes (called_of call)) calls ≡ None → [] ≡ calls_from_seal (map called_of calls)
+  following-none h = sym (drop_all _ (map called_of calls) (omega (arith, found_none _ calls h, seal_at, length-map calls called_of)))
 
 -- a call without a command is a Seal; the command of another call requests the same as the call
 pub seal-of : (b : Bool) (act : Act) → None ≡ (if b then None else Some act) → b ≡ true

@@ -13,7 +13,7 @@ use Rattle.cqf_instants_run.specs.Coverage.{AreJudged}
 use Rattle.cqf_instants_run.specs.Drops.{AreDropsOfHistory}
 use Rattle.cqf_instants_run.specs.Parts.{AreBackgroundOfHistory}
 use Rattle.cqf_instants_run.proofs.OfParts.{no_background}
-use Rattle.cqf_program_scenario.specs.ExactBooks.{ExactParts, TellsBook, TellsStarts}
+use Rattle.cqf_program_scenario.specs.ExactBooks.{ExactParts, WritesBook, WritesStarts}
 use Rattle.cqf_program_scenario.specs.Books.{IsBookOfScenario}
 use Rattle.cqf_program_scenario.specs.Calls.{history_of}
 use Rattle.cqf_program_scenario.specs.Closing.{MayBeRun}
@@ -21,7 +21,7 @@ use Rattle.cqf_program_scenario.specs.Scenario.{Scenario}
 use Rattle.cqf_program_scenario.proofs.BookOf.{scenario_has_book}
 use Rattle.cqf_instants.specs.Progress.{AreStartsOf, Progress}
 use Rattle.cqf_laws_history.specs.HistoryLaws.{TablesAreOrderly}
-use Rattle.cqf_laws_coverage.specs.Told.{BookOfHistoryIsThere}
+use Rattle.cqf_laws_coverage.specs.Reported.{BookOfHistoryIsThere}
 use Rattle.cqf_instants_run.specs.HistoryStarts.{IsLaidOutHistoryOf}
 use Rattle.cqf_instants_run.specs.Passes.{IsPassOf}
 use Rattle.cqf_laws_shift.specs.Run.{IsLegalRun}
@@ -70,10 +70,10 @@ as_many : (cycles : ℕ) (s : Scenario) → cycles ≡ length (tables_of s.domai
 as_many cycles s = sym (length-singles (table_at s.domain (history_of cycles s)) cycles)
 
 -- a pass of a scenario's history yields the starts of its book
-pub starts_are_told : TablesAreOrderly → BookOfHistoryIsThere → (cycles : ℕ) (s : Scenario) (rows : List Row) (edge_verdicts : List EdgeVerdict)
+pub starts_are_written : TablesAreOrderly → BookOfHistoryIsThere → (cycles : ℕ) (s : Scenario) (rows : List Row) (edge_verdicts : List EdgeVerdict)
     (pass : Progress) → IsAccepted s.domain → MayBeRun cycles s → IsLaidOutHistoryOf s.domain cycles rows s.offers edge_verdicts (history_of cycles s) →
-    IsPassOf s.domain cycles rows s.offers edge_verdicts pass → TellsStarts pass (IsBookOfScenario cycles s)
-starts_are_told are_orderly is_there cycles s rows edge_verdicts pass accepted may history tells =
+    IsPassOf s.domain cycles rows s.offers edge_verdicts pass → WritesStarts pass (IsBookOfScenario cycles s)
+starts_are_written are_orderly is_there cycles s rows edge_verdicts pass accepted may history reports =
     let entries = history_of cycles s in
     let found = scenario_has_book is_there cycles s accepted may history.legal history.sealed in
     let book : Contents = found.0 in
@@ -83,25 +83,25 @@ starts_are_told are_orderly is_there cycles s rows edge_verdicts pass accepted m
     ap (λ (n : ℕ). starts_of s.domain n one.net.carried) (as_many cycles s) ∙ sym one.are_starts in (
       book,
       subst (AreStartsOf pass.basis) starts
-          (tells.tells entries s.background one.net history (run_of_book are_orderly cycles s book accepted may history.legal is)),
+          (reports.reports entries s.background one.net history (run_of_book are_orderly cycles s book accepted may history.legal is)),
       is,
     )
 
 -- with the starts of background frames, and the drops, the book can be written
-pub parts_are_told : TablesAreOrderly → (cycles : ℕ) (s : Scenario) (parts : ExactParts) → IsAccepted s.domain → MayBeRun cycles s →
-    IsLegalHistory s.domain (history_of cycles s) → TellsStarts parts.pass (IsBookOfScenario cycles s) →
+pub parts_are_written : TablesAreOrderly → (cycles : ℕ) (s : Scenario) (parts : ExactParts) → IsAccepted s.domain → MayBeRun cycles s →
+    IsLegalHistory s.domain (history_of cycles s) → WritesStarts parts.pass (IsBookOfScenario cycles s) →
     AreBackgroundOfHistory s.domain (history_of cycles s) s.offers s.background cycles parts.background →
-    AreDropsOfHistory s.domain (history_of cycles s) s.offers cycles parts.drops → TellsBook parts (IsBookOfScenario cycles s)
-parts_are_told are_orderly cycles s parts accepted may legal told backed dropped =
-    let book : Contents = told.0 in
-    let is : IsBookOfScenario cycles s book = told.2 in
+    AreDropsOfHistory s.domain (history_of cycles s) s.offers cycles parts.drops → WritesBook parts (IsBookOfScenario cycles s)
+parts_are_written are_orderly cycles s parts accepted may legal reported backed dropped =
+    let book : Contents = reported.0 in
+    let is : IsBookOfScenario cycles s book = reported.2 in
     let one = is.is_book.is_book in
     let background_starts : parts.background ≡ book.background =
     backed one.net (run_of_book are_orderly cycles s book accepted may legal is)
     ∙ ap (λ (n : ℕ). background_of s.domain n one.net.backed) (as_many cycles s) ∙ sym one.are_background in (
       book,
       record {
-        are_starts = told.1;
+        are_starts = reported.1;
         are_background = sym background_starts;
         are_drops = sym (dropped s.background book may.background is.is_book);
       },

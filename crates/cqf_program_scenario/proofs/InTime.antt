@@ -7,7 +7,7 @@ use Rattle.cqf_model.specs.Book.{Contents}
 use Rattle.cqf_model.specs.Headline.{KeepsThePromise}
 use Rattle.cqf_model.specs.Domain.{IsAccepted}
 use Rattle.cqf_model.specs.Run.{Run}
-use Rattle.cqf_model.specs.Traffic.{whole_at}
+use Rattle.cqf_model.specs.Policing.{whole_at}
 use Rattle.cqf_laws_shift.proofs.Octets.{of_batch}
 use Rattle.cqf_laws_timing.specs.Latency.{whole_of}
 

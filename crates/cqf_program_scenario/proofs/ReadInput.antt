@@ -13,7 +13,7 @@ use Rattle.cqf_program_scenario.proofs.AskedTexts.{asked_texts}
 use Rattle.cqf_program_scenario.specs.Lines.{script_line, streams_line}
 use Rattle.cqf_program_scenario.specs.Parts.{RunTexts}
 use Rattle.cqf_output.specs.Stops.{or_line}
-use Rattle.cqf_program_scenario.specs.Scenario.{Scenario, calls_in, frames_of_part, scenario_behind, scenario_of}
+use Rattle.cqf_program_scenario.specs.Scenario.{Scenario, calls_in, frames_of_part, scenario_after, scenario_of}
 
 -- the calls that were read are the script's
 pub calls_in-is : (cycles : ℕ) (texts : RunTexts) (requests : List PacedRequest) → paced_of_text texts.streams ≡ Ok (map paced_text requests) →
@@ -26,7 +26,7 @@ calls_in-is cycles texts requests streams =
 pub scenario_of-is : (limits : Limits) (cycles : ℕ) (texts : RunTexts) (d : Domain) (requests : List PacedRequest) →
     domain_of_part limits texts.domain ≡ Ok d →
     paced_of_text texts.streams ≡ Ok (map paced_text requests) →
-    scenario_of limits cycles texts ≡ scenario_behind cycles d (map asked_paced requests) texts
+    scenario_of limits cycles texts ≡ scenario_after cycles d (map asked_paced requests) texts
 scenario_of-is limits cycles texts d requests domain streams =
     let with_calls : Domain → List Called → Result Scenario (List ℕ) = λ d calls. and_then (frames_of_part d texts) (λ frames.
     Ok (record { domain = d; calls = calls; sealer = administrators (lines_of texts.script); offers = frames.0; background = frames.1 })) in

@@ -19,9 +19,9 @@ pub record AreExactParts (parts : ExactParts) (book : Contents) : Type 0 where
   pub are_drops : book.drops ≡ parts.drops
 
 -- Is holds of a book whose starts the pass yields
-abbrev pub TellsStarts : Progress → (Contents → Type 0) → Type 0
-TellsStarts pass Is = (book : Contents) × AreStartsOf pass.basis book.starts × Is book
+abbrev pub WritesStarts : Progress → (Contents → Type 0) → Type 0
+WritesStarts pass Is = (book : Contents) × AreStartsOf pass.basis book.starts × Is book
 
 -- Is holds of a book with these parts
-abbrev pub TellsBook : ExactParts → (Contents → Type 0) → Type 0
-TellsBook parts Is = (book : Contents) × AreExactParts parts book × Is book
+abbrev pub WritesBook : ExactParts → (Contents → Type 0) → Type 0
+WritesBook parts Is = (book : Contents) × AreExactParts parts book × Is book

@@ -11,10 +11,10 @@ use Rattle.cqf_output.specs.Stops.{or_line}
 abbrev pub network_of_part : Limits → List ℕ → Result NetworkDomain (List ℕ)
 network_of_part limits text = or_line domain_line (network_of_text limits text)
 
--- the domain of a network whose cycle time isn't open: it has one, which is
+-- the domain of a network whose cycle time isn't open: it has one candidate
 abbrev pub domain_of : NetworkDomain → Domain
 domain_of network = domain_at network (open_cycle network)
 
--- that of a part
+-- the domain of a part, or the line of its first fault
 abbrev pub domain_of_part : Limits → List ℕ → Result Domain (List ℕ)
 domain_of_part limits text = and_then (network_of_part limits text) (λ network. Ok (domain_of network))

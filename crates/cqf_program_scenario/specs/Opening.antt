@@ -6,7 +6,7 @@ use Rattle.cqf_program_scenario.specs.declared.opening.Opened.{Opened}
 use Rattle.cqf_program_scenario.specs.Calls.{with_calls}
 use Rattle.cqf_program_scenario.specs.Closing.{MayBeRun}
 use Rattle.cqf_program_scenario.specs.Parted.{acts_of_each}
-use Rattle.cqf_program_scenario.specs.Parting.{AreCommandsBehind, opening_calls}
+use Rattle.cqf_program_scenario.specs.Parting.{AreCommandsAfter, opening_calls}
 use Rattle.cqf_program_scenario.specs.Scenario.{Scenario, scenario_input}
 
 -- the history of the calls before the first Seal
@@ -20,7 +20,7 @@ pub record IsOpened (cycles : ℕ) (s : Scenario) (made : Opened) : Type 0 where
   pub administered : made.admission.domain ≡ s.domain
   pub entries : made.admission.entries ≡ opening_history s
   pub none_closed : seals made.admission.entries ≡ 0
-  pub commands : AreCommandsBehind s.calls s.sealer (acts_of_each made.commands.items)
+  pub commands : AreCommandsAfter s.calls s.sealer (acts_of_each made.commands.items)
   pub offers : made.offers.items ≡ s.offers
   pub background : made.background.items ≡ s.background
 

@@ -31,8 +31,8 @@ abbrev pub calls_from_seal : List Called → List Called
 calls_from_seal found = drop (position_or_len closes found) found
 
 -- for each of admins administrators, the administrator's commands from the first Seal on
-abbrev pub AreCommandsBehind : List Called → ℕ → List (List Act) → Type 0
-AreCommandsBehind found admins lists = AreCommandsBy (calls_from_seal found) admins lists
+abbrev pub AreCommandsAfter : List Called → ℕ → List (List Act) → Type 0
+AreCommandsAfter found admins lists = AreCommandsBy (calls_from_seal found) admins lists
 
 -- the lists with one more command at the end of an administrator's list, if there is a list for this administrator
 pub record AddsCommand (before after : List (List Act)) (admin : ℕ) (act : Act) : Type 0 where

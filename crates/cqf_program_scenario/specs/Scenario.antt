@@ -43,8 +43,8 @@ frames_of_part d texts = and_then (or_line offers_line (offers_of d texts.offers
 
 -- the scenario of these parts over this number of cycles, with this domain and these streams; or the line of the first fault of its script,
 -- its offers and its background frames
-abbrev pub scenario_behind : ℕ → Domain → List Asked → RunTexts → Result Scenario (List ℕ)
-scenario_behind cycles d streams texts =
+abbrev pub scenario_after : ℕ → Domain → List Asked → RunTexts → Result Scenario (List ℕ)
+scenario_after cycles d streams texts =
     and_then (or_line script_line (script_of streams cycles texts.script)) (λ calls.
     and_then (frames_of_part d texts) (λ frames.
     Ok (record { domain = d; calls = calls; sealer = administrators (lines_of texts.script); offers = frames.0; background = frames.1 })))

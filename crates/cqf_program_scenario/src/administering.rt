@@ -46,7 +46,7 @@ fn carry_out(ledger: &mut Ledger<'_>, order: Ordered) -> Result<(), Memory>
 {
     state_follows_history();
     match order.what {
-        What::Admit(place) => entered(ledger.admit(order.seat, place)),
+        What::Admit(index) => entered(ledger.admit(order.seat, index)),
         What::Withdraw { from, octets } => entered(ledger.withdraw(order.seat, from, octets)),
         What::Seal => close(ledger, order.seat),
     }
@@ -90,7 +90,8 @@ fn close_all(ledger: &mut Ledger<'_>, seat: u16, cycles: u32) -> Result<(), Memo
     Ok(())
 }
 
-/// Returns the log of a scenario's history over `cycles` cycles, and the streams that it ever granted, by number.
+/// Returns the log of a scenario's history over `cycles` cycles, and the streams that the history ever granted, by
+/// number.
 pub(crate) fn log_of(
     alloc: Global,
     cycles: u32,

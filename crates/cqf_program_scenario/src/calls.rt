@@ -11,7 +11,7 @@ use cqf_laws_history::state_follows_history;
 use cqf_units::Memory;
 use std::alloc::AllocError;
 
-/// Checks that a call was entered. If the history isn't full, it was, unless an allocation failed; returns `Memory` then.
+/// Returns `Memory` if a call wasn't entered. The history wasn't full, so an allocation failed.
 pub(crate) fn entered(answer: Result<Receipt, Refused>) -> Result<(), Memory>
     requires { answer ≢ Err Refused.HistoryFull }
     ensures { IfOk result (λ _. is_entered answer ≡ true) }

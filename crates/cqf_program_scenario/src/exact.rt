@@ -3,7 +3,7 @@ ghost use Rattle.std.specs.Prelude.{◌≡◌, ◌≤◌, IfOk, List, length};
 ghost use Rattle.cqf_model.specs.History.{Recorded};
 ghost use Rattle.cqf_model.specs.Run.{AreBackground, AreOffers};
 ghost use Rattle.cqf_instants_run.specs.Parts.{AreBackgroundOfHistory};
-ghost use Rattle.cqf_program_scenario.specs.ExactBooks.{TellsBook, TellsStarts};
+ghost use Rattle.cqf_program_scenario.specs.ExactBooks.{WritesBook, WritesStarts};
 ghost use Rattle.cqf_laws_coverage.specs.Judged.{StandInOrder};
 ghost use Rattle.cqf_instants_run.specs.HistoryStarts.{IsLaidOutHistoryOf, SomeHistory};
 ghost use Rattle.cqf_program_scenario.specs.Books.{IsBookOfScenario};
@@ -65,8 +65,8 @@ pub fn pass_of_outcome(
 ) -> Result<Pass, Memory>
     requires may { MayBeRun cycles (scenario_given given.now) }
     requires outcome { IsOutcomeOf cycles given.now outcome.now }
-    ensures fresh { IfOk result (λ pass. pass.told ≡ 0) }
-    ensures tells { IfOk result (λ pass. TellsStarts pass (IsBookOfScenario cycles (scenario_given given.now))) }
+    ensures fresh { IfOk result (λ pass. pass.reported ≡ 0) }
+    ensures reports { IfOk result (λ pass. WritesStarts pass (IsBookOfScenario cycles (scenario_given given.now))) }
 {
     cqf_laws_history::tables_are_orderly();
     cqf_laws_coverage::book_of_history_is_there();
@@ -91,7 +91,7 @@ pub fn book_of_outcome(
 ) -> Result<ExactBook, Memory>
     requires may { MayBeRun cycles (scenario_given given.now) }
     requires outcome { IsOutcomeOf cycles given.now outcome.now }
-    ensures { IfOk result (λ parts. TellsBook parts (IsBookOfScenario cycles (scenario_given given.now))) }
+    ensures { IfOk result (λ parts. WritesBook parts (IsBookOfScenario cycles (scenario_given given.now))) }
 {
     cqf_laws_history::tables_are_orderly();
     let domain = &given.domain;

@@ -33,14 +33,14 @@ impl Model for ExactBook {
 
     ghost view = { λ b. record { pass = b.pass; background = b.background.items; drops = b.drops.items } };
 
-    ghost invariant = { λ b. b.pass.told ≡ 0 };
+    ghost invariant = { λ b. b.pass.reported ≡ 0 };
 }
 
 impl ExactBook {
     /// Returns the book with the starts that the pass yields, with these starts of background frames and these drops. The pass is before
     /// its first cycle. It allocates no memory.
     pub fn new(pass: Pass, background: Vec<Started>, drops: Vec<Dropped>) -> ExactBook
-        requires { pass.told ≡ 0 }
+        requires { pass.reported ≡ 0 }
         ensures { result ≡ record { pass = pass; background = background.items; drops = drops.items } }
     {
         ExactBook {
@@ -92,7 +92,7 @@ impl ExactBook {
 
 /// Puts a line for each start that a pass yields, cycle by cycle.
 fn put_starts_of_pass<W: Sink>(writer: &mut Writer<'_, W>, domain: &Domain, pass: Pass)
-    requires { pass.told ≡ 0 }
+    requires { pass.reported ≡ 0 }
     ensures { (starts : List AStarted) → AreStartsOf pass.basis starts →
         Puts W.contents writer.old writer.new (lines_of_starts (codes "start") domain.now starts) }
 {

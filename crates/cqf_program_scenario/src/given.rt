@@ -9,7 +9,7 @@ ghost use Rattle.cqf_admission.specs.declared.orders.Ordered.{Ordered as AnOrder
 ghost use Rattle.cqf_admission.specs.Orders.{StandsIn, ordered_in};
 ghost use Rattle.cqf_program_scenario.specs.Calls.{HasRoom};
 ghost use Rattle.cqf_program_scenario.specs.Closing.{MayBeRun, scenario_given};
-ghost use Rattle.cqf_program_scenario.specs.Scenario.{background_of_part, frames_of_part, scenario_behind, scenario_input, scenario_of};
+ghost use Rattle.cqf_program_scenario.specs.Scenario.{background_of_part, frames_of_part, scenario_after, scenario_input, scenario_of};
 ghost use Rattle.cqf_program_scenario.specs.Logged.{HasOrders};
 ghost use Rattle.cqf_admission.specs.Script.{script_of};
 ghost use Rattle.cqf_output.specs.Stops.{IsRefused, or_line};
@@ -111,18 +111,18 @@ fn read_frames(
 ///
 /// # Errors
 /// With status 1 and the line of the first fault: of the script, the offers, or the background frames. With status 3 if an allocation fails.
-pub fn read_behind(
+pub fn read_after(
     alloc: Global,
     cycles: u32,
     domain: Domain,
     requests: Vec<PacedRequest>,
     parts: RunParts<'_>,
 ) -> Result<RunInput, Stop>
-    ensures ok { IfOk result (λ given. scenario_behind cycles domain (map asked_paced requests.items) (texts_of parts.entry) ≡ Ok (scenario_given given)) }
+    ensures ok { IfOk result (λ given. scenario_after cycles domain (map asked_paced requests.items) (texts_of parts.entry) ≡ Ok (scenario_given given)) }
     ensures same { IfOk result (λ given. given.requests.items ≡ requests.items) }
     ensures stand { IfOk result (λ given. HasOrders given) }
     ensures good { IfOk result (λ given. MayBeRun cycles (scenario_given given)) }
-    ensures err { IfErr result (IsRefused (scenario_behind cycles domain (map asked_paced requests.items) (texts_of parts.entry))) }
+    ensures err { IfErr result (IsRefused (scenario_after cycles domain (map asked_paced requests.items) (texts_of parts.entry))) }
 {
     let orders = read_orders(alloc, requests.as_slice(), cycles, parts.script)?;
     let (offers, background) = read_frames(alloc, &domain, parts)?;
@@ -154,7 +154,7 @@ fn read_parts(
 {
     let domain = domain_part(alloc, limits, parts.domain)?;
     let requests = streams_part(alloc, parts.streams)?;
-    read_behind(alloc, cycles, domain, requests, parts)
+    read_after(alloc, cycles, domain, requests, parts)
 }
 
 /// Reads the scenario of the input for `cycles` cycles within some limits. On failure returns the end of the command: with status 1 and the

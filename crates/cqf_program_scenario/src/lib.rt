@@ -7,7 +7,7 @@
 //! - **The parts of an input**. A reader that refuses a part returns the end of the run: status 1 and the line of the first fault. [`one_part`],
 //!   [`two_parts`] and [`run_parts`] divide an input, the last one into [`RunParts`]. [`domain_part`], [`streams_part`], [`planned_part`],
 //!   [`script_part`], [`offers_part`] and `background_part` read a part.
-//! - **Scenarios.** [`read_given`] reads the scenario of an input, a [`RunInput`], and [`read_behind`] the rest of one whose domain and streams
+//! - **Scenarios.** [`read_given`] reads the scenario of an input, a [`RunInput`], and [`read_after`] the rest of one whose domain and streams
 //!   were read otherwise. [`outcome_of`] returns the outcome of its calls and offers, a [`ScenarioOutcome`], without running the network: the log
 //!   of its history, the streams that the history granted, and the verdict on each offer by these streams. [`pass_of_outcome`] runs the network
 //!   from that. [`read_opened`] reads a scenario whose cycles are closed while it runs: what its bridges and administrators begin with ([`Opened`]).
@@ -16,9 +16,12 @@
 //!   book is put on a writer, or gathered into a list.
 //! - **Writing.** [`put_starts_of_port`] puts the text of a port's starts on a writer, line by line, as `cqf_report` has it. It allocates no memory.
 //!
-//! In `specs/` are defined: the parts of an input (`Parts`), the line for a part's fault (`Lines`), the content of an input (`Scenario`), the
-//! history that its calls make (`Calls`), the meaning of its log (`Logged`), its book (`Books`, `Outcomes`), the book with the parts of an
-//! `ExactBook` (`ExactBooks`), and the beginning of a scenario whose cycles are closed while it runs (`Opening`).
+//! `specs/` defines:
+//!
+//! - The parts of an input (`Parts`), the line for a part's fault (`Lines`), and the content of an input (`Scenario`).
+//! - The history that its calls make (`Calls`), and the meaning of its log (`Logged`).
+//! - Its book (`Books`, `Outcomes`), and the book with the parts of an `ExactBook` (`ExactBooks`).
+//! - The beginning of a scenario whose cycles are closed while it runs (`Opening`).
 //!
 //! ```text
 //! two_parts(alloc, b"links = []\n%%\nstreams = []\n") is Ok((b"links = []\n", b"streams = []\n"))
@@ -44,7 +47,7 @@ mod readers;
 
 pub use exact::{book_of_outcome, pass_of_outcome};
 pub use exact_books::ExactBook;
-pub use given::{RunInput, read_behind, read_given};
+pub use given::{RunInput, read_after, read_given};
 pub use opening::{Opened, read_opened};
 pub use outcomes::{ScenarioOutcome, outcome_of};
 pub use parts::{RunParts, one_part, run_parts, two_parts};

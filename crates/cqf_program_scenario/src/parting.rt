@@ -5,7 +5,7 @@ ghost use Rattle.cqf_admission.specs.Admission.{act_of};
 ghost use Rattle.cqf_admission.specs.Commands.{act_of_command};
 ghost use Rattle.cqf_admission.specs.declared.entries.Call.{Call};
 ghost use Rattle.cqf_program_scenario.specs.Parted.{acts_of_each};
-ghost use Rattle.cqf_program_scenario.specs.Parting.{AddsCommand, AreCommandsBehind, AreCommandsBy, calls_from_seal, closes, opening_calls};
+ghost use Rattle.cqf_program_scenario.specs.Parting.{AddsCommand, AreCommandsAfter, AreCommandsBy, calls_from_seal, closes, opening_calls};
 ghost use Rattle.cqf_admission.specs.Script.{called_of};
 
 use cqf_admission::{Call, Command};
@@ -62,9 +62,9 @@ fn no_commands(alloc: Global, admins: u16) -> Result<Vec<Vec<Command>>, Memory>
 fn add_command(lists: &mut Vec<Vec<Command>>, admin: u16, command: Command) -> Result<(), Memory>
     ensures { OnOk result (AddsCommand (acts_of_each lists.old.items) (acts_of_each lists.new.items) admin (act_of_command command)) }
 {
-    let place = usize::from(admin);
-    if place < lists.len() {
-        lists[place].push(command)?;
+    let index = usize::from(admin);
+    if index < lists.len() {
+        lists[index].push(command)?;
     }
     Ok(())
 }
@@ -89,10 +89,10 @@ fn commands_by(
 /// Removes the calls from the first Seal on from a list and returns them.
 fn cut_at_seal(alloc: Global, calls: &mut Vec<(u16, Call)>) -> Result<Vec<(u16, Call)>, Memory>
     ensures front { OnOk result (map called_of calls.new.items ≡ opening_calls (map called_of calls.old.items)) }
-    ensures behind { IfOk result (λ behind. map called_of behind.items ≡ calls_from_seal (map called_of calls.old.items)) }
+    ensures following { IfOk result (λ following. map called_of following.items ≡ calls_from_seal (map called_of calls.old.items)) }
 {
     match first_seal(calls.as_slice()) {
-        Some(place) => Ok(calls.split_off(place)?),
+        Some(index) => Ok(calls.split_off(index)?),
         None => Ok(Vec::new(alloc)),
     }
 }
@@ -104,10 +104,10 @@ pub(crate) fn part_calls(
     admins: u16,
 ) -> Result<Parted, Memory>
     ensures opening { IfOk result (λ made. map called_of made.opening.items ≡ opening_calls (map called_of calls.items)) }
-    ensures commands { IfOk result (λ made. AreCommandsBehind (map called_of calls.items) admins (acts_of_each made.commands.items)) }
+    ensures commands { IfOk result (λ made. AreCommandsAfter (map called_of calls.items) admins (acts_of_each made.commands.items)) }
 {
     let mut opening = calls;
-    let behind = cut_at_seal(alloc, &mut opening)?;
-    let commands = commands_by(alloc, behind, admins)?;
+    let following = cut_at_seal(alloc, &mut opening)?;
+    let commands = commands_by(alloc, following, admins)?;
     Ok(Parted { opening, commands })
 }

@@ -5,7 +5,7 @@ ghost use Rattle.cqf_port.specs.PortState.{start_of};
 ghost use Rattle.cqf_output.specs.Writer.{Puts};
 ghost use Rattle.cqf_report.specs.Starts.{lines_of_port, start_fields, text_of_starts};
 ghost use Rattle.cqf_report.specs.Written.{line_of_fields};
-ghost use Rattle.cqf_program_scenario.specs.PortLines.{AreTellable};
+ghost use Rattle.cqf_program_scenario.specs.PortLines.{AreExpressible};
 ghost use Rattle.cqf_units.specs.Timing.{ticks_of_octet};
 
 use cqf_model::{Arrival, Start};
@@ -24,8 +24,8 @@ fn put_start_at<W: Sink>(
     requires early { start.1 < 2 ^ 63 }
     ensures { Puts W.contents writer.old writer.new (line_of_fields (start_fields (ticks_of_octet rate) (start_of arrivals.now start))) }
 {
-    let (place, instant) = start;
-    let arrival = arrivals[place];
+    let (index, instant) = start;
+    let arrival = arrivals[index];
     let started = Start {
         start: Nanos(instant),
         class: arrival.class,
@@ -42,7 +42,7 @@ fn put_each<W: Sink>(
     starts: &[(usize, u64)],
     rate: Rate,
 )
-    requires { AreTellable arrivals.now starts.now }
+    requires { AreExpressible arrivals.now starts.now }
     ensures { Puts W.contents writer.old writer.new (lines_of_port (ticks_of_octet rate) (map (start_of arrivals.now) starts.now)) }
 {
     for start in starts {
@@ -58,7 +58,7 @@ pub fn put_starts_of_port<W: Sink>(
     starts: &[(usize, u64)],
     rate: Rate,
 )
-    requires { AreTellable arrivals.now starts.now }
+    requires { AreExpressible arrivals.now starts.now }
     ensures { Puts W.contents writer.old writer.new (text_of_starts (ticks_of_octet rate) (map (start_of arrivals.now) starts.now)) }
 {
     put_port_header(writer);

@@ -26,7 +26,8 @@ use cqf_topology::{
 };
 use std::alloc::Global;
 
-/// Returns the end if the domain of a network is refused.
+/// Returns the end of a command whose network is refused: with status 1 and the line of the fault, or with status 3 if an allocation
+/// failed.
 fn domain_stop(alloc: Global, fault: &NetworkFault) -> Stop
     ensures refused { fault.now ≢ NetworkFault.Domain DomainFault.Memory → EndsWith 1 (domain_line fault.now) result }
     ensures memory { fault.now ≡ NetworkFault.Domain DomainFault.Memory → EndsWith 3 [] result }
@@ -37,7 +38,8 @@ fn domain_stop(alloc: Global, fault: &NetworkFault) -> Stop
     }
 }
 
-/// Returns the end of a command whose streams are refused.
+/// Returns the end of a command whose streams are refused: with status 1 and the line of the fault, or with status 3 if an allocation
+/// failed.
 fn streams_stop(alloc: Global, fault: StreamsFault) -> Stop
     ensures refused { fault ≢ StreamsFault.Memory → EndsWith 1 (streams_line fault) result }
     ensures memory { fault ≡ StreamsFault.Memory → EndsWith 3 [] result }
@@ -48,7 +50,7 @@ fn streams_stop(alloc: Global, fault: StreamsFault) -> Stop
     }
 }
 
-/// Returns the end of a command whose script is refused.
+/// Returns the end of a command whose script is refused: with status 1 and the line of the fault, or with status 3 if an allocation failed.
 fn script_stop(alloc: Global, fault: ScriptFault) -> Stop
     ensures refused { fault ≢ ScriptFault.Memory → EndsWith 1 (script_line fault) result }
     ensures memory { fault ≡ ScriptFault.Memory → EndsWith 3 [] result }
@@ -59,7 +61,8 @@ fn script_stop(alloc: Global, fault: ScriptFault) -> Stop
     }
 }
 
-/// Returns the end of a command with a refused part that is a table.
+/// Returns the end of a command with a refused part that is a table: with status 1 and the line of the fault, which names the part, or with
+/// status 3 if an allocation failed.
 fn table_stop(alloc: Global, part: &str, fault: TableFault) -> Stop
     ensures refused { fault ≢ TableFault.Memory → EndsWith 1 (fault_line part.now (table_fault_text fault)) result }
     ensures memory { fault ≡ TableFault.Memory → EndsWith 3 [] result }

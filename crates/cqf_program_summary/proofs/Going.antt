@@ -14,30 +14,30 @@ use Rattle.cqf_model.specs.Domain.{Domain}
 use Rattle.cqf_program_summary.specs.declared.hops.legs.Leg.{Leg}
 use Rattle.cqf_program_summary.specs.declared.hops.rounds.Round.{Round}
 use Rattle.cqf_program_summary.specs.declared.hops.steps.LegsUnderWay.{LegsUnderWay}
-use Rattle.cqf_program_summary.specs.Hops.Rounds.{AreRounds, HasGone, HasRoom, IsLater, KeepsRoom, Source, StandsAt, TellsKept}
-use Rattle.cqf_program_summary.specs.Hops.Rounds.{dropped_legs, kept_in, legs_behind, legs_up_to, no_round, round_before, starts_before, told_in}
+use Rattle.cqf_program_summary.specs.Hops.Rounds.{AreRounds, HasGone, HasRoom, IsLater, KeepsRoom, Source, StandsAt, WritesKept}
+use Rattle.cqf_program_summary.specs.Hops.Rounds.{dropped_legs, kept_in, legs_after, legs_up_to, no_round, round_before, starts_before, written_in}
 use Rattle.cqf_program_summary.proofs.InRounds.{kept_next}
 
 pub has_gone : (starts : List Started) (source : Source) (round : Round) (old mid new : LegsUnderWay) (here : List Leg) → StandsAt starts source old →
-    TellsKept source round.cycles old mid → IsLater old.at round → new.pass ≡ mid.pass → new.at ≡ round → here ≡ legs_up_to round.frames mid.kept.items →
+    WritesKept source round.cycles old mid → IsLater old.at round → new.pass ≡ mid.pass → new.at ≡ round → here ≡ legs_up_to round.frames mid.kept.items →
     new.here.items ≡ here ++ dropped_legs source (take (round.drops - old.at.drops) (drop old.at.drops source.drops)) →
-    new.kept.items ≡ legs_behind round.frames mid.kept.items → vec_capacity new.kept ≡ vec_capacity mid.kept → HasGone starts source round old new
-has_gone starts source round old mid new here stands tells later pass at upto pushed kept room =
-    let basis : new.pass.basis ≡ old.pass.basis = ap (λ (p : Progress). p.basis) pass ∙ tells.basis in
-    let told_here : new.here.items ≡ told_in source old.at round (starts_before round.cycles starts) =
+    new.kept.items ≡ legs_after round.frames mid.kept.items → vec_capacity new.kept ≡ vec_capacity mid.kept → HasGone starts source round old new
+has_gone starts source round old mid new here stands reports later pass at upto pushed kept room =
+    let basis : new.pass.basis ≡ old.pass.basis = ap (λ (p : Progress). p.basis) pass ∙ reports.basis in
+    let written_here : new.here.items ≡ written_in source old.at round (starts_before round.cycles starts) =
     pushed ∙ ap (λ (xs : List Leg). xs ++ dropped_legs source (take (round.drops - old.at.drops) (drop old.at.drops source.drops)))
-    (upto ∙ ap (legs_up_to round.frames) (tells.kept starts stands)) in
+    (upto ∙ ap (legs_up_to round.frames) (reports.kept starts stands)) in
     record {
       stands = record {
         is = subst (λ (b : Basis). AreStartsOf b starts) (sym basis) stands.is;
-        told = ap (λ (p : Progress). p.told) pass ∙ tells.told ∙ (λ i. min (sym at i).cycles (sym pass i).basis.cycles);
-        kept = kept ∙ ap (legs_behind round.frames) (tells.kept starts stands) ∙ kept_next source old.at round (starts_before round.cycles starts) later.frames
+        reported = ap (λ (p : Progress). p.reported) pass ∙ reports.reported ∙ (λ i. min (sym at i).cycles (sym pass i).basis.cycles);
+        kept = kept ∙ ap (legs_after round.frames) (reports.kept starts stands) ∙ kept_next source old.at round (starts_before round.cycles starts) later.frames
             ∙ ap (λ (r : Round). kept_in source r (starts_before r.cycles starts)) (sym at);
       };
-      here = told_here;
+      here = written_here;
       room = record {
-        for_kept = omega (arith, ap (λ (xs : List Leg). length xs) (tells.kept starts stands), mid.kept.ok.0, mid.kept.ok.1, room);
-        for_here = omega (arith, ap (λ (xs : List Leg). length xs) told_here, new.here.ok.0, new.here.ok.1);
+        for_kept = omega (arith, ap (λ (xs : List Leg). length xs) (reports.kept starts stands), mid.kept.ok.0, mid.kept.ok.1, room);
+        for_here = omega (arith, ap (λ (xs : List Leg). length xs) written_here, new.here.ok.0, new.here.ok.1);
       };
     }
 
@@ -56,9 +56,9 @@ rooms_more starts source rounds index old new at more gone before k below = by (
         (subst (λ (b : Round). HasRoom starts source b (get_or rounds index no_round) (vec_capacity new.kept) (vec_capacity new.here)) at gone.room)
 
 -- the rounds' own facts
-pub round_behind : (d : Domain) (depth : ℕ) (offers : List Offer) (drops : List Dropped) (rounds : List Round) (index : ℕ) (at : Round) →
-    AreRounds d depth offers drops rounds → index < length rounds → at ≡ round_before rounds index → IsLater at (get_or rounds index no_round)
-round_behind d depth offers drops rounds index at are inside is =
+pub round_after : (d : Domain) (hop_number : ℕ) (offers : List Offer) (drops : List Dropped) (rounds : List Round) (index : ℕ) (at : Round) →
+    AreRounds d hop_number offers drops rounds → index < length rounds → at ≡ round_before rounds index → IsLater at (get_or rounds index no_round)
+round_after d hop_number offers drops rounds index at are inside is =
     let next = are.each index inside in
     subst (λ (b : Round). IsLater b (get_or rounds index no_round)) (sym is)
     (record { cycles = next.cycles_later; frames = next.frames_later; drops = next.drops_later })
@@ -68,7 +68,7 @@ pub stands_sorted : (starts : List Started) (source : Source) (mid new : LegsUnd
     new.kept ≡ mid.kept → StandsAt starts source new
 stands_sorted starts source mid new stands pass at kept = record {
   is = subst (λ (p : Progress). AreStartsOf p.basis starts) (sym pass) stands.is;
-  told = ap (λ (p : Progress). p.told) pass ∙ stands.told ∙ (λ i. min (sym at i).cycles (sym pass i).basis.cycles);
+  reported = ap (λ (p : Progress). p.reported) pass ∙ stands.reported ∙ (λ i. min (sym at i).cycles (sym pass i).basis.cycles);
   kept = ap (λ (v : Vec Leg Global). v.items) kept ∙ stands.kept ∙ ap (λ (r : Round). kept_in source r (starts_before r.cycles starts)) (sym at);
 }
 
@@ -78,31 +78,31 @@ room_sorted old mid new room kept here =
 
 -- there is room if the round has room
 pub room_up_to : (starts : List Started) (source : Source) (round : Round) (old mid : LegsUnderWay) (kept : List Leg) (most : ℕ) → StandsAt starts source old →
-    TellsKept source round.cycles old mid → HasRoom starts source old.at round most (vec_capacity old.here) → kept ≡ mid.kept.items →
+    WritesKept source round.cycles old mid → HasRoom starts source old.at round most (vec_capacity old.here) → kept ≡ mid.kept.items →
     length (legs_up_to round.frames kept) ≤ vec_capacity mid.here
-room_up_to starts source round old mid kept most stands tells room is =
+room_up_to starts source round old mid kept most stands reports room is =
     let own = take (round.drops - old.at.drops) (drop old.at.drops source.drops) in
     let all = kept_in source old.at (starts_before round.cycles starts) in
     omega (
       arith,
-      ap (λ (xs : List Leg). length (legs_up_to round.frames xs)) (is ∙ tells.kept starts stands),
+      ap (λ (xs : List Leg). length (legs_up_to round.frames xs)) (is ∙ reports.kept starts stands),
       length-append (legs_up_to round.frames all) (dropped_legs source own),
       room.for_here,
-      ap (λ (v : Vec Leg Global). vec_capacity v) tells.here,
+      ap (λ (v : Vec Leg Global). vec_capacity v) reports.here,
     )
 
 pub room_of_drops : (starts : List Started) (source : Source) (round : Round) (old mid : LegsUnderWay) (kept here : List Leg) (most now : ℕ) →
-    StandsAt starts source old → TellsKept source round.cycles old mid → HasRoom starts source old.at round most (vec_capacity old.here) →
+    StandsAt starts source old → WritesKept source round.cycles old mid → HasRoom starts source old.at round most (vec_capacity old.here) →
     kept ≡ mid.kept.items → here ≡ legs_up_to round.frames kept → vec_capacity mid.here ≤ now →
     length here + length (dropped_legs source (take (round.drops - old.at.drops) (drop old.at.drops source.drops))) ≤ now
-room_of_drops starts source round old mid kept here most now stands tells room is upto more =
+room_of_drops starts source round old mid kept here most now stands reports room is upto more =
     let own = take (round.drops - old.at.drops) (drop old.at.drops source.drops) in
     let all = kept_in source old.at (starts_before round.cycles starts) in
     omega (
       arith,
-      ap (λ (xs : List Leg). length xs) (upto ∙ ap (legs_up_to round.frames) (is ∙ tells.kept starts stands)),
+      ap (λ (xs : List Leg). length xs) (upto ∙ ap (legs_up_to round.frames) (is ∙ reports.kept starts stands)),
       length-append (legs_up_to round.frames all) (dropped_legs source own),
       room.for_here,
-      ap (λ (v : Vec Leg Global). vec_capacity v) tells.here,
+      ap (λ (v : Vec Leg Global). vec_capacity v) reports.here,
       more,
     )

@@ -15,14 +15,14 @@ use Rattle.cqf_instants.specs.declared.basis.Basis.{Basis}
 use Rattle.cqf_instants.proofs.Steps.{starts_more}
 use Rattle.cqf_model.specs.declared.frames.Dropped.{Dropped}
 use Rattle.cqf_model.specs.declared.frames.Started.{Started}
-use Rattle.cqf_program_runs.specs.Deliveries.UnderWay.{starts_told}
-use Rattle.cqf_program_runs.proofs.ToldStarts.{of_its_cycle, told_in as told_in_cycles}
+use Rattle.cqf_program_runs.specs.Deliveries.UnderWay.{starts_written}
+use Rattle.cqf_program_runs.proofs.WrittenStarts.{of_its_cycle, written_in as written_in_cycles}
 use Rattle.cqf_program_summary.specs.declared.hops.legs.Leg.{Leg}
 use Rattle.cqf_program_summary.specs.declared.hops.legs.Leg.TheVariants as leg
 use Rattle.cqf_program_summary.specs.declared.hops.rounds.Round.{Round}
 use Rattle.cqf_program_summary.specs.Hops.Gathered.{kept_legs}
 use Rattle.cqf_program_summary.specs.Hops.Legs.{frame_of, is_wanted}
-use Rattle.cqf_program_summary.specs.Hops.Rounds.{Source, dropped_legs, kept_in, legs_behind, legs_of_run, legs_up_to, started_legs, starts_before, told_in}
+use Rattle.cqf_program_summary.specs.Hops.Rounds.{Source, dropped_legs, kept_in, legs_after, legs_of_run, legs_up_to, started_legs, starts_before, written_in}
 
 -- more starts are kept
 pub started_more : (source : Source) (xs ys : List Started) → started_legs source (xs ++ ys) ≡ started_legs source xs ++ started_legs source ys
@@ -35,16 +35,16 @@ dropped_more source xs ys =
     ap (kept_legs source.offers source.wanted) (map-append leg.Dropped xs ys)
     ∙ filter-append (λ (x : Leg). is_wanted source.offers source.wanted (frame_of x)) (map leg.Dropped xs) (map leg.Dropped ys)
 
-pub behind_more : (frames : ℕ) (xs ys : List Leg) → legs_behind frames (xs ++ ys) ≡ legs_behind frames xs ++ legs_behind frames ys
-behind_more frames xs ys = filter-append (λ (x : Leg). nat_lt frames (frame_of x)) xs ys
+pub after_more : (frames : ℕ) (xs ys : List Leg) → legs_after frames (xs ++ ys) ≡ legs_after frames xs ++ legs_after frames ys
+after_more frames xs ys = filter-append (λ (x : Leg). nat_lt frames (frame_of x)) xs ys
 
 pub kept_more : (source : Source) (round : Round) (xs ys : List Started) → kept_in source round (xs ++ ys) ≡ kept_in source round xs ++ kept_in source round ys
 kept_more source round xs ys =
-    ap (legs_behind round.frames) (started_more source xs ys) ∙ behind_more round.frames (started_legs source xs) (started_legs source ys)
+    ap (legs_after round.frames) (started_more source xs ys) ∙ after_more round.frames (started_legs source xs) (started_legs source ys)
 
 -- the legs after more frames
 pub kept_next : (source : Source) (before round : Round) (starts : List Started) → before.frames ≤ round.frames →
-    legs_behind round.frames (kept_in source before starts) ≡ kept_in source round starts
+    legs_after round.frames (kept_in source before starts) ≡ kept_in source round starts
 kept_next source before round starts more =
     sym (filter_weaker (λ (x : Leg). nat_lt round.frames (frame_of x)) (λ (x : Leg). nat_lt before.frames (frame_of x)) (started_legs source starts)
     (λ x among passes. further (frame_of x) passes))
@@ -53,8 +53,8 @@ kept_next source before round starts more =
     further n passes = grind (arith, nat_tests)
 
 -- the starts of a run's first cycles
-module _ (given : GivenRun) (cycles : ℕ) (starts : List Started) (are : starts ≡ starts_told given cycles) where
-  early : (n : ℕ) → n ≤ cycles → starts_before n starts ≡ starts_told given n
+module _ (given : GivenRun) (cycles : ℕ) (starts : List Started) (are : starts ≡ starts_written given cycles) where
+  early : (n : ℕ) → n ≤ cycles → starts_before n starts ≡ starts_written given n
   early n le =
       ap (starts_before n) are
       ∙ filter_front (λ (s : Started). nat_lt s.cycle.0 n) (starts_of_cycle given) n cycles le
@@ -64,14 +64,14 @@ module _ (given : GivenRun) (cycles : ℕ) (starts : List Started) (are : starts
   pub all_before : (n : ℕ) → cycles ≤ n → starts_before n starts ≡ starts
   all_before n le =
       filter_each (λ (s : Started). nat_lt s.cycle.0 n) starts
-      (λ s among. lt-ltb s.cycle.0 n (omega (arith, told_in_cycles given cycles s (subst (λ (ss : List Started). Contains ss s) are among), le)))
+      (λ s among. lt-ltb s.cycle.0 n (omega (arith, written_in_cycles given cycles s (subst (λ (ss : List Started). Contains ss s) are among), le)))
 
-  pub before_is : (n : ℕ) → starts_before n starts ≡ starts_told given (min n cycles)
+  pub before_is : (n : ℕ) → starts_before n starts ≡ starts_written given (min n cycles)
   before_is n = by (cases_lt n cycles)
     where
-      by : (n < cycles) ⊎ (cycles ≤ n) → starts_before n starts ≡ starts_told given (min n cycles)
-      by (inl lt) = (let least : n ≡ min n cycles = omega (arith, lt) in early n (omega (arith, lt)) ∙ ap (starts_told given) least)
-      by (inr le) = (let least : cycles ≡ min n cycles = omega (arith, le) in all_before n le ∙ are ∙ ap (starts_told given) least)
+      by : (n < cycles) ⊎ (cycles ≤ n) → starts_before n starts ≡ starts_written given (min n cycles)
+      by (inl lt) = (let least : n ≡ min n cycles = omega (arith, lt) in early n (omega (arith, lt)) ∙ ap (starts_written given) least)
+      by (inr le) = (let least : cycles ≡ min n cycles = omega (arith, le) in all_before n le ∙ are ∙ ap (starts_written given) least)
 
   -- one cycle more
   pub before_next : (n : ℕ) → n < cycles → starts_before (n + 1) starts ≡ starts_before n starts ++ starts_of_cycle given n
@@ -88,33 +88,33 @@ module _ (given : GivenRun) (cycles : ℕ) (starts : List Started) (are : starts
         arith,
         ap (λ (ss : List Started). length (kept_in source round ss)) (before_is a),
         ap (λ (ss : List Started). length (kept_in source round ss)) (before_is b ∙ front.is),
-        ap (λ (xs : List Leg). length xs) (kept_more source round (starts_told given (min a cycles)) front.rest),
-        length-append (kept_in source round (starts_told given (min a cycles))) (kept_in source round front.rest),
+        ap (λ (xs : List Leg). length xs) (kept_more source round (starts_written given (min a cycles)) front.rest),
+        length-append (kept_in source round (starts_written given (min a cycles))) (kept_in source round front.rest),
       )
 
 -- the starts of a cycle more are kept
-pub tells_more : (starts : List Started) (source : Source) (index : ℕ) (basis : Basis) (are : AreStartsOf basis starts) (at : Round) (before after : List Leg)
-    (told : ℕ) (more : List Started) → told ≡ index → index < basis.cycles → before ≡ kept_in source at (starts_before index starts) →
-    after ≡ before ++ legs_behind at.frames (started_legs source more) → more ≡ starts_of_cycle are.given told →
+pub writes_more : (starts : List Started) (source : Source) (index : ℕ) (basis : Basis) (are : AreStartsOf basis starts) (at : Round) (before after : List Leg)
+    (reported : ℕ) (more : List Started) → reported ≡ index → index < basis.cycles → before ≡ kept_in source at (starts_before index starts) →
+    after ≡ before ++ legs_after at.frames (started_legs source more) → more ≡ starts_of_cycle are.given reported →
     after ≡ kept_in source at (starts_before (index + 1) starts)
-tells_more starts source index basis are at before after told more is inside kept pushed those =
+writes_more starts source index basis are at before after reported more is inside kept pushed those =
     pushed ∙ (λ i. kept i ++ kept_in source at (those i))
     ∙ ap (λ (n : ℕ). kept_in source at (starts_before index starts) ++ kept_in source at (starts_of_cycle are.given n)) is
     ∙ sym (kept_more source at (starts_before index starts) (starts_of_cycle are.given index))
     ∙ ap (kept_in source at) (sym (before_next are.given basis.cycles starts are.are index inside))
 
 -- and there is room for them if there is room for the starts of more cycles
-pub room_to_tell : (starts : List Started) (source : Source) (index cycles : ℕ) (basis : Basis) (are : AreStartsOf basis starts) (at : Round) (before : List Leg)
-    (told : ℕ) (more : List Started) (first now : ℕ) → told ≡ index → index < basis.cycles → index < cycles →
-    before ≡ kept_in source at (starts_before index starts) → more ≡ starts_of_cycle are.given told →
+pub room_to_write : (starts : List Started) (source : Source) (index cycles : ℕ) (basis : Basis) (are : AreStartsOf basis starts) (at : Round) (before : List Leg)
+    (reported : ℕ) (more : List Started) (first now : ℕ) → reported ≡ index → index < basis.cycles → index < cycles →
+    before ≡ kept_in source at (starts_before index starts) → more ≡ starts_of_cycle are.given reported →
     length (kept_in source at (starts_before cycles starts)) ≤ first → first ≤ now →
-    length before + length (legs_behind at.frames (started_legs source more)) ≤ now
-room_to_tell starts source index cycles basis are at before told more first now is inside upto kept those fits room =
-    let after = before ++ legs_behind at.frames (started_legs source more) in
-    let next = tells_more starts source index basis are at before after told more is inside kept refl those in
+    length before + length (legs_after at.frames (started_legs source more)) ≤ now
+room_to_write starts source index cycles basis are at before reported more first now is inside upto kept those fits room =
+    let after = before ++ legs_after at.frames (started_legs source more) in
+    let next = writes_more starts source index basis are at before after reported more is inside kept refl those in
     omega (
       arith,
-      length-append before (legs_behind at.frames (started_legs source more)),
+      length-append before (legs_after at.frames (started_legs source more)),
       ap (λ (xs : List Leg). length xs) next,
       keeps_fewer are.given basis.cycles starts are.are source at (index + 1) cycles (omega (arith, upto)),
       fits,
@@ -158,8 +158,8 @@ module _ {X : Type 0} (xs : List X) (a b : ℕ) (le : a ≤ b) (z : X) where
   abbrev between : List X
   between = take (b - a) (drop a xs)
 
-  pub behind_first : Contains between z → Contains (drop a xs) z
-  behind_first among =
+  pub after_first : Contains between z → Contains (drop a xs) z
+  after_first among =
       subst (λ (ys : List X). Contains ys z) (take-append-drop (b - a) (drop a xs)) (Contains-append_left between (drop (b - a) (drop a xs)) z among)
 
   pub before_last : Contains between z → Contains (take b xs) z
@@ -196,25 +196,25 @@ module _ (source : Source) (starts : List Started) (before round : Round) (frame
   abbrev own_drops : List Dropped
   own_drops = take (round.drops - before.drops) (drop before.drops source.drops)
 
-  abbrev told : List Leg
-  told = told_in source before round early_starts
+  abbrev reported : List Leg
+  reported = written_in source before round early_starts
 
-  pub only_in_round : (x : Leg) → Contains told x → Contains (legs_of_run source starts) x × (before.frames < frame_of x) × (frame_of x ≤ round.frames)
+  pub only_in_round : (x : Leg) → Contains reported x → Contains (legs_of_run source starts) x × (before.frames < frame_of x) × (frame_of x ≤ round.frames)
   only_in_round x among = elim (Contains-append_cases (legs_up_to round.frames (kept_in source before early_starts)) (dropped_legs source own_drops) x among) [
     | inl started ↦
         let upto = contains_from_filter (λ (y : Leg). nat_le (frame_of y) round.frames) (kept_in source before early_starts) x started in
-        let behind = contains_from_filter (λ (y : Leg). nat_lt before.frames (frame_of y)) (started_legs source early_starts) x upto.0 in
-        let from = started_from source early_starts x behind.0 in
+        let following = contains_from_filter (λ (y : Leg). nat_lt before.frames (frame_of y)) (started_legs source early_starts) x upto.0 in
+        let from = started_from source early_starts x following.0 in
         let in_run = contains_from_filter (λ (s : Started). nat_lt s.cycle.0 round.cycles) starts from.0 from.1 in (
           Contains-append_left (started_legs source starts) (dropped_legs source source.drops) x
               (started_to source starts from.0 x in_run.0 from.2 from.3),
-          lt_from (frame_of x) behind.1,
+          lt_from (frame_of x) following.1,
           le_from (frame_of x) upto.1,
         )
     | inr drops ↦
         let from = dropped_from source own_drops x drops in
         let frame : from.0.frame ≡ frame_of x = ap frame_of from.2 in
-        let there = behind_first source.drops before.drops round.drops drops_later from.0 from.1 in (
+        let there = after_first source.drops before.drops round.drops drops_later from.0 from.1 in (
           Contains-append_right (started_legs source starts) (dropped_legs source source.drops) x
               (dropped_to source source.drops from.0 x
               (subst (λ (ys : List Dropped). Contains ys from.0) (take-append-drop before.drops source.drops)
@@ -230,7 +230,7 @@ module _ (source : Source) (starts : List Started) (before round : Round) (frame
       le_from : (n : ℕ) → nat_le n round.frames ≡ true → n ≤ round.frames
       le_from n passes = grind (arith, nat_tests)
 
-  pub each_in_round : (x : Leg) → Contains (legs_of_run source starts) x → before.frames < frame_of x → frame_of x ≤ round.frames → Contains told x
+  pub each_in_round : (x : Leg) → Contains (legs_of_run source starts) x → before.frames < frame_of x → frame_of x ≤ round.frames → Contains reported x
   each_in_round x among more upto = elim (Contains-append_cases (started_legs source starts) (dropped_legs source source.drops) x among) [
     | inl started ↦
         let from = started_from source starts x started in

@@ -16,7 +16,7 @@ use Rattle.cqf_output.specs.Stops.{IsRefused, fault_line, or_line}
 use Rattle.cqf_program_scenario.specs.Lines.{streams_line}
 use Rattle.cqf_program_scenario.specs.Networks.{domain_of_part}
 use Rattle.cqf_program_scenario.specs.Parts.{RunTexts}
-use Rattle.cqf_program_scenario.specs.Scenario.{Scenario, scenario_behind}
+use Rattle.cqf_program_scenario.specs.Scenario.{Scenario, scenario_after}
 use Rattle.cqf_program_scenario.proofs.AskedTexts.{asked_texts}
 use Rattle.cqf_program_summary.specs.Hops.Known.{paced_scenario, paced_scenario_of, unknown_stream_line, wanted_of_scenario, wanted_refusal, wanted_scenario}
 use Rattle.cqf_program_summary.specs.Hops.Legs.{Wanted}
@@ -43,24 +43,24 @@ module _ (limits : Limits) (cycles : ℕ) (texts : RunTexts) (d : Domain) (reque
 
   -- what follows the domain and the streams decides
   paced_is : paced_scenario_of limits cycles texts
-      ≡ and_then (scenario_behind cycles d (map asked_paced requests) texts) (with_scenario (map asked_paced requests))
+      ≡ and_then (scenario_after cycles d (map asked_paced requests) texts) (with_scenario (map asked_paced requests))
   paced_is =
       let with_asked : Domain → List Asked → Result (Scenario × List Asked) (List ℕ) =
-      λ d streams. and_then (scenario_behind cycles d streams texts) (with_scenario streams) in
+      λ d streams. and_then (scenario_after cycles d streams texts) (with_scenario streams) in
       let with_streams : Domain → List PacedText → Result (Scenario × List Asked) (List ℕ) = λ d found. with_asked d (map asked_by found) in
       ap (λ found. and_then found (λ d. and_then (or_line streams_line (paced_of_text texts.streams)) (with_streams d))) domain
       ∙ ap (λ found. and_then (or_line streams_line found) (with_streams d)) read
       ∙ ap (with_asked d) (asked_texts requests)
 
   -- if that is read, all is
-  pub paced-Ok : (same : List PacedRequest) (s : Scenario) → same ≡ requests → scenario_behind cycles d (map asked_paced requests) texts ≡ Ok s →
+  pub paced-Ok : (same : List PacedRequest) (s : Scenario) → same ≡ requests → scenario_after cycles d (map asked_paced requests) texts ≡ Ok s →
       paced_scenario_of limits cycles texts ≡ Ok (s, map asked_paced same)
   paced-Ok same s are is =
       paced_is ∙ ap (λ found. and_then found (with_scenario (map asked_paced requests))) is
       ∙ ap {B = Result (Scenario × List Asked) (List ℕ)} (λ (rs : List PacedRequest). Ok (s, map asked_paced rs)) (sym are)
 
   -- and if that is refused, all is
-  pub paced-refused : (stop : Stop) → IsRefused (scenario_behind cycles d (map asked_paced requests) texts) stop →
+  pub paced-refused : (stop : Stop) → IsRefused (scenario_after cycles d (map asked_paced requests) texts) stop →
       IsRefused (paced_scenario_of limits cycles texts) stop
   paced-refused stop refused = record {
     statuses = refused.statuses;

@@ -15,20 +15,20 @@ use Rattle.cqf_program_summary.specs.declared.hops.rounds.Round.{Round}
 use Rattle.cqf_program_summary.specs.Hops.Rounds.{AreRounds, GoesOnFrom, IsNextRound, no_round, round_before}
 
 -- each round follows the one before it, the last is the given one, and it is early
-pub record AreSoFar (d : Domain) (depth : ℕ) (offers : List Offer) (drops : List Dropped) (rounds : List Round) (last : Round) : Type 0 where
-  pub first : GoesOnFrom d depth offers drops no_round
-  pub each : (k : ℕ) → k < length rounds → IsNextRound d depth offers drops (round_before rounds k) (get_or rounds k no_round)
+pub record AreSoFar (d : Domain) (hop_number : ℕ) (offers : List Offer) (drops : List Dropped) (rounds : List Round) (last : Round) : Type 0 where
+  pub first : GoesOnFrom d hop_number offers drops no_round
+  pub each : (k : ℕ) → k < length rounds → IsNextRound d hop_number offers drops (round_before rounds k) (get_or rounds k no_round)
   pub last_is : last ≡ round_before rounds (length rounds)
-  pub goes_on : GoesOnFrom d depth offers drops last
+  pub goes_on : GoesOnFrom d hop_number offers drops last
   pub soon : last.cycles ≤ 2 ^ 33
 
 -- before the first round nothing is written
-pub nothing_told : (d : Domain) (depth : ℕ) (offers : List Offer) (drops : List Dropped) → ((x : Dropped) → Contains drops x → 0 < x.frame) →
-    GoesOnFrom d depth offers drops no_round
-nothing_told d depth offers drops some = record {
+pub nothing_written : (d : Domain) (hop_number : ℕ) (offers : List Offer) (drops : List Dropped) → ((x : Dropped) → Contains drops x → 0 < x.frame) →
+    GoesOnFrom d hop_number offers drops no_round
+nothing_written d hop_number offers drops some = record {
   frames_within = omega arith;
   drops_within = omega arith;
-  whole = λ place offer below at. absurd (omega (arith, below));
+  whole = λ index offer below at. absurd (omega (arith, below));
   dropped = λ x among. absurd (contains_none x among);
   not_yet = λ x among. some x among;
 }
@@ -50,48 +50,48 @@ module _ (rounds : List Round) (r : Round) where
       let many : length (rounds ++ r ∷ []) ≡ suc (length rounds) = omega (arith, length-append rounds (r ∷ [])) in
       ap (round_before (rounds ++ r ∷ [])) many ∙ last_there
 
-  pub each_more : (d : Domain) (depth : ℕ) (offers : List Offer) (drops : List Dropped) →
-      ((k : ℕ) → k < length rounds → IsNextRound d depth offers drops (round_before rounds k) (get_or rounds k no_round)) →
-      IsNextRound d depth offers drops (round_before rounds (length rounds)) r → (k : ℕ) → k < length (rounds ++ r ∷ []) →
-      IsNextRound d depth offers drops (round_before (rounds ++ r ∷ []) k) (get_or (rounds ++ r ∷ []) k no_round)
-  each_more d depth offers drops each next k below = by (cases_lt k (length rounds))
+  pub each_more : (d : Domain) (hop_number : ℕ) (offers : List Offer) (drops : List Dropped) →
+      ((k : ℕ) → k < length rounds → IsNextRound d hop_number offers drops (round_before rounds k) (get_or rounds k no_round)) →
+      IsNextRound d hop_number offers drops (round_before rounds (length rounds)) r → (k : ℕ) → k < length (rounds ++ r ∷ []) →
+      IsNextRound d hop_number offers drops (round_before (rounds ++ r ∷ []) k) (get_or (rounds ++ r ∷ []) k no_round)
+  each_more d hop_number offers drops each next k below = by (cases_lt k (length rounds))
     where
       by : (k < length rounds) ⊎ (length rounds ≤ k) →
-          IsNextRound d depth offers drops (round_before (rounds ++ r ∷ []) k) (get_or (rounds ++ r ∷ []) k no_round)
+          IsNextRound d hop_number offers drops (round_before (rounds ++ r ∷ []) k) (get_or (rounds ++ r ∷ []) k no_round)
       by (inl less) =
-          subst (λ (b : Round). IsNextRound d depth offers drops b (get_or (rounds ++ r ∷ []) k no_round)) (sym (before_same k (omega (arith, less))))
-          (subst (λ (z : Round). IsNextRound d depth offers drops (round_before rounds k) z) (sym (get_or_append_left rounds (r ∷ []) no_round k less))
+          subst (λ (b : Round). IsNextRound d hop_number offers drops b (get_or (rounds ++ r ∷ []) k no_round)) (sym (before_same k (omega (arith, less))))
+          (subst (λ (z : Round). IsNextRound d hop_number offers drops (round_before rounds k) z) (sym (get_or_append_left rounds (r ∷ []) no_round k less))
           (each k less))
       by (inr le) =
           let is : length rounds ≡ k = omega (arith, le, below, length-append rounds (r ∷ [])) in
-          subst (λ (n : ℕ). IsNextRound d depth offers drops (round_before (rounds ++ r ∷ []) n) (get_or (rounds ++ r ∷ []) n no_round)) is
-          (subst (λ (b : Round). IsNextRound d depth offers drops b (get_or (rounds ++ r ∷ []) (length rounds) no_round))
+          subst (λ (n : ℕ). IsNextRound d hop_number offers drops (round_before (rounds ++ r ∷ []) n) (get_or (rounds ++ r ∷ []) n no_round)) is
+          (subst (λ (b : Round). IsNextRound d hop_number offers drops b (get_or (rounds ++ r ∷ []) (length rounds) no_round))
           (sym (before_same (length rounds) (omega arith)))
-          (subst (λ (z : Round). IsNextRound d depth offers drops (round_before rounds (length rounds)) z) (sym last_there) next))
+          (subst (λ (z : Round). IsNextRound d hop_number offers drops (round_before rounds (length rounds)) z) (sym last_there) next))
 
 -- one more is laid
-pub one_more_laid : (d : Domain) (depth : ℕ) (offers : List Offer) (drops : List Dropped) (rounds after : List Round) (last r : Round) →
-    AreSoFar d depth offers drops rounds last → IsNextRound d depth offers drops last r → r.cycles ≤ 2 ^ 33 → after ≡ rounds ++ r ∷ [] →
-    AreSoFar d depth offers drops after r
-one_more_laid d depth offers drops rounds after last r so_far next soon is =
-    subst (λ (xs : List Round). AreSoFar d depth offers drops xs r) (sym is)
+pub one_more_laid : (d : Domain) (hop_number : ℕ) (offers : List Offer) (drops : List Dropped) (rounds after : List Round) (last r : Round) →
+    AreSoFar d hop_number offers drops rounds last → IsNextRound d hop_number offers drops last r → r.cycles ≤ 2 ^ 33 → after ≡ rounds ++ r ∷ [] →
+    AreSoFar d hop_number offers drops after r
+one_more_laid d hop_number offers drops rounds after last r so_far next soon is =
+    subst (λ (xs : List Round). AreSoFar d hop_number offers drops xs r) (sym is)
     (record {
       first = so_far.first;
-      each = each_more rounds r d depth offers drops so_far.each (subst (λ (b : Round). IsNextRound d depth offers drops b r) so_far.last_is next);
+      each = each_more rounds r d hop_number offers drops so_far.each (subst (λ (b : Round). IsNextRound d hop_number offers drops b r) so_far.last_is next);
       last_is = sym (before_end rounds r);
       goes_on = next.goes_on;
       soon = soon;
     })
 
 -- and the last
-pub last_laid : (d : Domain) (depth : ℕ) (offers : List Offer) (drops : List Dropped) (rounds after : List Round) (last r : Round) →
-    AreSoFar d depth offers drops rounds last → IsNextRound d depth offers drops last r → r.frames ≡ length offers → after ≡ rounds ++ r ∷ [] →
-    AreRounds d depth offers drops after
-last_laid d depth offers drops rounds after last r so_far next all is =
-    subst (λ (xs : List Round). AreRounds d depth offers drops xs) (sym is)
+pub last_laid : (d : Domain) (hop_number : ℕ) (offers : List Offer) (drops : List Dropped) (rounds after : List Round) (last r : Round) →
+    AreSoFar d hop_number offers drops rounds last → IsNextRound d hop_number offers drops last r → r.frames ≡ length offers → after ≡ rounds ++ r ∷ [] →
+    AreRounds d hop_number offers drops after
+last_laid d hop_number offers drops rounds after last r so_far next all is =
+    subst (λ (xs : List Round). AreRounds d hop_number offers drops xs) (sym is)
     (record {
       first = so_far.first;
-      each = each_more rounds r d depth offers drops so_far.each (subst (λ (b : Round). IsNextRound d depth offers drops b r) so_far.last_is next);
+      each = each_more rounds r d hop_number offers drops so_far.each (subst (λ (b : Round). IsNextRound d hop_number offers drops b r) so_far.last_is next);
       all = ap (λ (z : Round). z.frames) (before_end rounds r) ∙ all;
     })
 
@@ -106,9 +106,9 @@ one_more_of drops at frames d inside before here x among =
     ]
 
 -- if a drop isn't of the first frames, no later one is
-pub behind_rises : (drops : List Dropped) (at frames : ℕ) (d : Dropped) → at < length drops → AllPairs (λ (a b : Dropped). a.frame < b.frame) drops →
+pub after_rises : (drops : List Dropped) (at frames : ℕ) (d : Dropped) → at < length drops → AllPairs (λ (a b : Dropped). a.frame < b.frame) drops →
     frames < (get_or drops at d).frame → (x : Dropped) → Contains (drop at drops) x → frames < x.frame
-behind_rises drops at frames d inside rise here x among =
+after_rises drops at frames d inside rise here x among =
     let parts : drop at drops ≡ get_or drops at d ∷ drop (suc at) drops = drop-cons drops at d inside in
     let all : AllPairs (λ (a b : Dropped). a.frame < b.frame) (get_or drops at d ∷ drop (suc at) drops) =
     subst (λ (xs : List Dropped). AllPairs (λ (a b : Dropped). a.frame < b.frame) xs) parts

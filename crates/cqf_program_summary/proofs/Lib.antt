@@ -7,7 +7,7 @@ mod Apart
 mod Placed
 mod Listed
 pub mod OneMore
-mod Told
+mod Written
 mod Within
 mod Found
 mod Named
@@ -17,6 +17,6 @@ mod Going
 mod OfDrops
 mod Pushing
 mod Laid
-mod Telling
+mod Writing
 mod OfBook
 mod OfHops

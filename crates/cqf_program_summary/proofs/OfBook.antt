@@ -6,7 +6,7 @@ use Rattle.std.proofs.lemmas.List.Elements.{Contains-append_cases, Contains-appe
 use Rattle.std.proofs.lemmas.List.Kept.{AllPairs-filter}
 use Rattle.std.proofs.lemmas.List.Sorted.{Contains-permutation, IsPermutation-sym}
 use Rattle.std.proofs.lemmas.Option.{slice_get-get_or, slice_get_within}
-use Rattle.cqf_lists.proofs.Members.{contains_filter, contains_from_filter, contains_from_map, contains_map, place_of_member}
+use Rattle.cqf_lists.proofs.Members.{contains_filter, contains_from_filter, contains_from_map, contains_map, index_of_member}
 use Rattle.cqf_lists.proofs.Pairs.{pairs_append, pairs_map, pairs_weaker}
 use Rattle.cqf_units.specs.Timing.{cycle_at}
 use Rattle.cqf_model.specs.declared.frames.Dropped.{Dropped}
@@ -19,16 +19,16 @@ use Rattle.cqf_model.specs.Promise.{SaysTheShift}
 use Rattle.cqf_model.specs.Shift.{IsCovered}
 use Rattle.cqf_model.specs.Run.{Run}
 use Rattle.cqf_model.specs.Table.{AreOrderly}
-use Rattle.cqf_model.specs.Traffic.{numbered}
+use Rattle.cqf_model.specs.Policing.{numbered}
 use Rattle.cqf_laws_shift.proofs.Came.{one_number}
 use Rattle.cqf_laws_coverage.specs.Counted.{AreDecided}
 use Rattle.cqf_instants_run.specs.Columns.{verdict_at}
 use Rattle.cqf_instants_run.specs.declared.judged.EdgeVerdict.{EdgeVerdict}
 use Rattle.cqf_instants_run.proofs.Covers.{numbered_at}
 use Rattle.cqf_instants_run.proofs.Offers.{numbered_all}
-use Rattle.cqf_program_runs.specs.Deliveries.Following.{IsBehind}
-use Rattle.cqf_program_runs.specs.Deliveries.UnderWay.{NoneIsDeeper}
-use Rattle.cqf_program_runs.proofs.BehindOffers.{starts_behind}
+use Rattle.cqf_program_runs.specs.Deliveries.Following.{IsAfter}
+use Rattle.cqf_program_runs.specs.Deliveries.UnderWay.{HopNumbersAreWithin}
+use Rattle.cqf_program_runs.proofs.AfterOffers.{starts_after}
 use Rattle.cqf_program_runs.proofs.ByBook.{not_both}
 use Rattle.std.proofs.lemmas.List.Elements.{All-contains}
 use Rattle.cqf_program_summary.specs.declared.hops.legs.Leg.{Leg}
@@ -39,15 +39,15 @@ use Rattle.cqf_program_summary.specs.Hops.Rounds.{Source, legs_of_run}
 use Rattle.cqf_program_summary.proofs.InRounds.{dropped_from, dropped_to, started_from, started_to}
 
 -- the index of an offer with a number
-pub record HasPlace (offers : List Offer) (x : Offered) : Type 0 where
-  pub place : ℕ
-  pub within : place < length offers
-  pub at : slice_get offers place ≡ Some x.offer
-  pub number : x.frame ≡ place + 1
+pub record HasIndex (offers : List Offer) (x : Offered) : Type 0 where
+  pub index : ℕ
+  pub within : index < length offers
+  pub at : slice_get offers index ≡ Some x.offer
+  pub number : x.frame ≡ index + 1
 
-pub has_place : (offers : List Offer) (x : Offered) → Contains (numbered offers) x → HasPlace offers x
-has_place offers x among =
-    let found = place_of_member (numbered offers) x among in
+pub has_index : (offers : List Offer) (x : Offered) → Contains (numbered offers) x → HasIndex offers x
+has_index offers x among =
+    let found = index_of_member (numbered offers) x among in
     let k = found.0 in
     let inside : k < length offers = omega (arith, slice_get_within (numbered offers) k x found.1, numbered_all offers) in
     let offer = get_or offers k x.offer in
@@ -56,7 +56,7 @@ has_place offers x among =
     let both : Some own ≡ Some x = sym (numbered_at offers k offer at) ∙ found.1 in
     let same : own ≡ x = cc in
     record {
-      place = k;
+      index = k;
       within = inside;
       at = at ∙ ap (λ (y : Offered). Some y.offer) same;
       number = sym (ap (λ (y : Offered). y.frame) same);
@@ -89,26 +89,26 @@ module _ (run : Run) (book : Contents) (says : SaysTheShift run book) where
         let b = contains_from_map leg.Dropped drops y cy in
         start_or_drop a.0 b.0 a.1 (own b.0 b.1) (ap frame_of a.2 ∙ frames ∙ sym (ap frame_of b.2)))
 
-  -- each start has an offer, at most the depth of a tree before it
+  -- each start has an offer, at most the greatest hop number of a tree before it
   module _ (orderly : AreOrderly run.domain run.tables) (rows : List Row) (edge_verdicts : List EdgeVerdict)
-      (decided : AreDecided run (verdict_at run.domain rows edge_verdicts)) (depth : ℕ) (deep : NoneIsDeeper rows depth) where
+      (decided : AreDecided run (verdict_at run.domain rows edge_verdicts)) (hop_number : ℕ) (hop_numbers : HopNumbersAreWithin rows hop_number) where
     pub starts_soon : (s : Started) → Contains book.starts s →
-        (place : ℕ) × (offer : Offer) × (slice_get run.offers place ≡ Some offer) × (s.frame ≡ place + 1)
-        × (s.cycle.0 ≤ cycle_at run.domain.cycle_time offer.at.0 + depth)
+        (index : ℕ) × (offer : Offer) × (slice_get run.offers index ≡ Some offer) × (s.frame ≡ index + 1)
+        × (s.cycle.0 ≤ cycle_at run.domain.cycle_time offer.at.0 + hop_number)
     starts_soon s among =
         let shift = says.only s among in
-        let place = has_place run.offers shift.x shift.covered.offered in
-        let number : s.frame ≡ place.place + 1 = shift.is_frame ∙ place.number in
-        let behind = All-contains (IsBehind run.domain.cycle_time depth run.offers) book.starts s
-        (starts_behind run book says orderly rows edge_verdicts decided depth deep) among in
-        (place.place, shift.x.offer, place.at, number, behind.soon place.place shift.x.offer place.at number)
+        let index = has_index run.offers shift.x shift.covered.offered in
+        let number : s.frame ≡ index.index + 1 = shift.is_frame ∙ index.number in
+        let following = All-contains (IsAfter run.domain.cycle_time hop_number run.offers) book.starts s
+        (starts_after run book says orderly rows edge_verdicts decided hop_number hop_numbers) among in
+        (index.index, shift.x.offer, index.at, number, following.soon index.index shift.x.offer index.at number)
 
   -- a drop is of an offer
   pub drop_number : (z : Dropped) → Contains book.drops z → (0 < z.frame) × (z.frame ≤ length run.offers)
   drop_number z dropped =
       let of = says.only_drops z dropped in
-      let place = has_place run.offers of.x of.uncovered.offered in
-      (omega (arith, of.frame, place.number), omega (arith, of.frame, place.number, place.within))
+      let index = has_index run.offers of.x of.uncovered.offered in
+      (omega (arith, of.frame, index.number), omega (arith, of.frame, index.number, index.within))
 
 -- the wanted legs of a book are those of its starts and of its drops by frame
 module _ (offers : List Offer) (wanted : Wanted) (book : Contents) (drops : List Dropped) (by : AreDropsByFrame book drops) where

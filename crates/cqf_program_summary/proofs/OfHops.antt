@@ -17,7 +17,7 @@ use Rattle.cqf_model.specs.History.{table_at}
 use Rattle.cqf_model.specs.HistoryBook.{run_of_history}
 use Rattle.cqf_model.specs.Run.{Run}
 use Rattle.cqf_model.specs.Table.{AreOrderly}
-use Rattle.cqf_program_runs.specs.Deliveries.UnderWay.{NoneIsDeeper}
+use Rattle.cqf_program_runs.specs.Deliveries.UnderWay.{HopNumbersAreWithin}
 use Rattle.cqf_program_scenario.proofs.InTime.{starts_in_time}
 use Rattle.cqf_program_scenario.specs.Books.{IsBookOfScenario}
 use Rattle.cqf_program_scenario.specs.Calls.{history_of}
@@ -26,9 +26,9 @@ use Rattle.cqf_program_summary.specs.declared.hops.legs.Leg.{Leg}
 use Rattle.cqf_program_summary.specs.declared.hops.preparing.Prepared.{Prepared}
 use Rattle.cqf_program_summary.specs.declared.hops.rounds.Round.{Round}
 use Rattle.cqf_program_summary.specs.Hops.Legs.{AreApart, Wanted, frame_of, is_wanted, legs_of_book, wanted_legs}
-use Rattle.cqf_program_summary.specs.Hops.Output.{TellsHopsOf}
-use Rattle.cqf_program_summary.specs.Hops.Prepared.{AreDropsByFrame, IsPreparedFor, told_with}
-use Rattle.cqf_program_summary.specs.Hops.Rounds.{AreRounds, CanBeTold, HaveRoom, Source, legs_of_run}
+use Rattle.cqf_program_summary.specs.Hops.Output.{WritesHopsOf}
+use Rattle.cqf_program_summary.specs.Hops.Prepared.{AreDropsByFrame, IsPreparedFor, written_with}
+use Rattle.cqf_program_summary.specs.Hops.Rounds.{AreRounds, CanBeWritten, HaveRoom, Source, legs_of_run}
 use Rattle.cqf_program_summary.proofs.OfBook.{all_apart, drop_number, from_run, start_or_drop, starts_soon, to_run}
 use Rattle.cqf_program_summary.proofs.Order.{in_some_order}
 
@@ -44,8 +44,8 @@ module _ (cycles : ℕ) (s : Scenario) (wanted : Wanted) (prepared : Prepared) (
       AllPairs-filter AreApart (λ (x : Leg). is_wanted s.offers wanted (frame_of x)) (legs_of_book book)
       (all_apart run book for_it.is_book.promise.says book.drops (λ z c. c) for_it.is_book.promise.says.once_dropped)
 
-  pub tells_hops : TellsHopsOf cycles s wanted (told_with s.domain s.offers prepared)
-  tells_hops =
+  pub writes_hops : WritesHopsOf cycles s wanted (written_with s.domain s.offers prepared)
+  writes_hops =
       let sorted = in_some_order (wanted_legs s.offers wanted book) book_apart in
       let source : Source = record { offers = s.offers; wanted = prepared.wanted; drops = prepared.drops.items } in
       let same : source ≡ record { offers = s.offers; wanted = wanted; drops = prepared.drops.items } =
@@ -74,15 +74,15 @@ module _ (cycles : ℕ) (s : Scenario) (wanted : Wanted) (prepared : Prepared) (
       }
 
 -- what was prepared can be written
-pub can_be_told : (cycles : ℕ) (s : Scenario) (source : Source) (book : Contents) (pass : Progress) (rows : List Row) (edge_verdicts : List EdgeVerdict)
-    (depth kept here : ℕ) (rounds : List Round) → IsBookOfScenario cycles s book → AreStartsOf pass.basis book.starts → pass.told ≡ 0 →
+pub can_be_written : (cycles : ℕ) (s : Scenario) (source : Source) (book : Contents) (pass : Progress) (rows : List Row) (edge_verdicts : List EdgeVerdict)
+    (hop_number kept here : ℕ) (rounds : List Round) → IsBookOfScenario cycles s book → AreStartsOf pass.basis book.starts → pass.reported ≡ 0 →
     source.offers ≡ s.offers → AreDropsByFrame book source.drops →
     AreOrderly s.domain (run_of_history s.domain (history_of cycles s) s.offers s.background cycles).tables →
     AreDecided (run_of_history s.domain (history_of cycles s) s.offers s.background cycles) (verdict_at s.domain rows edge_verdicts) →
-    NoneIsDeeper rows depth → IsAccepted s.domain → cycles ≤ 100000 → AreRounds s.domain depth source.offers source.drops rounds →
+    HopNumbersAreWithin rows hop_number → IsAccepted s.domain → cycles ≤ 100000 → AreRounds s.domain hop_number source.offers source.drops rounds →
     HaveRoom book.starts source rounds kept here →
-    CanBeTold book.starts (record { domain = s.domain; source = source; rounds = rounds; pass = pass; kept_room = kept; here_room = here })
-can_be_told cycles s source book pass rows edge_verdicts depth kept here rounds is_book starts fresh same drops orderly decided deep accepted short are room =
+    CanBeWritten book.starts (record { domain = s.domain; source = source; rounds = rounds; pass = pass; kept_room = kept; here_room = here })
+can_be_written cycles s source book pass rows edge_verdicts hop_number kept here rounds is_book starts fresh same drops orderly decided hop_numbers accepted short are room =
     let run = run_of_history s.domain (history_of cycles s) s.offers s.background cycles in
     let says = is_book.promise.says in
     let own : (z : Dropped) → Contains source.drops z → Contains book.drops z =
@@ -91,10 +91,10 @@ can_be_told cycles s source book pass rows edge_verdicts depth kept here rounds 
     record {
       is = starts;
       fresh = fresh;
-      depth = depth;
+      hop_number = hop_number;
       rounds = are;
       soon = λ start among.
-          let found = starts_soon run book says orderly rows edge_verdicts decided depth deep start among in
+          let found = starts_soon run book says orderly rows edge_verdicts decided hop_number hop_numbers start among in
           (found.0, found.1, ap (λ (os : List Offer). slice_get os found.0) same ∙ found.2, found.3, found.4);
       of_offers = λ z among. omega (arith, (drop_number run book says z (own z among)).1, ap (λ (os : List Offer). length os) same);
       once = says.once_each;

@@ -18,7 +18,7 @@ use Rattle.cqf_model.specs.declared.frames.Offered.{Offered}
 use Rattle.cqf_model.specs.Domain.{Domain, is_text}
 use Rattle.cqf_model.specs.History.{Asked}
 use Rattle.cqf_model.specs.Shift.{offer_cycle}
-use Rattle.cqf_model.specs.Traffic.{DroppedFor, ExceedsGate, LacksRow, Queued, Verdict, numbered}
+use Rattle.cqf_model.specs.Policing.{DroppedFor, ExceedsGate, LacksRow, Queued, Verdict, numbered}
 use Rattle.cqf_model.proofs.Texts.{is_text_itself, is_text_same}
 use Rattle.cqf_units.specs.Name.{is_name}
 use Rattle.cqf_instants_run.specs.Columns.{verdict_at}
@@ -32,7 +32,7 @@ use Rattle.cqf_program_runs.proofs.OneMore.{among_more}
 use Rattle.cqf_program_summary.specs.Summary.Counting.{changed_at, fare_with_offer, others_with, summary_at, summary_with}
 use Rattle.cqf_program_summary.specs.Summary.{Fare, Summary, deliveries_named, fare_by, fare_of, offers_named, offers_within, others_of, summary_by}
 use Rattle.cqf_program_summary.specs.Summary.Tallies.{is_dropped}
-use Rattle.cqf_program_summary.specs.Summary.Told.{is_other, told_cost, told_streams}
+use Rattle.cqf_program_summary.specs.Summary.Written.{is_other, written_cost, written_streams}
 use Rattle.cqf_program_summary.proofs.Changed.{changed_map}
 use Rattle.cqf_program_summary.proofs.Tallied.{count_push, fare_more_offer}
 
@@ -69,10 +69,10 @@ count_none p xs none = sym (length-filter p xs) ∙ ap length (filter_none p xs 
 abbrev nobody : Asked
 nobody = record { name = []; octets = 0; every = 0; phase = 0; paths = [] }
 
-module _ (d : Domain) (told : List Asked) (due : List ℕ → Option ℕ) (apart : AllPairs (λ (a b : Asked). is_text a.name b.name ≡ false) told)
+module _ (d : Domain) (reported : List Asked) (due : List ℕ → Option ℕ) (apart : AllPairs (λ (a b : Asked). is_text a.name b.name ≡ false) reported)
     (offers : List Offered) (x : Offered) (ds here : List Delivery) (named : (y : Delivery) → Contains here y → y.stream ≡ x.offer.stream) where
   abbrev cost : Asked → ℕ → ℕ
-  cost = told_cost d told
+  cost = written_cost d reported
 
   abbrev n : List ℕ
   n = x.offer.stream
@@ -114,51 +114,51 @@ module _ (d : Domain) (told : List Asked) (due : List ℕ → Option ℕ) (apart
           ∙ append-nil (deliveries_named a.name ds)
 
   -- offers of other names, if this is one and if it isn't
-  others_more : is_other told n ≡ true → others_of told (offers ++ x ∷ []) (ds ++ here) ≡ others_with here (others_of told offers ds)
+  others_more : is_other reported n ≡ true → others_of reported (offers ++ x ∷ []) (ds ++ here) ≡ others_with here (others_of reported offers ds)
   others_more other = λ i. record { offered = one_more i; dropped = drops i }
     where
-      one_more : (others_of told (offers ++ x ∷ []) (ds ++ here)).offered ≡ (others_of told offers ds).offered + 1
+      one_more : (others_of reported (offers ++ x ∷ []) (ds ++ here)).offered ≡ (others_of reported offers ds).offered + 1
       one_more =
-          count_push (λ (y : Offered). is_other told y.offer.stream) offers x
-          ∙ ap {B = ℕ} (λ (b : Bool). (others_of told offers ds).offered + (if b then 1 else 0)) other
+          count_push (λ (y : Offered). is_other reported y.offer.stream) offers x
+          ∙ ap {B = ℕ} (λ (b : Bool). (others_of reported offers ds).offered + (if b then 1 else 0)) other
 
-      drops : (others_of told (offers ++ x ∷ []) (ds ++ here)).dropped ≡ (others_with here (others_of told offers ds)).dropped
+      drops : (others_of reported (offers ++ x ∷ []) (ds ++ here)).dropped ≡ (others_with here (others_of reported offers ds)).dropped
       drops =
-          count_joined (λ (y : Delivery). is_other told y.stream && is_dropped (fate_of y)) ds here
-          ∙ ap (λ (k : ℕ). (others_of told offers ds).dropped + k)
-          (count_same (λ (y : Delivery). is_other told y.stream && is_dropped (fate_of y)) (λ (y : Delivery). is_dropped (fate_of y)) here
-          (λ y c. ap (λ (b : Bool). b && is_dropped (fate_of y)) (ap (is_other told) (named y c) ∙ other)))
+          count_joined (λ (y : Delivery). is_other reported y.stream && is_dropped (fate_of y)) ds here
+          ∙ ap (λ (k : ℕ). (others_of reported offers ds).dropped + k)
+          (count_same (λ (y : Delivery). is_other reported y.stream && is_dropped (fate_of y)) (λ (y : Delivery). is_dropped (fate_of y)) here
+          (λ y c. ap (λ (b : Bool). b && is_dropped (fate_of y)) (ap (is_other reported) (named y c) ∙ other)))
 
-  others_same : is_other told n ≡ false → others_of told (offers ++ x ∷ []) (ds ++ here) ≡ others_of told offers ds
+  others_same : is_other reported n ≡ false → others_of reported (offers ++ x ∷ []) (ds ++ here) ≡ others_of reported offers ds
   others_same known = λ i. record { offered = no_more i; dropped = no_drops i }
     where
-      no_more : (others_of told (offers ++ x ∷ []) (ds ++ here)).offered ≡ (others_of told offers ds).offered
+      no_more : (others_of reported (offers ++ x ∷ []) (ds ++ here)).offered ≡ (others_of reported offers ds).offered
       no_more =
-          let more = count_push (λ (y : Offered). is_other told y.offer.stream) offers x
-          ∙ ap {B = ℕ} (λ (b : Bool). (others_of told offers ds).offered + (if b then 1 else 0)) known in
+          let more = count_push (λ (y : Offered). is_other reported y.offer.stream) offers x
+          ∙ ap {B = ℕ} (λ (b : Bool). (others_of reported offers ds).offered + (if b then 1 else 0)) known in
           omega (arith, more)
 
-      no_drops : (others_of told (offers ++ x ∷ []) (ds ++ here)).dropped ≡ (others_of told offers ds).dropped
+      no_drops : (others_of reported (offers ++ x ∷ []) (ds ++ here)).dropped ≡ (others_of reported offers ds).dropped
       no_drops =
-          let none = count_none (λ (y : Delivery). is_other told y.stream && is_dropped (fate_of y)) here
-          (λ y c. ap (λ (b : Bool). b && is_dropped (fate_of y)) (ap (is_other told) (named y c) ∙ known)) in
-          omega (arith, none, count_joined (λ (y : Delivery). is_other told y.stream && is_dropped (fate_of y)) ds here)
+          let none = count_none (λ (y : Delivery). is_other reported y.stream && is_dropped (fate_of y)) here
+          (λ y c. ap (λ (b : Bool). b && is_dropped (fate_of y)) (ap (is_other reported) (named y c) ∙ known)) in
+          omega (arith, none, count_joined (λ (y : Delivery). is_other reported y.stream && is_dropped (fate_of y)) ds here)
 
   -- the index of the stream with the name
-  abbrev place_of_name : Option ℕ
-  place_of_name = position (λ (a : Asked). is_text a.name n) told
+  abbrev index_of_name : Option ℕ
+  index_of_name = position (λ (a : Asked). is_text a.name n) reported
 
-  any_known : list_any (λ (a : Asked). is_text a.name n) told ≡ is_some place_of_name
-  any_known = sym (position_any (λ (a : Asked). is_text a.name n) told)
+  any_known : list_any (λ (a : Asked). is_text a.name n) reported ≡ is_some index_of_name
+  any_known = sym (position_any (λ (a : Asked). is_text a.name n) reported)
 
-  at_none : place_of_name ≡ None → summary_at here None (summary_by d told due offers ds) ≡ summary_by d told due (offers ++ x ∷ []) (ds ++ here)
+  at_none : index_of_name ≡ None → summary_at here None (summary_by d reported due offers ds) ≡ summary_by d reported due (offers ++ x ∷ []) (ds ++ here)
   at_none none = λ i. record { fares = same i; others = sym (others_more other) i }
     where
-      other : is_other told n ≡ true
+      other : is_other reported n ≡ true
       other = ap not (any_known ∙ ap is_some none)
 
-      same : map (fare_of d cost due offers ds) told ≡ map (fare_of d cost due (offers ++ x ∷ []) (ds ++ here)) told
-      same = agree told (λ a k at. fare_other a (position-None (λ (b : Asked). is_text b.name n) told none k a at))
+      same : map (fare_of d cost due offers ds) reported ≡ map (fare_of d cost due (offers ++ x ∷ []) (ds ++ here)) reported
+      same = agree reported (λ a k at. fare_other a (position-None (λ (b : Asked). is_text b.name n) reported none k a at))
         where
           agree : (them : List Asked) → ((a : Asked) (k : ℕ) → slice_get them k ≡ Some a → fare_of d cost due offers ds a
               ≡ fare_of d cost due (offers ++ x ∷ []) (ds ++ here) a) →
@@ -166,27 +166,27 @@ module _ (d : Domain) (told : List Asked) (due : List ℕ → Option ℕ) (apart
           agree [] each = refl
           agree (a ∷ more) each = ap₂ (λ (f : Fare) (fs : List Fare). f ∷ fs) (each a 0 refl) (agree more (λ b k at. each b (suc k) at))
 
-  at_some : (place : ℕ) → place_of_name ≡ Some place →
-      summary_at here (Some place) (summary_by d told due offers ds) ≡ summary_by d told due (offers ++ x ∷ []) (ds ++ here)
-  at_some place found = λ i. record { fares = changed i; others = sym (others_same known) i }
+  at_some : (index : ℕ) → index_of_name ≡ Some index →
+      summary_at here (Some index) (summary_by d reported due offers ds) ≡ summary_by d reported due (offers ++ x ∷ []) (ds ++ here)
+  at_some index found = λ i. record { fares = changed i; others = sym (others_same known) i }
     where
-      here_it_is : (place < length told) × (is_text (get_or told place nobody).name n ≡ true)
-      here_it_is = let at = position-Some (λ (b : Asked). is_text b.name n) told place nobody found in (at.0, at.1)
+      here_it_is : (index < length reported) × (is_text (get_or reported index nobody).name n ≡ true)
+      here_it_is = let at = position-Some (λ (b : Asked). is_text b.name n) reported index nobody found in (at.0, at.1)
 
-      known : is_other told n ≡ false
+      known : is_other reported n ≡ false
       known = ap not (any_known ∙ ap is_some found)
 
       -- no other has the name
-      only : (b : Asked) (k : ℕ) → slice_get told k ≡ Some b → k ≢ place → is_text b.name n ≡ false
+      only : (b : Asked) (k : ℕ) → slice_get reported k ≡ Some b → k ≢ index → is_text b.name n ≡ false
       only b k at differ = not_true (is_text b.name n) (λ also.
-          let b_is : get_or told k nobody ≡ b = get_or_from_slice_get told k b nobody at in
+          let b_is : get_or reported k nobody ≡ b = get_or_from_slice_get reported k b nobody at in
           let one : b.name ≡ n = is_text_same b.name n also in
-          let two : (get_or told place nobody).name ≡ n = is_text_same (get_or told place nobody).name n here_it_is.1 in
-          elim (cases_lt k place) [
-            | inl less ↦ clash b.name (get_or told place nobody).name (one ∙ sym two) (subst (λ (c : Asked). is_text c.name (get_or told place nobody).name ≡ false) b_is (apart k place nobody less here_it_is.0))
-            | inr more ↦ elim (cases_lt place k) [
-              | inl less ↦ clash (get_or told place nobody).name b.name (two ∙ sym one)
-                  (subst (λ (c : Asked). is_text (get_or told place nobody).name c.name ≡ false) b_is (apart place k nobody less (slice_get_within told k b at)))
+          let two : (get_or reported index nobody).name ≡ n = is_text_same (get_or reported index nobody).name n here_it_is.1 in
+          elim (cases_lt k index) [
+            | inl less ↦ clash b.name (get_or reported index nobody).name (one ∙ sym two) (subst (λ (c : Asked). is_text c.name (get_or reported index nobody).name ≡ false) b_is (apart k index nobody less here_it_is.0))
+            | inr more ↦ elim (cases_lt index k) [
+              | inl less ↦ clash (get_or reported index nobody).name b.name (two ∙ sym one)
+                  (subst (λ (c : Asked). is_text (get_or reported index nobody).name c.name ≡ false) b_is (apart index k nobody less (slice_get_within reported k b at)))
               | inr least ↦ absurd (differ (omega (arith, more, least)))
             ]
           ])
@@ -197,25 +197,25 @@ module _ (d : Domain) (told : List Asked) (due : List ℕ → Option ℕ) (apart
               both : true ≡ false → ⊥
               both e = absurd cc
 
-      changed : changed_at (fare_with_offer here) place (map (fare_of d cost due offers ds) told)
-          ≡ map (fare_of d cost due (offers ++ x ∷ []) (ds ++ here)) told
-      changed = changed_map (fare_of d cost due offers ds) (fare_of d cost due (offers ++ x ∷ []) (ds ++ here)) (fare_with_offer here) told place (get_or told place nobody)
-          (slice_get-get_or told place nobody here_it_is.0) (fare_own (get_or told place nobody) here_it_is.1) (λ b k at differ. fare_other b (only b k at differ))
+      changed : changed_at (fare_with_offer here) index (map (fare_of d cost due offers ds) reported)
+          ≡ map (fare_of d cost due (offers ++ x ∷ []) (ds ++ here)) reported
+      changed = changed_map (fare_of d cost due offers ds) (fare_of d cost due (offers ++ x ∷ []) (ds ++ here)) (fare_with_offer here) reported index (get_or reported index nobody)
+          (slice_get-get_or reported index nobody here_it_is.0) (fare_own (get_or reported index nobody) here_it_is.1) (λ b k at differ. fare_other b (only b k at differ))
 
   -- so the summary with it is the summary before it, with it added
-  pub summary_more : summary_with n here (summary_by d told due offers ds) ≡ summary_by d told due (offers ++ x ∷ []) (ds ++ here)
+  pub summary_more : summary_with n here (summary_by d reported due offers ds) ≡ summary_by d reported due (offers ++ x ∷ []) (ds ++ here)
   summary_more =
-      ap (λ (o : Option ℕ). summary_at here o (summary_by d told due offers ds))
-      (position-map (λ (f : Fare). is_text f.name n) (fare_of d cost due offers ds) told)
-      ∙ by place_of_name refl
+      ap (λ (o : Option ℕ). summary_at here o (summary_by d reported due offers ds))
+      (position-map (λ (f : Fare). is_text f.name n) (fare_of d cost due offers ds) reported)
+      ∙ by index_of_name refl
     where
-      by : (o : Option ℕ) → place_of_name ≡ o → summary_at here o (summary_by d told due offers ds) ≡ summary_by d told due (offers ++ x ∷ []) (ds ++ here)
+      by : (o : Option ℕ) → index_of_name ≡ o → summary_at here o (summary_by d reported due offers ds) ≡ summary_by d reported due (offers ++ x ∷ []) (ds ++ here)
       by None none = at_none none
-      by (Some place) found = at_some place found
+      by (Some index) found = at_some index found
 
 -- the streams of a summary have different names
-pub told_apart : (streams : List Asked) → AllPairs (λ (a b : Asked). is_text a.name b.name ≡ false) (told_streams streams)
-told_apart streams = once_apart (λ (a b : Asked). is_text a.name b.name) (filter (λ (a : Asked). is_name a.name) streams)
+pub written_apart : (streams : List Asked) → AllPairs (λ (a b : Asked). is_text a.name b.name ≡ false) (written_streams streams)
+written_apart streams = once_apart (λ (a b : Asked). is_text a.name b.name) (filter (λ (a : Asked). is_name a.name) streams)
 
 -- deliveries of an offer have its name
 module _ (over : Over) (x : Offered) where
@@ -237,25 +237,25 @@ module _ (over : Over) (x : Offered) where
       by false k = absurd (contains_none y k)
 
 -- the summary by the offers of a run up to an index, and by one more
-module _ (over : Over) (streams : List Asked) (due : List ℕ → Option ℕ) (place : ℕ) (x : Offered) (at : slice_get (numbered over.offers) place ≡ Some x)
-    (here : List Delivery) (is_here : here ≡ deliveries_at over x) (inside : place < length over.offers)
-    (are : (y : Offered) → slice_get (numbered over.offers) place ≡ Some y → here ≡ deliveries_at over y) (summary : Summary) where
+module _ (over : Over) (streams : List Asked) (due : List ℕ → Option ℕ) (index : ℕ) (x : Offered) (at : slice_get (numbered over.offers) index ≡ Some x)
+    (here : List Delivery) (is_here : here ≡ deliveries_at over x) (inside : index < length over.offers)
+    (are : (y : Offered) → slice_get (numbered over.offers) index ≡ Some y → here ≡ deliveries_at over y) (summary : Summary) where
   abbrev front : List Offered
-  front = take place (numbered over.offers)
+  front = take index (numbered over.offers)
 
   abbrev longer : List Offered
-  longer = take (place + 1) (numbered over.offers)
+  longer = take (index + 1) (numbered over.offers)
 
   abbrev by_front : Summary
-  by_front = summary_by over.domain (told_streams streams) due (offers_within over.domain over.cycles front) (deliveries_among over front)
+  by_front = summary_by over.domain (written_streams streams) due (offers_within over.domain over.cycles front) (deliveries_among over front)
 
   abbrev by_longer : Summary
-  by_longer = summary_by over.domain (told_streams streams) due (offers_within over.domain over.cycles longer) (deliveries_among over longer)
+  by_longer = summary_by over.domain (written_streams streams) due (offers_within over.domain over.cycles longer) (deliveries_among over longer)
 
   front_more : longer ≡ front ++ x ∷ []
   front_more =
-      take_more (numbered over.offers) place x (slice_get_within (numbered over.offers) place x at)
-      ∙ ap (λ (y : Offered). front ++ y ∷ []) (get_or_from_slice_get (numbered over.offers) place x x at)
+      take_more (numbered over.offers) index x (slice_get_within (numbered over.offers) index x at)
+      ∙ ap (λ (y : Offered). front ++ y ∷ []) (get_or_from_slice_get (numbered over.offers) index x x at)
 
   within_more : (b : Bool) → nat_lt (offer_cycle over.domain x) over.cycles ≡ b →
       offers_within over.domain over.cycles longer ≡ offers_within over.domain over.cycles front ++ (if b then x ∷ [] else [])
@@ -269,15 +269,15 @@ module _ (over : Over) (streams : List Asked) (due : List ℕ → Option ℕ) (p
       summary_with x.offer.stream here summary ≡ by_longer
   is_run_more run so_far =
       ap (summary_with x.offer.stream here) so_far
-      ∙ summary_more over.domain (told_streams streams) due (told_apart streams) (offers_within over.domain over.cycles front) x (deliveries_among over front) here
+      ∙ summary_more over.domain (written_streams streams) due (written_apart streams) (offers_within over.domain over.cycles front) x (deliveries_among over front) here
       (λ y c. named_here over x y (subst (λ (ys : List Delivery). Contains ys y) is_here c))
-      ∙ (λ i. summary_by over.domain (told_streams streams) due (sym (within_more true run) i) (among_more over place here inside are i))
+      ∙ (λ i. summary_by over.domain (written_streams streams) due (sym (within_more true run) i) (among_more over index here inside are i))
 
   -- and if it isn't
   pub not_run_more : nat_lt (offer_cycle over.domain x) over.cycles ≡ false → summary ≡ by_front → summary ≡ by_longer
   not_run_more run so_far =
       so_far
-      ∙ (λ i. summary_by over.domain (told_streams streams) due (sym same_offers i) (same_deliveries i))
+      ∙ (λ i. summary_by over.domain (written_streams streams) due (sym same_offers i) (same_deliveries i))
     where
       same_offers : offers_within over.domain over.cycles longer ≡ offers_within over.domain over.cycles front
       same_offers = within_more false run ∙ append-nil (offers_within over.domain over.cycles front)
@@ -288,4 +288,4 @@ module _ (over : Over) (streams : List Asked) (due : List ℕ → Option ℕ) (p
       same_deliveries : deliveries_among over front ≡ deliveries_among over longer
       same_deliveries =
           sym (append-nil (deliveries_among over front)) ∙ ap (λ (ys : List Delivery). deliveries_among over front ++ ys) (sym none)
-          ∙ among_more over place here inside are
+          ∙ among_more over index here inside are

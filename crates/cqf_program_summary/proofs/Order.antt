@@ -86,7 +86,7 @@ insert x (y ∷ ys) in_order apart = elim (leg_either x y (apart y (contains_her
         ])
         in_order,
   )
-  | inr behind ↦
+  | inr following ↦
       let rest = insert x ys (pairs_tail IsBefore y ys in_order) (λ z c. apart z (contains_later y ys z c)) in (
         y ∷ rest.0,
         IsPermutation-trans (x ∷ (y ∷ ys)) (y ∷ (x ∷ ys)) (y ∷ rest.0)
@@ -94,7 +94,7 @@ insert x (y ∷ ys) in_order apart = elim (leg_either x y (apart y (contains_her
             (IsPermutation-cons y (x ∷ ys) rest.0 rest.1),
         pairs_cons IsBefore y rest.0
             (λ z c. elim (contains_cases x ys z (Contains-permutation rest.0 (x ∷ ys) z (IsPermutation-sym (x ∷ ys) rest.0 rest.1) c)) [
-              | inl e ↦ subst (λ (w : Leg). IsBefore y w) e behind
+              | inl e ↦ subst (λ (w : Leg). IsBefore y w) e following
               | inr k ↦ pairs_head IsBefore y ys z in_order k
             ])
             rest.2,

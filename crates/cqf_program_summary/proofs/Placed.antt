@@ -7,65 +7,65 @@ use Rattle.std.proofs.lemmas.Option.{get_or_from_slice_get, same_Some, slice_get
 use Rattle.cqf_topology.proofs.Accepted.{position-None}
 use Rattle.cqf_program_runs.specs.declared.deliveries.delivery.Fate.{Fate}
 use Rattle.cqf_program_runs.specs.declared.deliveries.delivery.Journey.{Journey}
-use Rattle.cqf_program_summary.specs.declared.summary.fares.ListenerWay.{ListenerWay}
-use Rattle.cqf_program_summary.specs.Summary.Counting.{AreApart, leads_there, leads_to, place_by, tally_with, way_with}
+use Rattle.cqf_program_summary.specs.declared.summary.fares.ListenerPath.{ListenerPath}
+use Rattle.cqf_program_summary.specs.Summary.Counting.{AreApart, index_by, leads_there, leads_to, path_with, tally_with}
 use Rattle.cqf_program_summary.proofs.Changed.{map_keeps, set_maps}
 
 -- a path at the expected index leads there
-there_leads : (name : List ℕ) (ways : List ListenerWay) (place : ℕ) → leads_there name (slice_get ways place) ≡ true →
-    (way : ListenerWay) × (slice_get ways place ≡ Some way) × (leads_to name way.to ≡ true)
-there_leads name ways place there = by (slice_get ways place) refl there
+there_leads : (name : List ℕ) (paths : List ListenerPath) (index : ℕ) → leads_there name (slice_get paths index) ≡ true →
+    (path : ListenerPath) × (slice_get paths index ≡ Some path) × (leads_to name path.to ≡ true)
+there_leads name paths index there = by (slice_get paths index) refl there
   where
-    by : (o : Option ListenerWay) → slice_get ways place ≡ o → leads_there name o ≡ true → (way : ListenerWay) × (slice_get ways place ≡ Some way) × (leads_to name way.to ≡ true)
+    by : (o : Option ListenerPath) → slice_get paths index ≡ o → leads_there name o ≡ true → (path : ListenerPath) × (slice_get paths index ≡ Some path) × (leads_to name path.to ≡ true)
     by None e leads = absurd cc
-    by (Some way) e leads = (way, e, leads)
+    by (Some path) e leads = (path, e, leads)
 
-module _ (ways : List ListenerWay) (expected : ℕ) (name : List ℕ) where
+module _ (paths : List ListenerPath) (expected : ℕ) (name : List ℕ) where
   -- the index that is found is that of a path that leads there
-  pub found_leads : (place : ℕ) → place_by ways expected name ≡ Some place → (way : ListenerWay) × (slice_get ways place ≡ Some way) × (leads_to name way.to ≡ true)
-  found_leads place found = elim (cases_Bool (leads_there name (slice_get ways expected))) [
-    | inl there ↦ (let same : expected ≡ place = same_Some expected place
-        (sym (ap (λ (b : Bool). if b then Some expected else position (λ (way : ListenerWay). leads_to name way.to) ways) there) ∙ found) in
-        there_leads name ways place (ap (λ (k : ℕ). leads_there name (slice_get ways k)) (sym same) ∙ there))
-    | inr elsewhere ↦ by_first (sym (ap (λ (b : Bool). if b then Some expected else position (λ (way : ListenerWay). leads_to name way.to) ways) elsewhere) ∙ found)
+  pub found_leads : (index : ℕ) → index_by paths expected name ≡ Some index → (path : ListenerPath) × (slice_get paths index ≡ Some path) × (leads_to name path.to ≡ true)
+  found_leads index found = elim (cases_Bool (leads_there name (slice_get paths expected))) [
+    | inl there ↦ (let same : expected ≡ index = same_Some expected index
+        (sym (ap (λ (b : Bool). if b then Some expected else position (λ (path : ListenerPath). leads_to name path.to) paths) there) ∙ found) in
+        there_leads name paths index (ap (λ (k : ℕ). leads_there name (slice_get paths k)) (sym same) ∙ there))
+    | inr elsewhere ↦ by_first (sym (ap (λ (b : Bool). if b then Some expected else position (λ (path : ListenerPath). leads_to name path.to) paths) elsewhere) ∙ found)
   ]
     where
-      by_first : position (λ (way : ListenerWay). leads_to name way.to) ways ≡ Some place →
-          (way : ListenerWay) × (slice_get ways place ≡ Some way) × (leads_to name way.to ≡ true)
+      by_first : position (λ (path : ListenerPath). leads_to name path.to) paths ≡ Some index →
+          (path : ListenerPath) × (slice_get paths index ≡ Some path) × (leads_to name path.to ≡ true)
       by_first e =
-          let none : ListenerWay = record { to = None; tally = record { delivered = 0; late = 0; under_way = 0; taken = None } } in
-          let at = position-Some (λ (way : ListenerWay). leads_to name way.to) ways place none e in
-          (get_or ways place none, slice_get-get_or ways place none at.0, at.1)
+          let none : ListenerPath = record { to = None; tally = record { delivered = 0; late = 0; under_way = 0; taken = None } } in
+          let at = position-Some (λ (path : ListenerPath). leads_to name path.to) paths index none e in
+          (get_or paths index none, slice_get-get_or paths index none at.0, at.1)
 
   -- if none is found, none leads there
-  pub none_leads : place_by ways expected name ≡ None → (way : ListenerWay) (k : ℕ) → slice_get ways k ≡ Some way → leads_to name way.to ≡ false
-  none_leads none way k at = elim (cases_Bool (leads_there name (slice_get ways expected))) [
+  pub none_leads : index_by paths expected name ≡ None → (path : ListenerPath) (k : ℕ) → slice_get paths k ≡ Some path → leads_to name path.to ≡ false
+  none_leads none path k at = elim (cases_Bool (leads_there name (slice_get paths expected))) [
     | inl there ↦ absurd (some_is_none expected
-        (sym (ap (λ (b : Bool). if b then Some expected else position (λ (w : ListenerWay). leads_to name w.to) ways) there) ∙ none))
-    | inr elsewhere ↦ position-None (λ (w : ListenerWay). leads_to name w.to) ways
-        (sym (ap (λ (b : Bool). if b then Some expected else position (λ (w : ListenerWay). leads_to name w.to) ways) elsewhere) ∙ none) k way at
+        (sym (ap (λ (b : Bool). if b then Some expected else position (λ (w : ListenerPath). leads_to name w.to) paths) there) ∙ none))
+    | inr elsewhere ↦ position-None (λ (w : ListenerPath). leads_to name w.to) paths
+        (sym (ap (λ (b : Bool). if b then Some expected else position (λ (w : ListenerPath). leads_to name w.to) paths) elsewhere) ∙ none) k path at
   ]
     where
       some_is_none : (k : ℕ) → Some k ≡ None → ⊥
       some_is_none k e = absurd cc
 
 -- if paths lead to different listeners, no other leads there
-module _ (ways : List ListenerWay) (apart : AreApart ways) (name : List ℕ) (place : ℕ) (way : ListenerWay) (at : slice_get ways place ≡ Some way)
-    (leads : leads_to name way.to ≡ true) where
-  none_else : (other : ListenerWay) (k : ℕ) → slice_get ways k ≡ Some other → k ≢ place → leads_to name other.to ≡ true → ⊥
+module _ (paths : List ListenerPath) (apart : AreApart paths) (name : List ℕ) (index : ℕ) (path : ListenerPath) (at : slice_get paths index ≡ Some path)
+    (leads : leads_to name path.to ≡ true) where
+  none_else : (other : ListenerPath) (k : ℕ) → slice_get paths k ≡ Some other → k ≢ index → leads_to name other.to ≡ true → ⊥
   none_else other k there differ also =
-      let here : leads_to name (get_or ways place way).to ≡ true = ap (λ (w : ListenerWay). leads_to name w.to) (get_or_from_slice_get ways place way way at) ∙ leads in
-      let so : leads_to name (get_or ways k way).to ≡ true = ap (λ (w : ListenerWay). leads_to name w.to) (get_or_from_slice_get ways k other way there) ∙ also in
-      elim (cases_lt k place) [
-        | inl less ↦ apart k place way less (slice_get_within ways place way at) name so here
-        | inr more ↦ elim (cases_lt place k) [
-          | inl less ↦ apart place k way less (slice_get_within ways k other there) name here so
+      let here : leads_to name (get_or paths index path).to ≡ true = ap (λ (w : ListenerPath). leads_to name w.to) (get_or_from_slice_get paths index path path at) ∙ leads in
+      let so : leads_to name (get_or paths k path).to ≡ true = ap (λ (w : ListenerPath). leads_to name w.to) (get_or_from_slice_get paths k other path there) ∙ also in
+      elim (cases_lt k index) [
+        | inl less ↦ apart k index path less (slice_get_within paths index path at) name so here
+        | inr more ↦ elim (cases_lt index k) [
+          | inl less ↦ apart index k path less (slice_get_within paths k other there) name here so
           | inr least ↦ absurd (differ (omega (arith, more, least)))
         ]
       ]
 
-  pub others_stay : (ending : Fate) (instant : ℕ) (journey : Journey) → journey.listener ≡ name → (other : ListenerWay) (k : ℕ) → slice_get ways k ≡ Some other →
-      k ≢ place → way_with ending instant journey other ≡ other
+  pub others_stay : (ending : Fate) (instant : ℕ) (journey : Journey) → journey.listener ≡ name → (other : ListenerPath) (k : ℕ) → slice_get paths k ≡ Some other →
+      k ≢ index → path_with ending instant journey other ≡ other
   others_stay ending instant journey to other k there differ =
       ap (λ (b : Bool). if b then record other { tally = tally_with ending instant journey.whole other.tally } else other)
       (not_true (leads_to journey.listener other.to)
@@ -76,21 +76,21 @@ module _ (ways : List ListenerWay) (apart : AreApart ways) (name : List ℕ) (pl
       not_true false never = refl
 
 -- so counting the frame at the index that is found is counting it on each path that leads there
-pub way_counted : (ways : List ListenerWay) (expected : ℕ) (ending : Fate) (instant : ℕ) (journey : Journey) (place : ℕ) (before after : ListenerWay) → AreApart ways →
-    place_by ways expected journey.listener ≡ Some place → slice_get ways place ≡ Some before →
+pub path_counted : (paths : List ListenerPath) (expected : ℕ) (ending : Fate) (instant : ℕ) (journey : Journey) (index : ℕ) (before after : ListenerPath) → AreApart paths →
+    index_by paths expected journey.listener ≡ Some index → slice_get paths index ≡ Some before →
     after ≡ record before { tally = tally_with ending instant journey.whole before.tally } →
-    set ways place after ≡ map (way_with ending instant journey) ways
-way_counted ways expected ending instant journey place before after apart found at done =
-    let found_at = found_leads ways expected journey.listener place found in
+    set paths index after ≡ map (path_with ending instant journey) paths
+path_counted paths expected ending instant journey index before after apart found at done =
+    let found_at = found_leads paths expected journey.listener index found in
     let same : found_at.0 ≡ before = same_Some found_at.0 before (sym found_at.1 ∙ at) in
-    let leads : leads_to journey.listener before.to ≡ true = ap (λ (w : ListenerWay). leads_to journey.listener w.to) (sym same) ∙ found_at.2 in
-    set_maps (way_with ending instant journey) ways place before after at
+    let leads : leads_to journey.listener before.to ≡ true = ap (λ (w : ListenerPath). leads_to journey.listener w.to) (sym same) ∙ found_at.2 in
+    set_maps (path_with ending instant journey) paths index before after at
     (done ∙ sym (ap (λ (b : Bool). if b then record before { tally = tally_with ending instant journey.whole before.tally } else before) leads))
-    (others_stay ways apart journey.listener place before at leads ending instant journey refl)
+    (others_stay paths apart journey.listener index before at leads ending instant journey refl)
 
-pub none_counted : (ways : List ListenerWay) (expected : ℕ) (ending : Fate) (instant : ℕ) (journey : Journey) → place_by ways expected journey.listener ≡ None →
-    ways ≡ map (way_with ending instant journey) ways
-none_counted ways expected ending instant journey none =
-    map_keeps (way_with ending instant journey) ways
-    (λ way k at. ap (λ (b : Bool). if b then record way { tally = tally_with ending instant journey.whole way.tally } else way)
-    (none_leads ways expected journey.listener none way k at))
+pub none_counted : (paths : List ListenerPath) (expected : ℕ) (ending : Fate) (instant : ℕ) (journey : Journey) → index_by paths expected journey.listener ≡ None →
+    paths ≡ map (path_with ending instant journey) paths
+none_counted paths expected ending instant journey none =
+    map_keeps (path_with ending instant journey) paths
+    (λ path k at. ap (λ (b : Bool). if b then record path { tally = tally_with ending instant journey.whole path.tally } else path)
+    (none_leads paths expected journey.listener none path k at))

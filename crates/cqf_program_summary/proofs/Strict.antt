@@ -37,9 +37,9 @@ abbrev later : Ordering → Ordering → Ordering → Bool
 later o p q = is_lt (ordering_then (ordering_then o p) q)
 
 -- a triple that isn't after another is before it, or equals it in all but the last
-not_behind : (a b c d e f : ℕ) → later (nat_cmp d a) (nat_cmp e b) (nat_cmp f c) ≡ false →
+not_after : (a b c d e f : ℕ) → later (nat_cmp d a) (nat_cmp e b) (nat_cmp f c) ≡ false →
     (a < d) ⊎ ((a ≡ d) × ((b < e) ⊎ ((b ≡ e) × (c ≤ f))))
-not_behind a b c d e f up = elim (cases_order a d) [
+not_after a b c d e f up = elim (cases_order a d) [
   | inl same ↦ inr (same, second same (cases_order b e))
   | inr other ↦ elim other [
     | inl lt ↦ inl lt
@@ -79,7 +79,7 @@ has_keys x y a b c = rw (eq-eqb (frame_of x) (frame_of y) a, eq-eqb (instant_of 
 
 strict_pair : (x y : Leg) → goes_before frame_of instant_of link_of y x ≡ false →
     (frame_of x ≡ frame_of y → instant_of x ≡ instant_of y → link_of x ≡ link_of y → ⊥) → IsBefore x y
-strict_pair x y up differ = by (not_behind (frame_of x) (instant_of x) (link_of x) (frame_of y) (instant_of y) (link_of y) up)
+strict_pair x y up differ = by (not_after (frame_of x) (instant_of x) (link_of x) (frame_of y) (instant_of y) (link_of y) up)
   where
     last : frame_of x ≡ frame_of y → instant_of x ≡ instant_of y → link_of x ≤ link_of y → (link_of x < link_of y) ⊎ (link_of y ≤ link_of x) →
         link_of x < link_of y

@@ -19,13 +19,13 @@ use Rattle.cqf_program_runs.specs.declared.deliveries.delivery.Passage.TheVarian
 use Rattle.cqf_program_runs.specs.Check.Checked.{is_delivered, is_under_way}
 use Rattle.cqf_program_runs.specs.Deliveries.{fate_of, latency_of}
 use Rattle.cqf_program_summary.specs.declared.summary.fares.Listener.{Listener}
-use Rattle.cqf_program_summary.specs.declared.summary.fares.ListenerWay.{ListenerWay}
+use Rattle.cqf_program_summary.specs.declared.summary.fares.ListenerPath.{ListenerPath}
 use Rattle.cqf_program_summary.specs.declared.summary.tallies.LatencySummary.{LatencySummary}
 use Rattle.cqf_program_summary.specs.declared.summary.tallies.Tally.{Tally}
-use Rattle.cqf_program_summary.specs.Summary.Counting.{fare_with, fare_with_each, fare_with_offer, leads_to, taken_more, taken_with, tally_with, way_with, ways_with}
-use Rattle.cqf_program_summary.specs.Summary.{fare_by, listeners_by, name_of_listener, way_to}
+use Rattle.cqf_program_summary.specs.Summary.Counting.{fare_with, fare_with_each, fare_with_offer, leads_to, path_with, paths_with, taken_more, taken_with, tally_with}
+use Rattle.cqf_program_summary.specs.Summary.{fare_by, listeners_by, name_of_listener, path_to}
 use Rattle.cqf_program_summary.specs.Summary.Tallies.{count_to, is_dropped, is_late, latencies_to, latency_by, latency_on, reaches, taken_of, tally_to}
-use Rattle.cqf_program_summary.specs.Summary.Told.{row_of_stream}
+use Rattle.cqf_program_summary.specs.Summary.Written.{row_of_stream}
 
 -- one more counts if it passes
 pub count_push : {X : Type 0} (p : X → Bool) (xs : List X) (x : X) → count_by p (xs ++ x ∷ []) ≡ count_by p xs + (if p x then 1 else 0)
@@ -41,7 +41,7 @@ sum_push ns n = fold-append (λ (a b : ℕ). a + b) 0 ns (n ∷ [])
 
 -- one latency more
 pub taken_push : (ns : List ℕ) (n : ℕ) → taken_of (ns ++ n ∷ []) ≡ Some (taken_more n (taken_of ns))
-taken_push [] n = λ i. Some (record { least = n; most = n; total = alone i; behind = 0 })
+taken_push [] n = λ i. Some (record { least = n; most = n; total = alone i; following = 0 })
   where
     alone : n + 0 ≡ n
     alone = omega arith
@@ -49,7 +49,7 @@ taken_push (m ∷ ns) n = λ i. Some (record {
   least = fold-append min m ns (n ∷ []) i;
   most = fold-append max m ns (n ∷ []) i;
   total = whole i;
-  behind = longer i;
+  following = longer i;
 })
   where
     whole : m + sum (ns ++ n ∷ []) ≡ (m + sum ns) + n
@@ -131,36 +131,36 @@ journey_reaches None journey = refl
 journey_reaches (Some listener) journey = refl
 
 -- a path with a journey more, by whether it leads there
-way_by : (ending : Fate) (at : ℕ) (journey : Journey) (way : ListenerWay) (b : Bool) → leads_to journey.listener way.to ≡ b →
-    (if b then record way { tally = tally_with ending at journey.whole way.tally } else way) ≡ way_with ending at journey way
-way_by ending at journey way b e =
-    ap (λ (c : Bool). if c then record way { tally = tally_with ending at journey.whole way.tally } else way) (sym e)
+path_by : (ending : Fate) (at : ℕ) (journey : Journey) (path : ListenerPath) (b : Bool) → leads_to journey.listener path.to ≡ b →
+    (if b then record path { tally = tally_with ending at journey.whole path.tally } else path) ≡ path_with ending at journey path
+path_by ending at journey path b e =
+    ap (λ (c : Bool). if c then record path { tally = tally_with ending at journey.whole path.tally } else path) (sym e)
 
 module _ (ds : List Delivery) (x : Delivery) where
   -- a path with one delivery more
-  way_more : (to : Option Listener) (journey : Journey) → x.passage ≡ passage.Goes journey →
-      way_to (ds ++ x ∷ []) to ≡ way_with (fate_of x) x.at.0 journey (way_to ds to)
-  way_more to journey goes = elim (cases_Bool (leads_to journey.listener to)) [
+  path_more : (to : Option Listener) (journey : Journey) → x.passage ≡ passage.Goes journey →
+      path_to (ds ++ x ∷ []) to ≡ path_with (fate_of x) x.at.0 journey (path_to ds to)
+  path_more to journey goes = elim (cases_Bool (leads_to journey.listener to)) [
     | inl there ↦ ap (λ (t : Tally). record { to = to; tally = t }) (tally_grown (name_of_listener to) ds x journey goes (leads ∙ there))
-        ∙ way_by (fate_of x) x.at.0 journey (way_to ds to) true there
+        ∙ path_by (fate_of x) x.at.0 journey (path_to ds to) true there
     | inr elsewhere ↦ ap (λ (t : Tally). record { to = to; tally = t }) (tally_kept (name_of_listener to) ds x (leads ∙ elsewhere))
-        ∙ way_by (fate_of x) x.at.0 journey (way_to ds to) false elsewhere
+        ∙ path_by (fate_of x) x.at.0 journey (path_to ds to) false elsewhere
   ]
     where
       leads : reaches (name_of_listener to) x.passage ≡ leads_to journey.listener to
       leads = ap (reaches (name_of_listener to)) goes ∙ journey_reaches to journey
 
   -- all paths with one more
-  ways_more : (p : Passage) → x.passage ≡ p → (tos : List (Option Listener)) →
-      map (way_to (ds ++ x ∷ [])) tos ≡ ways_with (fate_of x) x.at.0 p (map (way_to ds) tos)
-  ways_more (passage.Dropped reason) e [] = refl
-  ways_more (passage.Dropped reason) e (to ∷ tos) =
-      ap₂ (λ (w : ListenerWay) (ws : List ListenerWay). w ∷ ws)
+  paths_more : (p : Passage) → x.passage ≡ p → (tos : List (Option Listener)) →
+      map (path_to (ds ++ x ∷ [])) tos ≡ paths_with (fate_of x) x.at.0 p (map (path_to ds) tos)
+  paths_more (passage.Dropped reason) e [] = refl
+  paths_more (passage.Dropped reason) e (to ∷ tos) =
+      ap₂ (λ (w : ListenerPath) (ws : List ListenerPath). w ∷ ws)
       (ap (λ (t : Tally). record { to = to; tally = t }) (tally_kept (name_of_listener to) ds x (drop_reaches (name_of_listener to) x.passage reason e)))
-      (ways_more (passage.Dropped reason) e tos)
-  ways_more (passage.Goes journey) e [] = refl
-  ways_more (passage.Goes journey) e (to ∷ tos) =
-      ap₂ (λ (w : ListenerWay) (ws : List ListenerWay). w ∷ ws) (way_more to journey e) (ways_more (passage.Goes journey) e tos)
+      (paths_more (passage.Dropped reason) e tos)
+  paths_more (passage.Goes journey) e [] = refl
+  paths_more (passage.Goes journey) e (to ∷ tos) =
+      ap₂ (λ (w : ListenerPath) (ws : List ListenerPath). w ∷ ws) (path_more to journey e) (paths_more (passage.Goes journey) e tos)
 
 -- the summary of a stream, with one delivery more of its frames
 module _ (d : Domain) (cost : Asked → ℕ → ℕ) (due : List ℕ → Option ℕ) (asked : Asked) where
@@ -170,7 +170,7 @@ module _ (d : Domain) (cost : Asked → ℕ → ℕ) (due : List ℕ → Option 
     deadline = due asked.name;
     offered = n;
     dropped = count_push (λ (y : Delivery). is_dropped (fate_of y)) ds x i;
-    ways = ways_more ds x x.passage refl (listeners_by d (cost asked) (row_of_stream d asked)) i;
+    paths = paths_more ds x x.passage refl (listeners_by d (cost asked) (row_of_stream d asked)) i;
   }
 
   -- with several

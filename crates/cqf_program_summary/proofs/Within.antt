@@ -8,12 +8,12 @@ use Rattle.cqf_program_runs.specs.declared.deliveries.delivery.Fate.{Fate}
 use Rattle.cqf_program_runs.specs.declared.deliveries.delivery.Fate.TheVariants as fate
 use Rattle.cqf_program_summary.specs.declared.summary.fares.Listener.{Listener}
 use Rattle.cqf_program_summary.specs.declared.summary.fares.Others.{Others}
-use Rattle.cqf_program_summary.specs.declared.summary.fares.ListenerWay.{ListenerWay}
+use Rattle.cqf_program_summary.specs.declared.summary.fares.ListenerPath.{ListenerPath}
 use Rattle.cqf_program_summary.specs.declared.summary.tallies.LatencySummary.{LatencySummary}
 use Rattle.cqf_program_summary.specs.declared.summary.tallies.Tally.{Tally}
-use Rattle.cqf_program_summary.specs.Summary.Counting.{counted, FareWithin, OthersWithin, SummaryWithin, TakenWithin, TallyWithin, WaysWithin}
-use Rattle.cqf_program_summary.specs.Summary.{Fare, Summary, fare_of, listeners_by, summary_by, way_to, ways_of}
-use Rattle.cqf_program_summary.specs.Summary.Told.{row_of_stream, told_cost}
+use Rattle.cqf_program_summary.specs.Summary.Counting.{counted, FareWithin, OthersWithin, SummaryWithin, TakenWithin, TallyWithin, PathsWithin}
+use Rattle.cqf_program_summary.specs.Summary.{Fare, Summary, fare_of, listeners_by, path_to, paths_of, summary_by}
+use Rattle.cqf_program_summary.specs.Summary.Written.{row_of_stream, written_cost}
 
 -- a bound may be raised
 taken_later : (many more : ℕ) (t : Option LatencySummary) → TakenWithin many t → TakenWithin (many + more) t
@@ -28,16 +28,16 @@ tally_later many more t is = record {
   taken = taken_later many more t.taken is.taken;
 }
 
-pub ways_later : (many more : ℕ) (ways : List ListenerWay) → WaysWithin many ways → WaysWithin (many + more) ways
-ways_later many more ways are =
-    all_from_members (λ (way : ListenerWay). TallyWithin (many + more) way.tally) ways
-    (λ way c. tally_later many more way.tally (All-contains (λ (w : ListenerWay). TallyWithin many w.tally) ways way are c))
+pub paths_later : (many more : ℕ) (paths : List ListenerPath) → PathsWithin many paths → PathsWithin (many + more) paths
+paths_later many more paths are =
+    all_from_members (λ (path : ListenerPath). TallyWithin (many + more) path.tally) paths
+    (λ path c. tally_later many more path.tally (All-contains (λ (w : ListenerPath). TallyWithin many w.tally) paths path are c))
 
 pub fare_later : (many more : ℕ) (fare : Fare) → FareWithin many fare → FareWithin (many + more) fare
 fare_later many more fare is = record {
   offered = omega (arith, is.offered);
   dropped = omega (arith, is.dropped);
-  ways = ways_later many more fare.ways is.ways;
+  paths = paths_later many more fare.paths is.paths;
 }
 
 pub fares_later : (many more : ℕ) (fares : List Fare) → All (FareWithin many) fares → All (FareWithin (many + more)) fares
@@ -93,27 +93,27 @@ with_within many ending before mid k same is more =
     }
 
 -- with one path counted once more
-pub way_within : (many : ℕ) (ways : List ListenerWay) (place : ℕ) (after : ListenerWay) → TallyWithin (many + 1) after.tally → WaysWithin many ways →
-    WaysWithin (many + 1) (set ways place after)
-way_within many ways place after more are = All-set (λ (way : ListenerWay). TallyWithin (many + 1) way.tally) ways place after more (ways_later many 1 ways are)
+pub path_within : (many : ℕ) (paths : List ListenerPath) (index : ℕ) (after : ListenerPath) → TallyWithin (many + 1) after.tally → PathsWithin many paths →
+    PathsWithin (many + 1) (set paths index after)
+path_within many paths index after more are = All-set (λ (path : ListenerPath). TallyWithin (many + 1) path.tally) paths index after more (paths_later many 1 paths are)
 
 -- at first nothing is counted
-pub none_within : (d : Domain) (told : List Asked) (due : List ℕ → Option ℕ) → SummaryWithin 0 (summary_by d told due [] [])
-none_within d told due = record {
-  fares = all_from_members (FareWithin 0) (map (fare_of d (told_cost d told) due [] []) told)
-      (λ y c. let found = contains_from_map (fare_of d (told_cost d told) due [] []) told y c in subst (FareWithin 0) found.2 (of_stream found.0));
+pub none_within : (d : Domain) (reported : List Asked) (due : List ℕ → Option ℕ) → SummaryWithin 0 (summary_by d reported due [] [])
+none_within d reported due = record {
+  fares = all_from_members (FareWithin 0) (map (fare_of d (written_cost d reported) due [] []) reported)
+      (λ y c. let found = contains_from_map (fare_of d (written_cost d reported) due [] []) reported y c in subst (FareWithin 0) found.2 (of_stream found.0));
   others = record { offered = omega arith; dropped = omega arith };
 }
   where
-    of_stream : (asked : Asked) → FareWithin 0 (fare_of d (told_cost d told) due [] [] asked)
+    of_stream : (asked : Asked) → FareWithin 0 (fare_of d (written_cost d reported) due [] [] asked)
     of_stream asked = record {
       offered = omega arith;
       dropped = omega arith;
-      ways = all_from_members (λ (way : ListenerWay). TallyWithin 0 way.tally) (ways_of d (told_cost d told asked) [] (row_of_stream d asked))
-          (λ way c.
-          let found = contains_from_map (way_to []) (listeners_by d (told_cost d told asked) (row_of_stream d asked)) way c in
-          subst (λ (w : ListenerWay). TallyWithin 0 w.tally) found.2 (empty found.0));
+      paths = all_from_members (λ (path : ListenerPath). TallyWithin 0 path.tally) (paths_of d (written_cost d reported asked) [] (row_of_stream d asked))
+          (λ path c.
+          let found = contains_from_map (path_to []) (listeners_by d (written_cost d reported asked) (row_of_stream d asked)) path c in
+          subst (λ (w : ListenerPath). TallyWithin 0 w.tally) found.2 (empty found.0));
     }
       where
-        empty : (to : Option Listener) → TallyWithin 0 (way_to [] to).tally
+        empty : (to : Option Listener) → TallyWithin 0 (path_to [] to).tally
         empty to = record { delivered = omega arith; late = omega arith; under_way = omega arith; taken = tt }

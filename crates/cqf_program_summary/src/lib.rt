@@ -10,7 +10,7 @@
 //!   start on a link, or a drop at the edge bridge. A [`FrameFilter`] selects the frames of a stream, a single frame,
 //!   or all.
 //!
-//! Each command is a folder. `specs/Summary` has the streams of a summary (`Told`), their rows (with `Tallies`) and
+//! Each command is a folder. `specs/Summary` has the streams of a summary (`Written`), their rows (with `Tallies`) and
 //! text (`Text`). `specs/Hops` has the starts and drops by frame, their order (`Legs`) and text (`Text`). The `Output`
 //! of each defines when a text is the output.
 //!

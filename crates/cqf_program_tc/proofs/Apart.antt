@@ -58,10 +58,10 @@ plain_bytes (byte ∷ name) named =
 plain_name : (name : List ℕ) → is_name name ≡ true → IsPlain (word_of name)
 plain_name name named = plain_bytes name (both_true _ (list_all is_name_byte name) named).1
 
-plain_at : (names : List (List ℕ)) → All (λ (name : List ℕ). IsTrue (is_name name)) names → (place : ℕ) → IsPlain (word_of (get_or names place []))
-plain_at names named place = elim (cases_lt place (length names)) [
-  | inl inside ↦ plain_name (get_or names place []) (named place [] inside)
-  | inr past ↦ ap (λ (name : List ℕ). list_all is_plain (word_of name)) (get_or_past names place [] past)
+plain_at : (names : List (List ℕ)) → All (λ (name : List ℕ). IsTrue (is_name name)) names → (index : ℕ) → IsPlain (word_of (get_or names index []))
+plain_at names named index = elim (cases_lt index (length names)) [
+  | inl inside ↦ plain_name (get_or names index []) (named index [] inside)
+  | inr past ↦ ap (λ (name : List ℕ). list_all is_plain (word_of name)) (get_or_past names index [] past)
 ]
 
 plain_node : (d : Domain) → IsDomain d → (node : Node) → IsPlain (word_of (name_of_node d node))
@@ -78,9 +78,9 @@ abbrev before : List ℕ → List ℕ
 before [] = []
 before (x ∷ xs) = if x == 78 then [] else x ∷ before xs
 
-abbrev behind : List ℕ → List ℕ
-behind [] = []
-behind (x ∷ xs) = if x == 78 then xs else behind xs
+abbrev following : List ℕ → List ℕ
+following [] = []
+following (x ∷ xs) = if x == 78 then xs else following xs
 
 none : (b : Bool) → not b ≡ true → b ≡ false
 none false h = refl
@@ -93,12 +93,12 @@ before_number (x ∷ word) end plain =
     ap (λ (b : Bool). if b then [] else x ∷ before (word ++ (95 ∷ 78 ∷ end))) (none (x == 78) parts.0)
     ∙ ap (λ (rest : List ℕ). x ∷ rest) (before_number word end parts.1)
 
-behind_number : (word end : List ℕ) → IsPlain word → behind (word ++ (95 ∷ 78 ∷ end)) ≡ end
-behind_number [] end plain = refl
-behind_number (x ∷ word) end plain =
+after_number : (word end : List ℕ) → IsPlain word → following (word ++ (95 ∷ 78 ∷ end)) ≡ end
+after_number [] end plain = refl
+after_number (x ∷ word) end plain =
     let parts = both_true (is_plain x) (list_all is_plain word) plain in
-    ap (λ (b : Bool). if b then word ++ (95 ∷ 78 ∷ end) else behind (word ++ (95 ∷ 78 ∷ end))) (none (x == 78) parts.0)
-    ∙ behind_number word end parts.1
+    ap (λ (b : Bool). if b then word ++ (95 ∷ 78 ∷ end) else following (word ++ (95 ∷ 78 ∷ end))) (none (x == 78) parts.0)
+    ∙ after_number word end parts.1
 
 -- a word with a number isn't plain
 not_plain : (word end : List ℕ) → IsPlain (word ++ (95 ∷ 78 ∷ end)) → ⊥
@@ -121,7 +121,7 @@ same_parts a b false true m n of_a of_b e =
 same_parts a b true true m n of_a of_b e = record {
   words = append_cancel_right a b (95 ∷ []) (sym (before_number a (decimal m) of_a) ∙ ap before e ∙ before_number b (decimal n) of_b);
   taken = refl;
-  numbers = λ some. sym (behind_number a (decimal m) of_a) ∙ ap behind e ∙ behind_number b (decimal n) of_b;
+  numbers = λ some. sym (after_number a (decimal m) of_a) ∙ ap following e ∙ after_number b (decimal n) of_b;
 }
 
 -- a decimal is the decimal of only one number

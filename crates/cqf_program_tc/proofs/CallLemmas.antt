@@ -33,11 +33,11 @@ use Rattle.cqf_program_plans.specs.EndNames.{name_of_end}
 use Rattle.cqf_program_tc.specs.Bridge.{bridge_text, clearing_by, each_link, each_stream, frame_needs, gate_call, gate_target, if_left}
 use Rattle.cqf_program_tc.specs.Bridge.{link_call, link_lines, list_call, list_of_own, own_list, pauses, plain_call}
 use Rattle.cqf_program_tc.specs.Words.{closed_words, entry_words, list_words, octets_word, open_words, tx_words}
-use Rattle.cqf_program_tc.specs.Bridge.{link_need, needs_by, out_need, stream_at, stream_clearing, stream_gates, stream_lines, stream_needs, way_at}
-use Rattle.cqf_program_tc.specs.Bridge.{way_clearing, way_in, way_need, way_out, ways_out}
+use Rattle.cqf_program_tc.specs.Bridge.{ingress_at, link_need, needs_by, out_need, stream_at, stream_clearing, stream_gates, stream_lines, stream_needs}
+use Rattle.cqf_program_tc.specs.Bridge.{in_variable, ingress_clearing, ingress_need, out_variable, out_variables}
 use Rattle.cqf_program_tc.specs.Calls.{ScriptsCallWhatIsDue, calls_at, calls_due, function_of_bridge, gate_calls, head_of, is_call, lines_before}
 use Rattle.cqf_program_tc.specs.Calls.{lines_of_function}
-use Rattle.cqf_program_tc.specs.Calls.{lines_behind, link_calls}
+use Rattle.cqf_program_tc.specs.Calls.{lines_after, link_calls}
 use Rattle.cqf_program_tc.specs.Text.{choice_text, tc_text}
 use Rattle.cqf_program_tc.specs.Variables.{link_variable, stream_variable}
 use Rattle.cqf_program_tc.specs.Wanted.{text_up_to, wanted_at, wanted_by}
@@ -72,12 +72,12 @@ says_then a b x y u v of_a of_b = record {
 }
 
 -- a line that is no call, and a line that is one
-says_line : (pieces : List (List ℕ)) (last behind : List ℕ) (calls here wants : List (List ℕ)) → AreWithin pieces last →
-    begins is_blank (onto pieces last) ≡ true → is_call (onto pieces last) ≡ false → wanted_by (onto pieces last) ≡ here → Says behind calls wants →
-    Says (onto pieces (last ++ 10 ∷ behind)) calls (here ++ wants)
-says_line pieces last behind calls here wants within blank other is more = record {
+says_line : (pieces : List (List ℕ)) (last following : List ℕ) (calls here wants : List (List ℕ)) → AreWithin pieces last →
+    begins is_blank (onto pieces last) ≡ true → is_call (onto pieces last) ≡ false → wanted_by (onto pieces last) ≡ here → Says following calls wants →
+    Says (onto pieces (last ++ 10 ∷ following)) calls (here ++ wants)
+says_line pieces last following calls here wants within blank other is more = record {
   lines = onto pieces last ∷ more.lines;
-  reads = reads_pieces pieces last behind more.lines within more.reads;
+  reads = reads_pieces pieces last following more.lines within more.reads;
   inside = and_from _ _ blank more.inside;
   called = ap (λ (b : Bool). cond b (onto pieces last ∷ filter is_call more.lines) (filter is_call more.lines)) other ∙ more.called;
   wanted = ap (λ (mine : List (List ℕ)). mine ++ flat_map wanted_by more.lines) is ∙ ap (λ (rest : List (List ℕ)). here ++ rest) more.wanted;
@@ -124,7 +124,7 @@ says_each text calls (row ∷ rows) each =
 abbrev no_variables : List (List ℕ)
 no_variables = []
 
--- the variables that are required: those of a link that leaves, of the way by which a stream arrives if that way is new, and of its frames
+-- the variables that are required: those of a link that leaves, of the ingress by which a stream arrives if that way is new, and of its frames
 abbrev pub link_wants : Domain → ℕ → ℕ → List (List ℕ)
 link_wants d bridge link = if leaves d link bridge then (codes "OUT_" ++ link_variable d link) ∷ [] else []
 
@@ -132,13 +132,13 @@ abbrev pub frame_wants : List ℕ → List (List ℕ)
 frame_wants variable = (codes "MAC_" ++ variable) ∷ (codes "VLAN_" ++ variable) ∷ []
 
 abbrev pub wants_by : Domain → List ℕ → (Option ℕ × Bool) → List (List ℕ)
-wants_by d variable way = (if way.1 then way_in d variable way.0 ∷ [] else []) ++ frame_wants variable
+wants_by d variable ingress = (if ingress.1 then in_variable d variable ingress.0 ∷ [] else []) ++ frame_wants variable
 
 abbrev pub stream_wants : Domain → List Row → ℕ → List Row → Row → List (List ℕ)
-stream_wants d rows bridge before row = option_map_or (wants_by d (stream_variable rows row)) (way_at d bridge before row) []
+stream_wants d rows bridge before row = option_map_or (wants_by d (stream_variable rows row)) (ingress_at d bridge before row) []
 
 abbrev pub wants_at : (List Row → Row → List (List ℕ)) → List Row → ℕ → List (List ℕ)
-wants_at wants rows place = option_map_or (wants (take place rows)) (slice_get rows place) []
+wants_at wants rows index = option_map_or (wants (take index rows)) (slice_get rows index) []
 
 abbrev pub wants_due : Domain → List Row → ℕ → List (List ℕ)
 wants_due d rows bridge =
@@ -271,10 +271,10 @@ module _ (d : Domain) (domain : IsDomain d) (bridge : ℕ) where
       none None = refl
       none (Some row) = refl
 
-  ways_within : (row : Row) (hops : List Hop) → IsWithin (flat_map (way_out d bridge) hops)
-  ways_within row [] = refl
-  ways_within row (hop ∷ hops) =
-      within_then (way_out d bridge hop) (flat_map (way_out d bridge) hops) (of_hop (leaves d hop.link bridge)) (ways_within row hops)
+  out_variables_within : (row : Row) (hops : List Hop) → IsWithin (flat_map (out_variable d bridge) hops)
+  out_variables_within row [] = refl
+  out_variables_within row (hop ∷ hops) =
+      within_then (out_variable d bridge hop) (flat_map (out_variable d bridge) hops) (of_hop (leaves d hop.link bridge)) (out_variables_within row hops)
     where
       of_hop : (b : Bool) → IsWithin (if b then codes " OUT_" ++ link_variable d hop.link else [])
       of_hop true = link_named hop.link
@@ -300,14 +300,14 @@ module _ (d : Domain) (domain : IsDomain d) (bridge : ℕ) where
   -- a stream whose name and variable are within a line, and whose gate has an index
   module _ (variable : List ℕ) (gate : ℕ) (row : Row) (bare : IsWithin variable) (named : IsWithin row.name)
       (spaceless : list_all is_no_space variable ≡ true) where
-    says_way : (way : Option ℕ) → Says (way_need d bridge variable row way) [] (way_in d variable way ∷ [])
-    says_way None = says_line
+    says_ingress : (ingress : Option ℕ) → Says (ingress_need d bridge variable row ingress) [] (in_variable d variable ingress ∷ [])
+    says_ingress None = says_line
         (codes "    port TALKER_" ∷ variable ∷ codes " \"${TALKER_" ∷ variable ∷ codes ":-}\" \"\" \"interface of "
         ∷ name_of_bridge d bridge ∷ codes " to the talker of " ∷ row.name ∷ [])
         (codes "\"") [] [] ((codes "TALKER_" ++ variable) ∷ []) []
         (refl, (bare, (refl, (bare, (refl, (bridge_within d domain bridge, (refl, (named, refl)))))))) refl refl
         (ap (λ (v : List ℕ). (codes "TALKER_" ++ v) ∷ []) (up_to 32 variable _ spaceless refl)) says_none
-    says_way (Some link) = says_in link
+    says_ingress (Some link) = says_in link
 
     says_frames : Says (frame_needs variable gate row) [] (frame_wants variable)
     says_frames = says_line
@@ -317,57 +317,57 @@ module _ (d : Domain) (domain : IsDomain d) (bridge : ℕ) where
         (refl, (bare, (refl, (bare, (refl, (bare, (refl, (named, (refl, (decimal_within gate, refl)))))))))) refl refl
         (ap frame_wants (up_to 32 variable _ spaceless refl)) says_none
 
-    says_needs : (way : Option (Option ℕ × Bool)) →
-        Says (option_map_or (needs_by d bridge variable gate row) way []) [] (option_map_or (wants_by d variable) way [])
+    says_needs : (ingress : Option (Option ℕ × Bool)) →
+        Says (option_map_or (needs_by d bridge variable gate row) ingress []) [] (option_map_or (wants_by d variable) ingress [])
     says_needs None = says_none
-    says_needs (Some way) =
-        says_then (if way.1 then way_need d bridge variable row way.0 else []) (frame_needs variable gate row) [] []
-        (if way.1 then way_in d variable way.0 ∷ [] else []) (frame_wants variable)
-        (says_some way.1 (way_need d bridge variable row way.0) (way_in d variable way.0 ∷ []) (says_way way.0)) says_frames
+    says_needs (Some ingress) =
+        says_then (if ingress.1 then ingress_need d bridge variable row ingress.0 else []) (frame_needs variable gate row) [] []
+        (if ingress.1 then in_variable d variable ingress.0 ∷ [] else []) (frame_wants variable)
+        (says_some ingress.1 (ingress_need d bridge variable row ingress.0) (in_variable d variable ingress.0 ∷ []) (says_ingress ingress.0)) says_frames
 
-    -- the way of the stream, within a line
-    way_within : (way : Option ℕ) → IsWithin (way_in d variable way)
-    way_within None = bare
-    way_within (Some link) = link_named link
+    -- the ingress of the stream, within a line
+    ingress_within : (ingress : Option ℕ) → IsWithin (in_variable d variable ingress)
+    ingress_within None = bare
+    ingress_within (Some link) = link_named link
 
-    says_clearing : (way : Option (Option ℕ × Bool)) → Says (option_map_or (clearing_by d variable) way []) [] []
+    says_clearing : (ingress : Option (Option ℕ × Bool)) → Says (option_map_or (clearing_by d variable) ingress []) [] []
     says_clearing None = says_none
-    says_clearing (Some way) = by way.1
+    says_clearing (Some ingress) = by ingress.1
       where
-        line : Says (way_clearing d variable way.0) [] []
-        line = says_line (codes "    no_gates \"$" ∷ way_in d variable way.0 ∷ []) (codes "\"") [] [] [] [] (refl, (way_within way.0, refl)) refl refl refl
+        line : Says (ingress_clearing d variable ingress.0) [] []
+        line = says_line (codes "    no_gates \"$" ∷ in_variable d variable ingress.0 ∷ []) (codes "\"") [] [] [] [] (refl, (ingress_within ingress.0, refl)) refl refl refl
             says_none
 
-        by : (b : Bool) → Says (if b then way_clearing d variable way.0 else []) [] []
+        by : (b : Bool) → Says (if b then ingress_clearing d variable ingress.0 else []) [] []
         by true = line
         by false = says_none
 
-    target_within : (way : Option ℕ) → IsWithin (gate_target d variable gate way)
-    target_within way = within_onto
-        (way_in d variable way ∷ codes "\" " ∷ decimal gate ∷ codes " \"$MAC_" ∷ variable ∷ codes "\" \"$VLAN_" ∷ variable ∷ []) (codes "\"")
-        (way_within way, (refl, (decimal_within gate, (refl, (bare, (refl, (bare, refl)))))))
+    target_within : (ingress : Option ℕ) → IsWithin (gate_target d variable gate ingress)
+    target_within ingress = within_onto
+        (in_variable d variable ingress ∷ codes "\" " ∷ decimal gate ∷ codes " \"$MAC_" ∷ variable ∷ codes "\" \"$VLAN_" ∷ variable ∷ []) (codes "\"")
+        (ingress_within ingress, (refl, (decimal_within gate, (refl, (bare, (refl, (bare, refl)))))))
 
-    plain_within : (way : Option ℕ) → IsWithin (plain_call d variable gate row way)
-    plain_within way = within_then (gate_target d variable gate way) (codes " " ++ decimal row.octets) (target_within way) (decimal_within row.octets)
+    plain_within : (ingress : Option ℕ) → IsWithin (plain_call d variable gate row ingress)
+    plain_within ingress = within_then (gate_target d variable gate ingress) (codes " " ++ decimal row.octets) (target_within ingress) (decimal_within row.octets)
 
-    list_within : (way : Option ℕ) → IsWithin (list_call d bridge variable gate row way)
-    list_within way =
-        within_then (gate_target d variable gate way) (list_words (gate_at d row bridge)) (target_within way) (entries_within (gate_at d row bridge))
+    list_within : (ingress : Option ℕ) → IsWithin (list_call d bridge variable gate row ingress)
+    list_within ingress =
+        within_then (gate_target d variable gate ingress) (list_words (gate_at d row bridge)) (target_within ingress) (entries_within (gate_at d row bridge))
 
     -- the call, both for a stream that pauses and for one that doesn't
-    says_gate : (way : Option ℕ) (b : Bool) →
-        Says ((if b then list_call d bridge variable gate row way else plain_call d variable gate row way) ++ 10 ∷ [])
-        ((if b then list_call d bridge variable gate row way else plain_call d variable gate row way) ∷ []) []
-    says_gate way true = says_call (list_call d bridge variable gate row way) (list_within way) refl refl refl
-    says_gate way false = says_call (plain_call d variable gate row way) (plain_within way) refl refl refl
+    says_gate : (ingress : Option ℕ) (b : Bool) →
+        Says ((if b then list_call d bridge variable gate row ingress else plain_call d variable gate row ingress) ++ 10 ∷ [])
+        ((if b then list_call d bridge variable gate row ingress else plain_call d variable gate row ingress) ∷ []) []
+    says_gate ingress true = says_call (list_call d bridge variable gate row ingress) (list_within ingress) refl refl refl
+    says_gate ingress false = says_call (plain_call d variable gate row ingress) (plain_within ingress) refl refl refl
 
     says_stream : (hop : Option Hop) → Says (option_map_or (λ (hop : Hop). stream_lines d bridge variable gate row hop.from) hop [])
         (option_map_or (λ (hop : Hop). gate_call d bridge variable gate row hop.from ∷ []) hop []) []
     says_stream None = says_none
     says_stream (Some hop) =
-        says_line (codes "    # stream " ∷ decimal row.no ∷ codes " " ∷ row.name ∷ codes ", leaves by" ∷ ways_out d bridge row ∷ []) []
+        says_line (codes "    # stream " ∷ decimal row.no ∷ codes " " ∷ row.name ∷ codes ", leaves by" ∷ out_variables d bridge row ∷ []) []
         (gate_call d bridge variable gate row hop.from ++ 10 ∷ []) (gate_call d bridge variable gate row hop.from ∷ []) [] []
-        (refl, (decimal_within row.no, (refl, (named, (refl, (ways_within row row.tree.items, refl)))))) refl refl refl
+        (refl, (decimal_within row.no, (refl, (named, (refl, (out_variables_within row row.tree.items, refl)))))) refl refl refl
         (says_gate hop.from (pauses row))
 
 -- a text whose lines end with `}`
@@ -392,12 +392,12 @@ ends_then a b x y u v of_a of_b = record {
       ∙ ap (λ wants. u ++ wants) of_b.wanted;
 }
 
-ends_line : (pieces : List (List ℕ)) (last behind : List ℕ) (calls wants : List (List ℕ)) → AreWithin pieces last →
-    begins is_blank (onto pieces last) ≡ true → is_call (onto pieces last) ≡ false → wanted_by (onto pieces last) ≡ [] → Ends behind calls wants →
-    Ends (onto pieces (last ++ 10 ∷ behind)) calls wants
-ends_line pieces last behind calls wants within blank other none more = record {
+ends_line : (pieces : List (List ℕ)) (last following : List ℕ) (calls wants : List (List ℕ)) → AreWithin pieces last →
+    begins is_blank (onto pieces last) ≡ true → is_call (onto pieces last) ≡ false → wanted_by (onto pieces last) ≡ [] → Ends following calls wants →
+    Ends (onto pieces (last ++ 10 ∷ following)) calls wants
+ends_line pieces last following calls wants within blank other none more = record {
   lines = onto pieces last ∷ more.lines;
-  reads = reads_pieces pieces last behind (more.lines ++ codes "}" ∷ []) within more.reads;
+  reads = reads_pieces pieces last following (more.lines ++ codes "}" ∷ []) within more.reads;
   inside = and_from _ _ blank more.inside;
   called = ap (λ (b : Bool). cond b (onto pieces last ∷ filter is_call more.lines) (filter is_call more.lines)) other ∙ more.called;
   wanted = ap (λ (mine : List (List ℕ)). mine ++ flat_map wanted_by more.lines) none ∙ more.wanted;
@@ -446,29 +446,29 @@ module _ (d : Domain) (gates : ℕ → ℕ) (rows : List Row) (domain : IsDomain
       ends_then links (streams ++ last) due_links (due_gates ++ []) [] []
       (says_below (if_left d bridge (link_lines d)) (link_calls d bridge) (length d.links) (says_link d domain bridge)) at_streams in
       let calls : List (List ℕ) = due_links ++ (due_gates ++ []) in
-      let behind_links = links ++ (streams ++ last) in
-      let at_clearings : Ends (clearings ++ behind_links) calls (nothing ++ []) =
-      ends_then clearings behind_links [] calls nothing []
+      let after_links = links ++ (streams ++ last) in
+      let at_clearings : Ends (clearings ++ after_links) calls (nothing ++ []) =
+      ends_then clearings after_links [] calls nothing []
       (says_streams d domain bridge (stream_clearing d rows bridge) (λ before row. []) rows
       (λ before row there. says_clearing d domain bridge (stream_variable rows row) (gates row.no) row (bare row there) (named row there)
-      (spaceless row there) (way_at d bridge before row))) at_links in
-      let at_ready : Ends (codes "    ready\n" ++ (clearings ++ behind_links)) calls (nothing ++ []) =
-      ends_line [] (codes "    ready") (clearings ++ behind_links) calls (nothing ++ []) refl refl refl refl at_clearings in
-      let behind_ready = codes "    ready\n" ++ (clearings ++ behind_links) in
-      let at_needs : Ends (needs ++ behind_ready) calls (wanted_streams ++ (nothing ++ [])) =
-      ends_then needs behind_ready [] calls wanted_streams (nothing ++ [])
+      (spaceless row there) (ingress_at d bridge before row))) at_links in
+      let at_ready : Ends (codes "    ready\n" ++ (clearings ++ after_links)) calls (nothing ++ []) =
+      ends_line [] (codes "    ready") (clearings ++ after_links) calls (nothing ++ []) refl refl refl refl at_clearings in
+      let after_ready = codes "    ready\n" ++ (clearings ++ after_links) in
+      let at_needs : Ends (needs ++ after_ready) calls (wanted_streams ++ (nothing ++ [])) =
+      ends_then needs after_ready [] calls wanted_streams (nothing ++ [])
       (says_streams d domain bridge (stream_needs d gates rows bridge) (stream_wants d rows bridge) rows
       (λ before row there. says_needs d domain bridge (stream_variable rows row) (gates row.no) row (bare row there) (named row there)
-      (spaceless row there) (way_at d bridge before row))) at_ready in
+      (spaceless row there) (ingress_at d bridge before row))) at_ready in
       let wants : List (List ℕ) = wanted_links ++ (wanted_streams ++ (nothing ++ [])) in
-      let at_outs : Ends (outs ++ (needs ++ behind_ready)) calls wants =
-      ends_then outs (needs ++ behind_ready) [] calls wanted_links (wanted_streams ++ (nothing ++ []))
+      let at_outs : Ends (outs ++ (needs ++ after_ready)) calls wants =
+      ends_then outs (needs ++ after_ready) [] calls wanted_links (wanted_streams ++ (nothing ++ []))
       (says_nothing_below (if_left d bridge (out_need d bridge)) (link_wants d bridge) (length d.links)
       (λ link. says_some (leaves d link bridge) (out_need d bridge link) ((codes "OUT_" ++ link_variable d link) ∷ []) (says_out d domain bridge link)))
       at_needs in
-      let behind_name = outs ++ (needs ++ behind_ready) in
-      let whole : Ends (codes "    # " ++ (name_of_bridge d bridge ++ 10 ∷ behind_name)) calls wants =
-      ends_line (codes "    # " ∷ name_of_bridge d bridge ∷ []) [] behind_name calls wants (refl, (bridge_within d domain bridge, refl)) refl refl refl
+      let after_name = outs ++ (needs ++ after_ready) in
+      let whole : Ends (codes "    # " ++ (name_of_bridge d bridge ++ 10 ∷ after_name)) calls wants =
+      ends_line (codes "    # " ∷ name_of_bridge d bridge ∷ []) [] after_name calls wants (refl, (bridge_within d domain bridge, refl)) refl refl refl
       at_outs in
       let due : calls ≡ calls_due d gates rows bridge = ap (λ (others : List (List ℕ)). due_links ++ others) (append-nil due_gates) in
       let all : wants ≡ wants_due d rows bridge =
@@ -476,7 +476,7 @@ module _ (d : Domain) (gates : ℕ → ℕ) (rows : List Row) (domain : IsDomain
       ∙ ap (λ (others : List (List ℕ)). wanted_links ++ others) (append-nil wanted_streams) in
       record {
         lines = whole.lines;
-        reads = reads_pieces (codes "bridge_" ∷ decimal bridge ∷ []) (codes "() {") (codes "    # " ++ (name_of_bridge d bridge ++ 10 ∷ behind_name))
+        reads = reads_pieces (codes "bridge_" ∷ decimal bridge ∷ []) (codes "() {") (codes "    # " ++ (name_of_bridge d bridge ++ 10 ∷ after_name))
             (whole.lines ++ codes "}" ∷ []) (refl, (decimal_within bridge, refl)) whole.reads;
         inside = whole.inside;
         called = ◌∙◌ {a = filter is_call whole.lines} whole.called due;
@@ -495,11 +495,11 @@ module _ (d : Domain) (gates : ℕ → ℕ) (rows : List Row) (domain : IsDomain
 
   -- lines that begin with a blank are not a head
   blanks_passed : (head : List ℕ) (lines more : List (List ℕ)) → list_all (begins is_blank) lines ≡ true →
-      lines_behind (98 ∷ head) (lines ++ more) ≡ lines_behind (98 ∷ head) more
+      lines_after (98 ∷ head) (lines ++ more) ≡ lines_after (98 ∷ head) more
   blanks_passed head [] more inside = refl
   blanks_passed head (line ∷ lines) more inside =
       let parts = both_true (begins is_blank line) (list_all (begins is_blank) lines) inside in
-      ap (λ (b : Bool). cond b (lines ++ more) (lines_behind (98 ∷ head) (lines ++ more))) (other_text line parts.0) ∙ blanks_passed head lines more parts.1
+      ap (λ (b : Bool). cond b (lines ++ more) (lines_after (98 ∷ head) (lines ++ more))) (other_text line parts.0) ∙ blanks_passed head lines more parts.1
     where
       other_text : (line : List ℕ) → begins is_blank line ≡ true → is_text line (98 ∷ head) ≡ false
       other_text [] blank = refl
@@ -519,45 +519,45 @@ module _ (d : Domain) (gates : ℕ → ℕ) (rows : List Row) (domain : IsDomain
 
   -- the functions of other bridges are skipped
   function_passed : (bridge other : ℕ) (rest : List ℕ) → bridge < 2 ^ 64 → other < 2 ^ 64 → (other ≡ bridge → ⊥) →
-      lines_behind (head_bridge bridge) (lines_of (bridge_text d gates rows other ++ rest)) ≡ lines_behind (head_bridge bridge) (lines_of rest)
+      lines_after (head_bridge bridge) (lines_of (bridge_text d gates rows other ++ rest)) ≡ lines_after (head_bridge bridge) (lines_of rest)
   function_passed bridge other rest small_bridge small_other apart =
       let function = is_function other in
-      let behind : List (List ℕ) = (function.lines ++ codes "}" ∷ []) ++ lines_of rest in
-      ap (lines_behind (head_bridge bridge)) (function.reads rest)
-      ∙ ap (λ (b : Bool). cond b behind (lines_behind (head_bridge bridge) behind)) (heads_apart other bridge small_other small_bridge apart)
-      ∙ ap (lines_behind (head_bridge bridge)) (append_assoc function.lines (codes "}" ∷ []) (lines_of rest))
+      let following : List (List ℕ) = (function.lines ++ codes "}" ∷ []) ++ lines_of rest in
+      ap (lines_after (head_bridge bridge)) (function.reads rest)
+      ∙ ap (λ (b : Bool). cond b following (lines_after (head_bridge bridge) following)) (heads_apart other bridge small_other small_bridge apart)
+      ∙ ap (lines_after (head_bridge bridge)) (append_assoc function.lines (codes "}" ∷ []) (lines_of rest))
       ∙ blanks_passed (codes "ridge_" ++ (decimal bridge ++ codes "() {")) function.lines (codes "}" ∷ lines_of rest) function.inside
 
   functions_passed : (bridge count : ℕ) (rest : List ℕ) → count ≤ bridge → bridge < 2 ^ 64 →
-      lines_behind (head_bridge bridge) (lines_of (each_below (bridge_text d gates rows) count ++ rest)) ≡ lines_behind (head_bridge bridge) (lines_of rest)
+      lines_after (head_bridge bridge) (lines_of (each_below (bridge_text d gates rows) count ++ rest)) ≡ lines_after (head_bridge bridge) (lines_of rest)
   functions_passed bridge zero rest few small = refl
   functions_passed bridge (suc count) rest few small =
-      ap (λ text. lines_behind (head_bridge bridge) (lines_of text)) (append_assoc (each_below (bridge_text d gates rows) count) (bridge_text d gates rows count) rest)
+      ap (λ text. lines_after (head_bridge bridge) (lines_of text)) (append_assoc (each_below (bridge_text d gates rows) count) (bridge_text d gates rows count) rest)
       ∙ functions_passed bridge count (bridge_text d gates rows count ++ rest) (omega (arith, few)) small
       ∙ function_passed bridge count rest small (omega (arith, few, small)) (λ same. absurd (omega (arith, few, same)))
 
   -- after its head the lines of a bridge's function are found
   function_found : (bridge count : ℕ) (rest : List ℕ) → bridge < count → bridge < 2 ^ 64 →
-      lines_before (codes "}") (lines_behind (head_bridge bridge) (lines_of (each_below (bridge_text d gates rows) count ++ rest))) ≡ (is_function bridge).lines
+      lines_before (codes "}") (lines_after (head_bridge bridge) (lines_of (each_below (bridge_text d gates rows) count ++ rest))) ≡ (is_function bridge).lines
   function_found bridge zero rest inside small = absurd (omega (arith, inside))
   function_found bridge (suc count) rest inside small =
-      ap (λ text. lines_before (codes "}") (lines_behind (head_bridge bridge) (lines_of text)))
+      ap (λ text. lines_before (codes "}") (lines_after (head_bridge bridge) (lines_of text)))
       (append_assoc (each_below (bridge_text d gates rows) count) (bridge_text d gates rows count) rest)
       ∙ elim (cases_lt bridge count) [
         | inl less ↦ function_found bridge count (bridge_text d gates rows count ++ rest) less small
         | inr more ↦ at_last (omega (arith, inside, more))
       ]
     where
-      at_last : count ≡ bridge → lines_before (codes "}") (lines_behind (head_bridge bridge)
+      at_last : count ≡ bridge → lines_before (codes "}") (lines_after (head_bridge bridge)
           (lines_of (each_below (bridge_text d gates rows) count ++ (bridge_text d gates rows count ++ rest)))) ≡ (is_function bridge).lines
       at_last same =
           let function = is_function bridge in
-          let behind : List (List ℕ) = (function.lines ++ codes "}" ∷ []) ++ lines_of rest in
-          ap (λ (n : ℕ). lines_before (codes "}") (lines_behind (head_bridge bridge)
+          let following : List (List ℕ) = (function.lines ++ codes "}" ∷ []) ++ lines_of rest in
+          ap (λ (n : ℕ). lines_before (codes "}") (lines_after (head_bridge bridge)
           (lines_of (each_below (bridge_text d gates rows) n ++ (bridge_text d gates rows n ++ rest))))) same
           ∙ ap (lines_before (codes "}")) (functions_passed bridge bridge (bridge_text d gates rows bridge ++ rest) (omega arith) small
-          ∙ ap (lines_behind (head_bridge bridge)) (function.reads rest)
-          ∙ ap (λ (b : Bool). cond b behind (lines_behind (head_bridge bridge) behind)) (is_text_itself (head_bridge bridge)))
+          ∙ ap (lines_after (head_bridge bridge)) (function.reads rest)
+          ∙ ap (λ (b : Bool). cond b following (lines_after (head_bridge bridge) following)) (is_text_itself (head_bridge bridge)))
           ∙ before_end function.lines (lines_of rest) function.inside
 
   -- its lines are those of the function

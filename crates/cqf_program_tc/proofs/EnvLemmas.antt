@@ -22,8 +22,8 @@ use Rattle.cqf_topology.specs.DomainText.{IsDomain}
 use Rattle.cqf_topology.specs.NodeNames.{name_of_bridge}
 use Rattle.cqf_admission.specs.Grants.{HaveNames}
 use Rattle.cqf_program_plans.specs.EndNames.{name_of_end}
-use Rattle.cqf_program_tc.specs.Bridge.{each_link, each_stream, if_left, stream_at, way_at, way_in}
-use Rattle.cqf_program_tc.specs.Env.{env_text, frame_lines, head_text, in_lines, lines_by, mac_of, out_lines, stream_env, value_text, vlan_of, way_lines}
+use Rattle.cqf_program_tc.specs.Bridge.{each_link, each_stream, if_left, in_variable, ingress_at, stream_at}
+use Rattle.cqf_program_tc.specs.Env.{env_text, frame_lines, head_text, in_lines, ingress_lines, lines_by, mac_of, out_lines, stream_env, value_text, vlan_of}
 use Rattle.cqf_program_tc.specs.Variables.{link_variable, stream_variable}
 use Rattle.cqf_program_tc.specs.Wanted.{EnvHasWhatTheScriptWants, HaveForm, set_by, set_in}
 use Rattle.cqf_program_tc.proofs.CallLemmas.{frame_wants, link_wants, stream_wants, up_to, wanted_are_due, wants_at, wants_by, wants_due}
@@ -47,11 +47,11 @@ sets_then a b u v of_a of_b = record {
   set = flat_map-append set_by of_a.lines of_b.lines ∙ ap (λ names. names ++ flat_map set_by of_b.lines) of_a.set ∙ ap (λ names. u ++ names) of_b.set;
 }
 
-sets_line : (pieces : List (List ℕ)) (last behind : List ℕ) (own names : List (List ℕ)) → AreWithin pieces last → set_by (onto pieces last) ≡ own →
-    Sets behind names → Sets (onto pieces (last ++ 10 ∷ behind)) (own ++ names)
-sets_line pieces last behind own names within is more = record {
+sets_line : (pieces : List (List ℕ)) (last following : List ℕ) (own names : List (List ℕ)) → AreWithin pieces last → set_by (onto pieces last) ≡ own →
+    Sets following names → Sets (onto pieces (last ++ 10 ∷ following)) (own ++ names)
+sets_line pieces last following own names within is more = record {
   lines = onto pieces last ∷ more.lines;
-  reads = reads_pieces pieces last behind more.lines within more.reads;
+  reads = reads_pieces pieces last following more.lines within more.reads;
   set = ap (λ (mine : List (List ℕ)). mine ++ flat_map set_by more.lines) is ∙ ap (λ (rest : List (List ℕ)). own ++ rest) more.set;
 }
 
@@ -168,24 +168,24 @@ module _ (d : Domain) (domain : IsDomain d) (interfaces : List LinkInterfaces) (
 
   -- of a stream
   module _ (variable : List ℕ) (row : Row) (own : IsWithin variable) (named : IsWithin row.name) (equals : list_all is_no_equals variable ≡ true) where
-    sets_way : (way : Option ℕ) → Sets (way_lines d interfaces bridge variable row way) (way_in d variable way ∷ [])
-    sets_way None =
+    sets_ingress : (ingress : Option ℕ) → Sets (ingress_lines d interfaces bridge variable row ingress) (in_variable d variable ingress ∷ [])
+    sets_ingress None =
         sets_line (codes "# interface of " ∷ name_of_bridge d bridge ∷ codes " to the talker of " ∷ row.name ∷ []) []
         (codes "TALKER_" ++ (variable ++ codes "=\n")) [] ((codes "TALKER_" ++ variable) ∷ [])
         (refl, (bridge_within d domain bridge, (refl, (named, refl)))) refl
         (sets_line (codes "TALKER_" ∷ variable ∷ codes "=" ∷ []) [] [] ((codes "TALKER_" ++ variable) ∷ []) [] (refl, (own, (refl, refl)))
         (ap (λ (v : List ℕ). (codes "TALKER_" ++ v) ∷ []) (up_to 61 variable _ equals refl)) sets_none)
-    sets_way (Some link) = sets_in link
+    sets_ingress (Some link) = sets_in link
 
     sets_frames : Sets (frame_lines addresses variable row) (frame_wants variable)
     sets_frames =
         let mac = mac_of addresses row.no in
         let vlan = vlan_of addresses row.no in
         let at_vlan : List ℕ = codes "VLAN_" ++ (variable ++ (codes "=" ++ (vlan ++ 10 ∷ []))) in
-        let behind_mac : List ℕ = codes "# VLAN of " ++ (row.name ++ 10 ∷ at_vlan) in
-        sets_line (codes "# destination address of " ∷ row.name ∷ []) [] (codes "MAC_" ++ (variable ++ (codes "=" ++ (mac ++ 10 ∷ behind_mac)))) []
+        let after_mac : List ℕ = codes "# VLAN of " ++ (row.name ++ 10 ∷ at_vlan) in
+        sets_line (codes "# destination address of " ∷ row.name ∷ []) [] (codes "MAC_" ++ (variable ++ (codes "=" ++ (mac ++ 10 ∷ after_mac)))) []
         (frame_wants variable) (refl, (named, refl)) refl
-        (sets_line (codes "MAC_" ∷ variable ∷ codes "=" ∷ mac ∷ []) [] behind_mac ((codes "MAC_" ++ variable) ∷ []) ((codes "VLAN_" ++ variable) ∷ [])
+        (sets_line (codes "MAC_" ∷ variable ∷ codes "=" ∷ mac ∷ []) [] after_mac ((codes "MAC_" ++ variable) ∷ []) ((codes "VLAN_" ++ variable) ∷ [])
         (refl, (own, (refl, (mac_of_within addresses row.no, refl))))
         (ap (λ (v : List ℕ). (codes "MAC_" ++ v) ∷ []) (up_to 61 variable _ equals refl))
         (sets_line (codes "# VLAN of " ∷ row.name ∷ []) [] at_vlan [] ((codes "VLAN_" ++ variable) ∷ []) (refl, (named, refl)) refl
@@ -193,13 +193,13 @@ module _ (d : Domain) (domain : IsDomain d) (interfaces : List LinkInterfaces) (
         (refl, (own, (refl, (vlan_of_within addresses row.no, refl))))
         (ap (λ (v : List ℕ). (codes "VLAN_" ++ v) ∷ []) (up_to 61 variable _ equals refl)) sets_none)))
 
-    sets_stream : (way : Option (Option ℕ × Bool)) →
-        Sets (option_map_or (lines_by d interfaces addresses bridge variable row) way []) (option_map_or (wants_by d variable) way [])
+    sets_stream : (ingress : Option (Option ℕ × Bool)) →
+        Sets (option_map_or (lines_by d interfaces addresses bridge variable row) ingress []) (option_map_or (wants_by d variable) ingress [])
     sets_stream None = sets_none
-    sets_stream (Some way) =
-        sets_then (if way.1 then way_lines d interfaces bridge variable row way.0 else []) (frame_lines addresses variable row)
-        (if way.1 then way_in d variable way.0 ∷ [] else []) (frame_wants variable)
-        (sets_some way.1 (way_lines d interfaces bridge variable row way.0) (way_in d variable way.0 ∷ []) (sets_way way.0)) sets_frames
+    sets_stream (Some ingress) =
+        sets_then (if ingress.1 then ingress_lines d interfaces bridge variable row ingress.0 else []) (frame_lines addresses variable row)
+        (if ingress.1 then in_variable d variable ingress.0 ∷ [] else []) (frame_wants variable)
+        (sets_some ingress.1 (ingress_lines d interfaces bridge variable row ingress.0) (in_variable d variable ingress.0 ∷ []) (sets_ingress ingress.0)) sets_frames
 
   sets_head : Sets (head_text d bridge) (codes "BASE" ∷ codes "CHAIN" ∷ [])
   sets_head =
@@ -233,7 +233,7 @@ module _ (d : Domain) (domain : IsDomain d) (interfaces : List LinkInterfaces) (
       at k (Some row) is =
           let named = names row (contains_at rows k row is) in
           sets_stream d domain interfaces form addresses bridge (stream_variable rows row) row (stream_variable_within rows row named)
-          (name_within row.name named) (stream_all is_no_equals pass_equals rows row named) (way_at d bridge (take k rows) row)
+          (name_within row.name named) (stream_all is_no_equals pass_equals rows row named) (ingress_at d bridge (take k rows) row)
 
   sets_links : Sets (each_link d bridge (out_lines d interfaces bridge)) (each_below (link_wants d bridge) (length d.links))
   sets_links =

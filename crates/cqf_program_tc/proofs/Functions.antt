@@ -14,15 +14,15 @@ use Rattle.cqf_model.specs.GateList.{Entry, port_list}
 use Rattle.cqf_model.specs.Limits.{streams_within}
 use Rattle.cqf_topology.specs.DomainText.{IsDomain}
 use Rattle.cqf_program_tc.specs.Bridge.{has_own_guard, pauses}
-use Rattle.cqf_program_tc.specs.Calls.{head_of, lines_behind, lines_before, lines_of_function}
+use Rattle.cqf_program_tc.specs.Calls.{head_of, lines_after, lines_before, lines_of_function}
 use Rattle.cqf_program_tc.specs.Checks.{checks_text}
 use Rattle.cqf_program_tc.specs.Program.{object_end, object_text, octal, octal_word, program_text}
 use Rattle.cqf_program_tc.specs.Text.{bridges_text, by_list_command, by_list_lines, by_list_text, choice_text, class_words, filter_words, list_gates_text}
 use Rattle.cqf_program_tc.specs.Text.{common_words, gate_command, given_text, given_words, last_gate, link_note, link_text, list_command, multiple, name_text}
-use Rattle.cqf_program_tc.specs.Text.{notes_text, port_end, port_words}
+use Rattle.cqf_program_tc.specs.Text.{notes_by, notes_text, port_end, port_words}
 use Rattle.cqf_program_tc.specs.Text.{names_text, no_gates_text, old_gates_text, opening_text, tc_gate_text, tc_text, undo_gate, undo_list, usage_text}
 use Rattle.cqf_program_tc.specs.Words.{gate_words, tx_words}
-use Rattle.cqf_program_tc.proofs.Lines.{IsWithin, Reads, Skips, begins, behind_within, bridge_within, decimal_within, is_within, none_within}
+use Rattle.cqf_program_tc.proofs.Lines.{IsWithin, Reads, Skips, after_within, begins, bridge_within, decimal_within, is_within, none_within}
 use Rattle.cqf_program_tc.proofs.Lines.{both_true, joined, reads_joined, skips, within_then}
 
 -- the heads of the functions that are searched begin with one of these bytes
@@ -40,18 +40,18 @@ other_line y head (x ∷ line) of_head other = no_b x y line head of_head other
 -- such lines are skipped
 pub passed_over : (y : ℕ) (head : List ℕ) (lines more : List (List ℕ)) → is_head_byte y ≡ true →
     list_all (λ (line : List ℕ). not (begins is_head_byte line)) lines ≡ true →
-    lines_behind (y ∷ head) (lines ++ more) ≡ lines_behind (y ∷ head) more
+    lines_after (y ∷ head) (lines ++ more) ≡ lines_after (y ∷ head) more
 passed_over y head [] more of_head other = refl
 passed_over y head (line ∷ lines) more of_head other =
     let parts = both_true (not (begins is_head_byte line)) (list_all (λ (line : List ℕ). not (begins is_head_byte line)) lines) other in
-    ap (λ (b : Bool). cond b (lines ++ more) (lines_behind (y ∷ head) (lines ++ more))) (other_line y head line of_head parts.0)
+    ap (λ (b : Bool). cond b (lines ++ more) (lines_after (y ∷ head) (lines ++ more))) (other_line y head line of_head parts.0)
     ∙ passed_over y head lines more of_head parts.1
 
 -- and so is a text of them
 pub text_passed : (y : ℕ) (head text rest : List ℕ) → is_head_byte y ≡ true → Skips is_head_byte text →
-    lines_behind (y ∷ head) (lines_of (text ++ rest)) ≡ lines_behind (y ∷ head) (lines_of rest)
+    lines_after (y ∷ head) (lines_of (text ++ rest)) ≡ lines_after (y ∷ head) (lines_of rest)
 text_passed y head text rest of_head skipped =
-    ap (lines_behind (y ∷ head)) (skipped.reads rest) ∙ passed_over y head skipped.lines (lines_of rest) of_head skipped.other
+    ap (lines_after (y ∷ head)) (skipped.reads rest) ∙ passed_over y head skipped.lines (lines_of rest) of_head skipped.other
 
 -- the texts before the functions
 multiple_within : (d : Domain) (rows : List Row) → IsWithin (multiple d rows)
@@ -63,22 +63,24 @@ names_within d domain (suc n) = within_then (each_below (name_text d) n) (name_t
 
 usage_skipped : (d : Domain) (rows : List Row) → Skips is_head_byte (usage_text d rows)
 usage_skipped d rows = skips is_head_byte (usage_text d rows) (none_within is_head_byte (multiple d rows) _ (multiple_within d rows) refl)
-    (behind_within (multiple d rows) _ (multiple_within d rows) refl)
+    (after_within (multiple d rows) _ (multiple_within d rows) refl)
 
-notes_skipped : (software : Bool) → Skips is_head_byte (notes_text software)
-notes_skipped true = skips is_head_byte (notes_text true) refl refl
-notes_skipped false = skips is_head_byte (notes_text false) refl refl
+notes_skipped : (whole software : Bool) → Skips is_head_byte (notes_by whole software)
+notes_skipped true true = skips is_head_byte (notes_by true true) refl refl
+notes_skipped true false = skips is_head_byte (notes_by true false) refl refl
+notes_skipped false true = skips is_head_byte (notes_by false true) refl refl
+notes_skipped false false = skips is_head_byte (notes_by false false) refl refl
 
 opening_skipped : (d : Domain) → IsDomain d → Skips is_head_byte (opening_text d)
 opening_skipped d domain = skips is_head_byte (opening_text d) (none_within is_head_byte (names_text d) _ (names_within d domain (length d.bridges)) refl)
-    (behind_within (names_text d) _ (names_within d domain (length d.bridges)) refl)
+    (after_within (names_text d) _ (names_within d domain (length d.bridges)) refl)
 
 given_skipped : (d : Domain) (rows : List Row) → Skips is_head_byte (given_text d rows)
 given_skipped d rows =
     let within = multiple_within d rows in
     skips is_head_byte (given_text d rows)
     (none_within is_head_byte (multiple d rows) _ within (none_within is_head_byte (multiple d rows) _ within (none_within is_head_byte (multiple d rows) _ within refl)))
-    (behind_within (multiple d rows) _ within (behind_within (multiple d rows) _ within (behind_within (multiple d rows) _ within refl)))
+    (after_within (multiple d rows) _ within (after_within (multiple d rows) _ within (after_within (multiple d rows) _ within refl)))
 
 checks_skipped : Skips is_head_byte checks_text
 checks_skipped = skips is_head_byte checks_text refl refl
@@ -101,7 +103,7 @@ word_within n =
 object_skipped : (n : ℕ) → Skips is_head_byte (object_text n)
 object_skipped n =
     skips is_head_byte (object_text n) (none_within is_head_byte (octal_word n) object_end (word_within n) refl)
-    (behind_within (octal_word n) object_end (word_within n) refl)
+    (after_within (octal_word n) object_end (word_within n) refl)
 
 nothing_skipped : Skips is_head_byte []
 nothing_skipped = skips is_head_byte [] refl refl
@@ -210,31 +212,31 @@ rest_of d software gates rows = list_gates_text software rows ++ last_of d softw
 
 module _ (d : Domain) (software : Bool) (gates : ℕ → ℕ) (rows : List Row) where
   to_functions : (y : ℕ) (head : List ℕ) → IsDomain d → is_head_byte y ≡ true →
-      lines_behind (y ∷ head) (lines_of (tc_text d software gates rows)) ≡ lines_behind (y ∷ head)
+      lines_after (y ∷ head) (lines_of (tc_text d software gates rows)) ≡ lines_after (y ∷ head)
       (lines_of (link_text d software ++ ((old_gates_text (last_gate d)) ++ (no_gates_text ++ (tc_gate_text d software ++ rest_of d software gates rows)))))
   to_functions y head domain of_head =
       let rest = rest_of d software gates rows in
       let tail = last_of d software gates rows in
       let own_gates = tc_gate_text d software ++ list_gates_text software rows in
       let last = no_gates_text ++ own_gates in
-      let behind_link = (old_gates_text (last_gate d)) ++ last in
-      let behind_note = link_text d software ++ behind_link in
-      let behind_program = link_note d ++ behind_note in
-      let behind_checks = program_text d software ++ behind_program in
+      let after_link = (old_gates_text (last_gate d)) ++ last in
+      let after_note = link_text d software ++ after_link in
+      let after_program = link_note d ++ after_note in
+      let after_checks = program_text d software ++ after_program in
       let functions = link_text d software ++ ((old_gates_text (last_gate d)) ++ (no_gates_text ++ (tc_gate_text d software ++ rest))) in
-      let one : (checks_text ++ behind_checks) ++ tail ≡ checks_text ++ (program_text d software ++ (link_note d ++ functions)) =
-      append_assoc checks_text behind_checks tail
-      ∙ ap (λ text. checks_text ++ text) (append_assoc (program_text d software) behind_program tail
-      ∙ ap (λ text. program_text d software ++ text) (append_assoc (link_note d) behind_note tail
-      ∙ ap (λ text. link_note d ++ text) (append_assoc (link_text d software) behind_link tail
+      let one : (checks_text ++ after_checks) ++ tail ≡ checks_text ++ (program_text d software ++ (link_note d ++ functions)) =
+      append_assoc checks_text after_checks tail
+      ∙ ap (λ text. checks_text ++ text) (append_assoc (program_text d software) after_program tail
+      ∙ ap (λ text. program_text d software ++ text) (append_assoc (link_note d) after_note tail
+      ∙ ap (λ text. link_note d ++ text) (append_assoc (link_text d software) after_link tail
       ∙ ap (λ text. link_text d software ++ text) (append_assoc (old_gates_text (last_gate d)) last tail
       ∙ ap (λ text. (old_gates_text (last_gate d)) ++ text) (append_assoc no_gates_text own_gates tail
       ∙ ap (λ text. no_gates_text ++ text) (append_assoc (tc_gate_text d software) (list_gates_text software rows) tail)))))) in
       text_passed y head (usage_text d rows) _ of_head (usage_skipped d rows)
-      ∙ text_passed y head (notes_text software) _ of_head (notes_skipped software)
+      ∙ text_passed y head (notes_text d software) _ of_head (notes_skipped (d.overhead == 0) software)
       ∙ text_passed y head (opening_text d) _ of_head (opening_skipped d domain)
       ∙ text_passed y head (given_text d rows) _ of_head (given_skipped d rows)
-      ∙ ap (λ text. lines_behind (y ∷ head) (lines_of text)) one
+      ∙ ap (λ text. lines_after (y ∷ head) (lines_of text)) one
       ∙ text_passed y head checks_text (program_text d software ++ (link_note d ++ functions)) of_head checks_skipped
       ∙ text_passed y head (program_text d software) (link_note d ++ functions) of_head (program_skipped d software)
       ∙ text_passed y head (link_note d) functions of_head (note_skipped d)
@@ -243,21 +245,21 @@ module _ (d : Domain) (software : Bool) (gates : ℕ → ℕ) (rows : List Row) 
   pub link_found : IsDomain d → lines_of_function (codes "link") (tc_text d software gates rows) ≡ list_command d software ∷ undo_list ∷ []
   link_found domain =
       ap (lines_before (codes "}")) (to_functions 108 (codes "ink() {") domain refl
-      ∙ ap (lines_behind (head_of (codes "link")))
+      ∙ ap (lines_after (head_of (codes "link")))
       (link_reads d software ((old_gates_text (last_gate d)) ++ (no_gates_text ++ (tc_gate_text d software ++ rest_of d software gates rows)))))
 
   -- after the function of a link, other functions are searched among those of gates and of bridges
   to_gate : (y : ℕ) (head : List ℕ) → IsDomain d → is_head_byte y ≡ true → is_text (codes "link() {") (y ∷ head) ≡ false →
-      lines_behind (y ∷ head) (lines_of (tc_text d software gates rows))
-      ≡ lines_behind (y ∷ head) (lines_of (tc_gate_text d software ++ rest_of d software gates rows))
+      lines_after (y ∷ head) (lines_of (tc_text d software gates rows))
+      ≡ lines_after (y ∷ head) (lines_of (tc_gate_text d software ++ rest_of d software gates rows))
   to_gate y head domain of_head other =
-      let behind = (old_gates_text (last_gate d)) ++ (no_gates_text ++ (tc_gate_text d software ++ rest_of d software gates rows)) in
-      let more = list_command d software ∷ undo_list ∷ codes "}" ∷ [] ∷ lines_of behind in
+      let following = (old_gates_text (last_gate d)) ++ (no_gates_text ++ (tc_gate_text d software ++ rest_of d software gates rows)) in
+      let more = list_command d software ∷ undo_list ∷ codes "}" ∷ [] ∷ lines_of following in
       to_functions y head domain of_head
-      ∙ ap (lines_behind (y ∷ head)) (link_reads d software behind)
+      ∙ ap (lines_after (y ∷ head)) (link_reads d software following)
       ∙ passed_over y head (codes "# the transmission gates of the interface $1" ∷ []) (codes "link() {" ∷ more) of_head refl
-      ∙ ap (λ (b : Bool). cond b more (lines_behind (y ∷ head) more)) other
-      ∙ passed_over y head (list_command d software ∷ undo_list ∷ codes "}" ∷ [] ∷ []) (lines_of behind) of_head refl
+      ∙ ap (λ (b : Bool). cond b more (lines_after (y ∷ head) more)) other
+      ∙ passed_over y head (list_command d software ∷ undo_list ∷ codes "}" ∷ [] ∷ []) (lines_of following) of_head refl
       ∙ text_passed y head (old_gates_text (last_gate d)) (no_gates_text ++ (tc_gate_text d software ++ rest_of d software gates rows)) of_head
       (old_gates_skipped d)
       ∙ text_passed y head no_gates_text (tc_gate_text d software ++ rest_of d software gates rows) of_head no_gates_skipped
@@ -266,7 +268,7 @@ module _ (d : Domain) (software : Bool) (gates : ℕ → ℕ) (rows : List Row) 
   pub gate_found : IsDomain d → lines_of_function (codes "gate") (tc_text d software gates rows) ≡ gate_command d software ∷ undo_gate ∷ []
   gate_found domain =
       ap (lines_before (codes "}")) (to_gate 103 (codes "ate() {") domain refl refl
-      ∙ ap (lines_behind (head_of (codes "gate"))) (gate_reads d software (rest_of d software gates rows)))
+      ∙ ap (lines_after (head_of (codes "gate"))) (gate_reads d software (rest_of d software gates rows)))
 
 -- the lines of the function that sets a gate by a list
 abbrev lines_of_by_list : Bool → List (List ℕ)
@@ -286,24 +288,24 @@ module _ (d : Domain) (software : Bool) (gates : ℕ → ℕ) (rows : List Row) 
       let head = head_of (codes "gate_by_list") in
       let tail = last_of d software gates rows in
       ap (lines_before (codes "}")) (to_gate d software gates rows 103 (codes "ate_by_list() {") domain refl refl
-      ∙ ap (lines_behind head) (gate_reads d software (rest_of d software gates rows))
-      ∙ ap (λ (b : Bool). lines_behind head (lines_of ((if b then by_list_text software else []) ++ tail))) some
-      ∙ ap (lines_behind head) (by_list_reads software tail))
+      ∙ ap (lines_after head) (gate_reads d software (rest_of d software gates rows))
+      ∙ ap (λ (b : Bool). lines_after head (lines_of ((if b then by_list_text software else []) ++ tail))) some
+      ∙ ap (lines_after head) (by_list_reads software tail))
 
   -- and is skipped if another function is searched
   lists_passed : (head : List ℕ) →
-      lines_behind (98 ∷ head) (lines_of (rest_of d software gates rows)) ≡ lines_behind (98 ∷ head) (lines_of (last_of d software gates rows))
+      lines_after (98 ∷ head) (lines_of (rest_of d software gates rows)) ≡ lines_after (98 ∷ head) (lines_of (last_of d software gates rows))
   lists_passed head = by_test (list_any pauses rows)
     where
-      by_test : (b : Bool) → lines_behind (98 ∷ head) (lines_of ((if b then by_list_text software else []) ++ last_of d software gates rows))
-          ≡ lines_behind (98 ∷ head) (lines_of (last_of d software gates rows))
-      by_test true = ap (lines_behind (98 ∷ head)) (by_list_reads software (last_of d software gates rows))
+      by_test : (b : Bool) → lines_after (98 ∷ head) (lines_of ((if b then by_list_text software else []) ++ last_of d software gates rows))
+          ≡ lines_after (98 ∷ head) (lines_of (last_of d software gates rows))
+      by_test true = ap (lines_after (98 ∷ head)) (by_list_reads software (last_of d software gates rows))
       by_test false = refl
 
   -- and the functions of bridges are searched after it
   pub to_bridges : (head : List ℕ) → IsDomain d →
-      lines_behind (98 ∷ head) (lines_of (tc_text d software gates rows))
-      ≡ lines_behind (98 ∷ head) (lines_of (bridges_text d gates rows ++ choice_text d software))
+      lines_after (98 ∷ head) (lines_of (tc_text d software gates rows))
+      ≡ lines_after (98 ∷ head) (lines_of (bridges_text d gates rows ++ choice_text d software))
   to_bridges head domain =
-      to_gate d software gates rows 98 head domain refl refl ∙ ap (lines_behind (98 ∷ head)) (gate_reads d software (rest_of d software gates rows))
+      to_gate d software gates rows 98 head domain refl refl ∙ ap (lines_after (98 ∷ head)) (gate_reads d software (rest_of d software gates rows))
       ∙ lists_passed head

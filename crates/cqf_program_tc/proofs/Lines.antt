@@ -60,9 +60,9 @@ pub reads_none : Reads [] []
 reads_none rest = refl
 
 -- a line with its line feed, before others
-pub reads_line : (line behind : List ℕ) (lines : List (List ℕ)) → IsWithin line → Reads behind lines → Reads (line ++ 10 ∷ behind) (line ∷ lines)
-reads_line line behind lines within of_behind rest =
-    ap lines_of (append_assoc line (10 ∷ behind) rest) ∙ first_line line (behind ++ rest) within ∙ ap (λ more. line ∷ more) (of_behind rest)
+pub reads_line : (line following : List ℕ) (lines : List (List ℕ)) → IsWithin line → Reads following lines → Reads (line ++ 10 ∷ following) (line ∷ lines)
+reads_line line following lines within of_after rest =
+    ap lines_of (append_assoc line (10 ∷ following) rest) ∙ first_line line (following ++ rest) within ∙ ap (λ more. line ∷ more) (of_after rest)
 
 -- lines, each with its line feed
 abbrev pub joined : List (List ℕ) → List ℕ
@@ -95,11 +95,11 @@ within_onto [] last within = within
 within_onto (piece ∷ pieces) last within = within_then piece (onto pieces last) within.0 (within_onto pieces last within.1)
 
 -- a line made of pieces
-pub reads_pieces : (pieces : List (List ℕ)) (last behind : List ℕ) (lines : List (List ℕ)) → AreWithin pieces last → Reads behind lines →
-    Reads (onto pieces (last ++ 10 ∷ behind)) (onto pieces last ∷ lines)
-reads_pieces pieces last behind lines within of_behind =
-    subst (λ (text : List ℕ). Reads text (onto pieces last ∷ lines)) (onto_then pieces last (10 ∷ behind))
-    (reads_line (onto pieces last) behind lines (within_onto pieces last within) of_behind)
+pub reads_pieces : (pieces : List (List ℕ)) (last following : List ℕ) (lines : List (List ℕ)) → AreWithin pieces last → Reads following lines →
+    Reads (onto pieces (last ++ 10 ∷ following)) (onto pieces last ∷ lines)
+reads_pieces pieces last following lines within of_after =
+    subst (λ (text : List ℕ). Reads text (onto pieces last ∷ lines)) (onto_then pieces last (10 ∷ following))
+    (reads_line (onto pieces last) following lines (within_onto pieces last within) of_after)
 
 -- whether a line begins with a byte that passes a test
 abbrev pub begins : (ℕ → Bool) → List ℕ → Bool
@@ -111,9 +111,9 @@ abbrev pub none_begins : (ℕ → Bool) → Bool → List ℕ → Bool
 none_begins test at [] = true
 none_begins test at (first ∷ text) = not (at && test first) && none_begins test (first == 10) text
 
-abbrev pub one_begins_behind : Bool → List ℕ → Bool
-one_begins_behind at [] = at
-one_begins_behind at (first ∷ text) = one_begins_behind (first == 10) text
+abbrev pub one_begins_after : Bool → List ℕ → Bool
+one_begins_after at [] = at
+one_begins_after at (first ∷ text) = one_begins_after (first == 10) text
 
 -- a text of whole lines; none begins with such a byte
 pub record Skips (test : ℕ → Bool) (text : List ℕ) : Type 0 where
@@ -153,7 +153,7 @@ nothing_begun [] h = refl
 nothing_begun (first ∷ line) h = absurd cc
 
 skips_from : (test : ℕ → Bool) (text line : List ℕ) → IsWithin line → not (begins test line) ≡ true → none_begins test (is_start line) text ≡ true →
-    one_begins_behind (is_start line) text ≡ true → SkipsFrom test line text
+    one_begins_after (is_start line) text ≡ true → SkipsFrom test line text
 skips_from test [] line within other none end = record {
   lines = [];
   reads = λ rest. ap (λ (front : List ℕ). lines_of (front ++ rest)) (nothing_begun line end);
@@ -162,7 +162,7 @@ skips_from test [] line within other none end = record {
 skips_from test (x ∷ text) line within other none end = elim (cases_Bool (x == 10)) [
   | inl feed ↦
       let more = skips_from test text [] refl refl (ap (λ at. none_begins test at text) (sym feed) ∙ parts.1)
-      (ap (λ at. one_begins_behind at text) (sym feed) ∙ end) in
+      (ap (λ at. one_begins_after at text) (sym feed) ∙ end) in
       record {
         lines = line ∷ more.lines;
         reads = λ rest. ap (λ (byte : ℕ). lines_of (line ++ byte ∷ (text ++ rest))) (eqb-true x 10 feed) ∙ first_line line (text ++ rest) within
@@ -173,7 +173,7 @@ skips_from test (x ∷ text) line within other none end = elim (cases_Bool (x ==
       let front : List ℕ = line ++ x ∷ [] in
       let at : is_start front ≡ (x == 10) = started line x ∙ sym inside in
       let more = skips_from test text front (within_then line (x ∷ []) within (ap (λ b. not b && true) inside)) (begun test x line other parts.0)
-      (ap (λ at. none_begins test at text) at ∙ parts.1) (ap (λ at. one_begins_behind at text) at ∙ end) in
+      (ap (λ at. none_begins test at text) at ∙ parts.1) (ap (λ at. one_begins_after at text) at ∙ end) in
       record {
         lines = more.lines;
         reads = λ rest. ap lines_of (sym (append_assoc line (x ∷ []) (text ++ rest))) ∙ more.reads rest;
@@ -185,7 +185,7 @@ skips_from test (x ∷ text) line within other none end = elim (cases_Bool (x ==
     parts = both_true (not (is_start line && test x)) (none_begins test (x == 10) text) none
 
 -- a text for which this was checked
-pub skips : (test : ℕ → Bool) (text : List ℕ) → none_begins test true text ≡ true → one_begins_behind true text ≡ true → Skips test text
+pub skips : (test : ℕ → Bool) (text : List ℕ) → none_begins test true text ≡ true → one_begins_after true text ≡ true → Skips test text
 skips test text none end =
     let found = skips_from test text [] refl refl none end in
     record { lines = found.lines; reads = found.reads; other = found.other }
@@ -197,27 +197,27 @@ none_within test (x ∷ piece) text within none =
     let parts = both_true (is_within x) (list_all is_within piece) within in
     ap (λ at. none_begins test at (piece ++ text)) (is_true (x == 10) parts.0) ∙ none_within test piece text parts.1 none
 
-pub behind_within : (piece text : List ℕ) → IsWithin piece → one_begins_behind false text ≡ true → one_begins_behind false (piece ++ text) ≡ true
-behind_within [] text within end = end
-behind_within (x ∷ piece) text within end =
+pub after_within : (piece text : List ℕ) → IsWithin piece → one_begins_after false text ≡ true → one_begins_after false (piece ++ text) ≡ true
+after_within [] text within end = end
+after_within (x ∷ piece) text within end =
     let parts = both_true (is_within x) (list_all is_within piece) within in
-    ap (λ at. one_begins_behind at (piece ++ text)) (is_true (x == 10) parts.0) ∙ behind_within piece text parts.1 end
+    ap (λ at. one_begins_after at (piece ++ text)) (is_true (x == 10) parts.0) ∙ after_within piece text parts.1 end
 
 -- no digit ends a line
 glyph_within : (n : ℕ) → is_within (digit_glyph false n) ≡ true
 glyph_within n = grind (arith, nat_tests)
 
-onto_within : (count n : ℕ) (behind : List ℕ) → IsWithin behind → IsWithin (digits_onto count 10 false n behind)
-onto_within zero n behind within = within
-onto_within (suc count) n behind within = elim (cases_Bool (n / 10 == 0)) [
-  | inl last ↦ ap (λ b. list_all is_within (cond b (digit_glyph false (n % 10) ∷ behind)
-      (digits_onto count 10 false (n / 10) (digit_glyph false (n % 10) ∷ behind)))) last ∙ more
-  | inr more_digits ↦ ap (λ b. list_all is_within (cond b (digit_glyph false (n % 10) ∷ behind)
-      (digits_onto count 10 false (n / 10) (digit_glyph false (n % 10) ∷ behind)))) more_digits
-      ∙ onto_within count (n / 10) (digit_glyph false (n % 10) ∷ behind) more
+onto_within : (count n : ℕ) (following : List ℕ) → IsWithin following → IsWithin (digits_onto count 10 false n following)
+onto_within zero n following within = within
+onto_within (suc count) n following within = elim (cases_Bool (n / 10 == 0)) [
+  | inl last ↦ ap (λ b. list_all is_within (cond b (digit_glyph false (n % 10) ∷ following)
+      (digits_onto count 10 false (n / 10) (digit_glyph false (n % 10) ∷ following)))) last ∙ more
+  | inr more_digits ↦ ap (λ b. list_all is_within (cond b (digit_glyph false (n % 10) ∷ following)
+      (digits_onto count 10 false (n / 10) (digit_glyph false (n % 10) ∷ following)))) more_digits
+      ∙ onto_within count (n / 10) (digit_glyph false (n % 10) ∷ following) more
 ]
   where
-    more : IsWithin (digit_glyph false (n % 10) ∷ behind)
+    more : IsWithin (digit_glyph false (n % 10) ∷ following)
     more = and_from _ _ (glyph_within (n % 10)) within
 
 pub decimal_within : (n : ℕ) → IsWithin (decimal n)
@@ -243,10 +243,10 @@ bytes_within (byte ∷ name) named =
 pub name_within : (name : List ℕ) → is_name name ≡ true → IsWithin name
 name_within name named = bytes_within name (both_true _ (list_all is_name_byte name) named).1
 
-named_at : (names : List (List ℕ)) → All (λ (name : List ℕ). IsTrue (is_name name)) names → (place : ℕ) → IsWithin (get_or names place [])
-named_at names named place = elim (cases_lt place (length names)) [
-  | inl inside ↦ name_within (get_or names place []) (named place [] inside)
-  | inr past ↦ ap (list_all is_within) (get_or_past names place [] past)
+named_at : (names : List (List ℕ)) → All (λ (name : List ℕ). IsTrue (is_name name)) names → (index : ℕ) → IsWithin (get_or names index [])
+named_at names named index = elim (cases_lt index (length names)) [
+  | inl inside ↦ name_within (get_or names index []) (named index [] inside)
+  | inr past ↦ ap (list_all is_within) (get_or_past names index [] past)
 ]
 
 -- the names of nodes and links

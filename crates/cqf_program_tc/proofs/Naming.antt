@@ -11,7 +11,7 @@ use Rattle.std.specs.declared.vec.Vec.{Vec}
 use Rattle.std.proofs.lemmas.Bool.{cases_lt, le-ltb, lt-ltb}
 use Rattle.std.proofs.lemmas.List.{get_or-map, get_or_append_left, get_or_default, get_or_push, length-append, length-map, map-append, take-map, take_more}
 use Rattle.std.proofs.lemmas.Option.{slice_get_cases, slice_get_past, slice_get_read}
-use Rattle.cqf_admission.specs.Names.{place_under}
+use Rattle.cqf_admission.specs.Names.{index_under}
 use Rattle.cqf_lists.proofs.Any.{list_any-map, position_any}
 use Rattle.cqf_lists.specs.ByNumber.{lists_of}
 use Rattle.cqf_model.specs.declared.topology.Link.{Link}
@@ -44,21 +44,21 @@ words_more {X} word xs k d before after last inside so_far more is =
 pub record AreTakenUpTo (words : List (Vec ℕ Global)) (under : List ℕ → Option ℕ) (taken : List Bool) (count : ℕ) : Type 0 where
   pub leads : (name : List ℕ) → under name ≡ position (λ (word : Vec ℕ Global). is_text word.items name) (take count words)
   pub one_each : length taken ≡ count
-  pub each : (place : ℕ) → place < count → get_or taken place false ≡ is_taken_at (lists_of words) place
+  pub each : (index : ℕ) → index < count → get_or taken index false ≡ is_taken_at (lists_of words) index
 
 pub taken_none : (words : List (Vec ℕ Global)) (under : List ℕ → Option ℕ) (taken : List Bool) → ((name : List ℕ) → under name ≡ None) → taken ≡ [] →
     AreTakenUpTo words under taken 0
 taken_none words under taken none empty = record {
   leads = none;
   one_each = ap length empty;
-  each = λ place below. absurd (omega (arith, below));
+  each = λ index below. absurd (omega (arith, below));
 }
 
 pub taken_all : (words : List (Vec ℕ Global)) (under : List ℕ → Option ℕ) (taken : List Bool) (count : ℕ) → count ≡ length words →
     AreTakenUpTo words under taken count → AreTaken (lists_of words) taken
 taken_all words under taken count all are =
     let many : length (lists_of words) ≡ length words = length-map words (λ (w : Vec ℕ Global). w.items) in
-    record { one_each = are.one_each ∙ all ∙ sym many; each = λ place below. are.each place (omega (arith, below, all, many)) }
+    record { one_each = are.one_each ∙ all ∙ sym many; each = λ index below. are.each index (omega (arith, below, all, many)) }
 
 -- a word is known if and only if it is taken
 pub known_is_taken : (words : List (Vec ℕ Global)) (under : List ℕ → Option ℕ) (k : ℕ) (word : Vec ℕ Global) → k < length words →
@@ -80,15 +80,15 @@ pub taken_more : (words : List (Vec ℕ Global)) (under later : List ℕ → Opt
 taken_more words under later before after k mark so_far leads more is = record {
   leads = leads;
   one_each = ap length more ∙ length-append before (mark ∷ []) ∙ ap (λ (n : ℕ). n + 1) so_far.one_each;
-  each = λ place below. ap (λ (marks : List Bool). get_or marks place false) more ∙ at place below (cases_lt place k);
+  each = λ index below. ap (λ (marks : List Bool). get_or marks index false) more ∙ at index below (cases_lt index k);
 }
   where
-    at : (place : ℕ) → place < k + 1 → (place < k) ⊎ (k ≤ place) → get_or (before ++ mark ∷ []) place false ≡ is_taken_at (lists_of words) place
-    at place below (inl low) =
-        get_or_append_left before (mark ∷ []) false place (omega (arith, low, so_far.one_each)) ∙ so_far.each place low
-    at place below (inr high) =
-        let same : place ≡ k = omega (arith, below, high) in
-        get_or_push before mark false place (omega (arith, same, so_far.one_each)) ∙ is ∙ ap (is_taken_at (lists_of words)) (sym same)
+    at : (index : ℕ) → index < k + 1 → (index < k) ⊎ (k ≤ index) → get_or (before ++ mark ∷ []) index false ≡ is_taken_at (lists_of words) index
+    at index below (inl low) =
+        get_or_append_left before (mark ∷ []) false index (omega (arith, low, so_far.one_each)) ∙ so_far.each index low
+    at index below (inr high) =
+        let same : index ≡ k = omega (arith, below, high) in
+        get_or_push before mark false index (omega (arith, same, so_far.one_each)) ∙ is ∙ ap (is_taken_at (lists_of words)) (sym same)
 
 -- for mapped elements a word is taken if an earlier element has the same word
 taken_of_map : {X : Type 0} (word : X → List ℕ) (xs : List X) (k : ℕ) (x : X) → k < length xs → x ≡ get_or xs k x →
@@ -141,12 +141,12 @@ rows_before rows k row ascending inside is =
         omega (arith, equal)
 
 -- the word at an index, and the mark
-pub word_there : (words : List (Vec ℕ Global)) (place : ℕ) (text : List ℕ) (word : Vec ℕ Global) → place < length words →
-    text ≡ (get_or words place word).items → text ≡ get_or (lists_of words) place []
-word_there words place text word inside is = is ∙ sym (get_or-map (λ (w : Vec ℕ Global). w.items) words place word [] inside)
+pub word_there : (words : List (Vec ℕ Global)) (index : ℕ) (text : List ℕ) (word : Vec ℕ Global) → index < length words →
+    text ≡ (get_or words index word).items → text ≡ get_or (lists_of words) index []
+word_there words index text word inside is = is ∙ sym (get_or-map (λ (w : Vec ℕ Global). w.items) words index word [] inside)
 
-pub mark_there : (taken : List Bool) (place : ℕ) (mark : Bool) → place < length taken → mark ≡ get_or taken place mark → mark ≡ get_or taken place false
-mark_there taken place mark inside there = there ∙ get_or_default taken place mark false inside
+pub mark_there : (taken : List Bool) (index : ℕ) (mark : Bool) → index < length taken → mark ≡ get_or taken index mark → mark ≡ get_or taken index false
+mark_there taken index mark inside there = there ∙ get_or_default taken index mark false inside
 
 -- there are as many words and marks as elements
 pub many_words : {X : Type 0} (word : X → List ℕ) (xs : List X) (words : List (Vec ℕ Global)) → lists_of words ≡ map word xs → length words ≡ length xs
@@ -175,19 +175,19 @@ link_here d k link there = elim ((slice_get_cases d.links k).1) [
     below (inr high) = absurd (not_there (sym there ∙ slice_get_past d.links k high))
 
 -- a variable that was made is that of its link
-pub link_named_so : (d : Domain) (words : List (Vec ℕ Global)) (taken : List Bool) (k place : ℕ) (link : Link) (word variable : List ℕ) (mark : Bool) →
-    lists_of words ≡ map (word_of_link d) d.links → AreTaken (lists_of words) taken → place ≡ k → slice_get d.links k ≡ Some link → k < length d.links →
-    link ≡ get_or d.links k link → word ≡ get_or (lists_of words) place [] → mark ≡ get_or taken place false → variable ≡ numbered word mark k →
+pub link_named_so : (d : Domain) (words : List (Vec ℕ Global)) (taken : List Bool) (k index : ℕ) (link : Link) (word variable : List ℕ) (mark : Bool) →
+    lists_of words ≡ map (word_of_link d) d.links → AreTaken (lists_of words) taken → index ≡ k → slice_get d.links k ≡ Some link → k < length d.links →
+    link ≡ get_or d.links k link → word ≡ get_or (lists_of words) index [] → mark ≡ get_or taken index false → variable ≡ numbered word mark k →
     variable ≡ link_variable d k
-link_named_so d words taken k place link word variable mark are marked at there inside is named marks made =
+link_named_so d words taken k index link word variable mark are marked at there inside is named marks made =
     let own : word ≡ word_of_link d link =
     named ∙ ap (λ (n : ℕ). get_or (lists_of words) n []) at ∙ ap (λ (texts : List (List ℕ)). get_or texts k []) are
     ∙ get_or-map (word_of_link d) d.links k link [] inside ∙ ap (word_of_link d) (sym is) in
     let many : length (lists_of words) ≡ length d.links = ap length are ∙ length-map d.links (word_of_link d) in
-    let told : mark ≡ is_link_taken d k link =
+    let written : mark ≡ is_link_taken d k link =
     marks ∙ ap (λ (n : ℕ). get_or taken n false) at ∙ marked.each k (omega (arith, inside, many))
     ∙ ap (λ (texts : List (List ℕ)). is_taken_at texts k) are ∙ taken_of_map (word_of_link d) d.links k link inside is in
-    made ∙ ap (λ (text : List ℕ). numbered text mark k) own ∙ ap (λ (b : Bool). numbered (word_of_link d link) b k) told
+    made ∙ ap (λ (text : List ℕ). numbered text mark k) own ∙ ap (λ (b : Bool). numbered (word_of_link d link) b k) written
     ∙ sym (ap (λ (found : Option Link). option_map_or (λ (l : Link). numbered (word_of_link d l) (is_link_taken d k l) k) found []) there)
 
 -- and a variable that was made for a stream is the stream's
@@ -200,9 +200,9 @@ stream_named_so rows words taken k row word variable mark ascending are marked i
     named ∙ ap (λ (texts : List (List ℕ)). get_or texts k []) are
     ∙ get_or-map word_of_stream rows k row [] inside ∙ ap word_of_stream (sym is) in
     let many : length (lists_of words) ≡ length rows = ap length are ∙ length-map rows word_of_stream in
-    let told : mark ≡ is_stream_taken rows row =
+    let written : mark ≡ is_stream_taken rows row =
     marks ∙ marked.each k (omega (arith, inside, many))
     ∙ ap (λ (texts : List (List ℕ)). is_taken_at texts k) are ∙ taken_of_map word_of_stream rows k row inside is
     ∙ sym (rows_before rows k row ascending inside is) in
-    made ∙ ap (λ (text : List ℕ). numbered text mark row.no) own ∙ ap (λ (b : Bool). numbered (word_of_stream row) b row.no) told
+    made ∙ ap (λ (text : List ℕ). numbered text mark row.no) own ∙ ap (λ (b : Bool). numbered (word_of_stream row) b row.no) written
     ∙ sym (ap (λ (found : Option Row). option_map_or (stream_variable rows) found []) (slice_get_read rows (length rows) k row refl inside is))

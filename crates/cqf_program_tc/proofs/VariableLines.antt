@@ -37,10 +37,10 @@ module _ (test : ℕ → Bool) (pass : PassAll test) where
   one_of true last more of_last of_more = of_last
   one_of false last more of_last of_more = of_more
 
-  digits_all : (count n : ℕ) (behind : List ℕ) → list_all test behind ≡ true → list_all test (digits_onto count 10 false n behind) ≡ true
-  digits_all zero n behind all = all
-  digits_all (suc count) n behind all =
-      let last : List ℕ = digit_glyph false (n % 10) ∷ behind in
+  digits_all : (count n : ℕ) (following : List ℕ) → list_all test following ≡ true → list_all test (digits_onto count 10 false n following) ≡ true
+  digits_all zero n following all = all
+  digits_all (suc count) n following all =
+      let last : List ℕ = digit_glyph false (n % 10) ∷ following in
       let more : list_all test last ≡ true = and_from _ _ (pass.of_digit (n % 10)) all in
       one_of (n / 10 == 0) last (digits_onto count 10 false (n / 10) last) more (digits_all count (n / 10) last more)
 
@@ -64,11 +64,11 @@ module _ (test : ℕ → Bool) (pass : PassAll test) where
   word_all : (name : List ℕ) → is_name name ≡ true → list_all test (word_of name) ≡ true
   word_all name named = bytes_all name (both_true _ (list_all is_name_byte name) named).1
 
-  at_all : (names : List (List ℕ)) → All (λ (name : List ℕ). IsTrue (is_name name)) names → (place : ℕ) →
-      list_all test (word_of (get_or names place [])) ≡ true
-  at_all names named place = elim (cases_lt place (length names)) [
-    | inl inside ↦ word_all (get_or names place []) (named place [] inside)
-    | inr past ↦ ap (λ (name : List ℕ). list_all test (word_of name)) (get_or_past names place [] past)
+  at_all : (names : List (List ℕ)) → All (λ (name : List ℕ). IsTrue (is_name name)) names → (index : ℕ) →
+      list_all test (word_of (get_or names index [])) ≡ true
+  at_all names named index = elim (cases_lt index (length names)) [
+    | inl inside ↦ word_all (get_or names index []) (named index [] inside)
+    | inr past ↦ ap (λ (name : List ℕ). list_all test (word_of name)) (get_or_past names index [] past)
   ]
 
   node_all : (d : Domain) → IsDomain d → (node : Node) → list_all test (word_of (name_of_node d node)) ≡ true

@@ -25,10 +25,10 @@ use Rattle.cqf_model.specs.declared.topology.Pace.{Pace}
 use Rattle.cqf_model.specs.Domain.{Domain, IsAccepted, guard_by, is_text}
 use Rattle.cqf_model.specs.Network.{compiled_lists}
 use Rattle.cqf_model.specs.Paces.{each_cycle}
-use Rattle.cqf_model.specs.Table.{depth_behind}
+use Rattle.cqf_model.specs.Table.{hop_number_after}
 use Rattle.cqf_compile.proofs.Paces.{short_round}
-use Rattle.cqf_compile.specs.BridgeGates.{gate_at, way_to}
-use Rattle.cqf_gates.specs.ReservedSpans.{closed_for, first_turn, open_in, reserved_spans, second_turn}
+use Rattle.cqf_compile.specs.BridgeGates.{gate_at, ingress_at}
+use Rattle.cqf_gates.specs.ReservedSpans.{closed_for, first_active_cycle, open_in, reserved_spans, second_active_cycle}
 use Rattle.cqf_gates.proofs.RoundTrip.{list_of_text-text}
 use Rattle.cqf_gates.specs.GateListText.{hex_digit, line_of_gates, text_of_entries}
 use Rattle.cqf_gates.specs.TxList.{IsTxList}
@@ -51,12 +51,12 @@ both_true true b h = (refl, h)
 both_true false b h = cc
 
 -- a word, followed by something that begins with a space or is empty
-parted_behind : (word rest : List ℕ) (words : List (List ℕ)) → list_all is_in_word word ≡ true → parted rest ≡ [] ∷ words → parted (word ++ rest) ≡ word ∷ words
-parted_behind [] rest words h e = e
-parted_behind (byte ∷ word) rest words h e =
+parted_after : (word rest : List ℕ) (words : List (List ℕ)) → list_all is_in_word word ≡ true → parted rest ≡ [] ∷ words → parted (word ++ rest) ≡ word ∷ words
+parted_after [] rest words h e = e
+parted_after (byte ∷ word) rest words h e =
     let both = both_true (is_in_word byte) (list_all is_in_word word) h in
     ap (λ (b : Bool). cond b ([] ∷ parted (word ++ rest)) (in_front byte (parted (word ++ rest)))) (is_false (byte == 32) both.0)
-    ∙ ap (in_front byte) (parted_behind word rest words both.1 e)
+    ∙ ap (in_front byte) (parted_after word rest words both.1 e)
 
 -- no digit is a space
 hex_in_word : (n : ℕ) → n < 16 → is_in_word (hex_digit n) ≡ true
@@ -115,9 +115,9 @@ tx_parted (entry ∷ entries) ranges =
     let states : List ℕ = hex_digit (entry.0 / 16) ∷ hex_digit (entry.0 % 16) ∷ [] in
     let number : List ℕ = decimal entry.1 in
     let rest : List ℕ = tx_words entries in
-    let last = parted_behind number rest (entry_parts entries) (decimal_in_word entry.1 (omega (arith, range.1)))
+    let last = parted_after number rest (entry_parts entries) (decimal_in_word entry.1 (omega (arith, range.1)))
     (tx_parted entries (λ k d inside. ranges (suc k) d (omega (arith, inside)))) in
-    let mask = parted_behind states (32 ∷ (number ++ rest)) (number ∷ entry_parts entries) (states_in_word entry.0 range.0)
+    let mask = parted_after states (32 ∷ (number ++ rest)) (number ∷ entry_parts entries) (states_in_word entry.0 range.0)
     (ap (λ (words : List (List ℕ)). [] ∷ words) last) in
     ap (λ (words : List (List ℕ)). [] ∷ codes "sched-entry" ∷ codes "S" ∷ words) mask
 
@@ -145,10 +145,10 @@ gate_parted cycle_time small =
     let number : List ℕ = decimal cycle_time in
     let good = decimal_in_word cycle_time (omega (arith, small)) in
     let seven : List (List ℕ) = codes "7" ∷ codes "\"$5\"" ∷ [] in
-    let second : parted (number ++ codes " 7 \"$5\"") ≡ number ∷ seven = parted_behind number (codes " 7 \"$5\"") seven good refl in
+    let second : parted (number ++ codes " 7 \"$5\"") ≡ number ∷ seven = parted_after number (codes " 7 \"$5\"") seven good refl in
     let six : List (List ℕ) = codes "6" ∷ codes "\"$5\"" ∷ codes "sched-entry" ∷ codes "open" ∷ number ∷ seven in
-    let behind : List ℕ = codes " 6 \"$5\" sched-entry open " ++ (number ++ codes " 7 \"$5\"") in
-    let first : parted (number ++ behind) ≡ number ∷ six = parted_behind number behind six good
+    let following : List ℕ = codes " 6 \"$5\" sched-entry open " ++ (number ++ codes " 7 \"$5\"") in
+    let first : parted (number ++ following) ≡ number ∷ six = parted_after number following six good
     (ap (λ (words : List (List ℕ)). [] ∷ codes "6" ∷ codes "\"$5\"" ∷ codes "sched-entry" ∷ codes "open" ∷ words) second) in
     ap (λ (words : List (List ℕ)). [] ∷ codes "sched-entry" ∷ codes "open" ∷ words) first
 
@@ -159,12 +159,12 @@ gate_again cycle_time octets small =
     ∙ rw (decimal_read cycle_time small) refl
 
 -- the gate of each stream that is offered in each cycle
-plain_spans : (n octets : ℕ) (pace : Pace) (depth : ℕ) → pace.pause ≡ 0 → reserved_spans n octets pace depth ≡ reserved_spans n octets each_cycle 0
-plain_spans n octets pace depth none =
-    let spans : ℕ → ℕ → List StreamEntry = λ pause turn.
-    closed_for n turn
-    ++ (open_in n octets turn ∷ ((if (pause + 1) % 2 == 0 then [] else closed_for n pause ++ open_in n octets (turn + (pause + 1)) ∷ []) ++ closed_for n (pause - turn))) in
-    ap (λ pause. spans pause ((pace.phase + depth) % (pause + 1))) none ∙ ap (spans 0) (mod-one (pace.phase + depth))
+plain_spans : (n octets : ℕ) (pace : Pace) (hop_number : ℕ) → pace.pause ≡ 0 → reserved_spans n octets pace hop_number ≡ reserved_spans n octets each_cycle 0
+plain_spans n octets pace hop_number none =
+    let spans : ℕ → ℕ → List StreamEntry = λ pause active_cycle.
+    closed_for n active_cycle
+    ++ (open_in n octets active_cycle ∷ ((if (pause + 1) % 2 == 0 then [] else closed_for n pause ++ open_in n octets (active_cycle + (pause + 1)) ∷ []) ++ closed_for n (pause - active_cycle))) in
+    ap (λ pause. spans pause ((pace.phase + hop_number) % (pause + 1))) none ∙ ap (spans 0) (mod-one (pace.phase + hop_number))
 
 -- an entry with an octet maximum, and its words, whether it is closed or not
 abbrev limited : ℕ → ℕ → ℕ → StreamEntry
@@ -194,18 +194,18 @@ one_parted true value time most rest more good e =
     let last : parted (codes " -1 -1" ++ rest) ≡ [] ∷ ones =
     ap (λ (words : List (List ℕ)). [] ∷ in_front 45 (in_front 49 ([] ∷ in_front 45 (in_front 49 words)))) e in
     let first : parted (number ++ (codes " -1 -1" ++ rest)) ≡ number ∷ ones =
-    parted_behind number (codes " -1 -1" ++ rest) ones (decimal_in_word time (omega (arith, good.time_small))) last in
+    parted_after number (codes " -1 -1" ++ rest) ones (decimal_in_word time (omega (arith, good.time_small))) last in
     ap (λ (text : List ℕ). parted (codes " sched-entry close " ++ text)) (append_assoc number (codes " -1 -1") rest)
     ∙ ap (λ (words : List (List ℕ)). [] ∷ codes "sched-entry" ∷ codes "close" ∷ words) first
 one_parted false value time most rest more good e =
-    let at_most = parted_behind (decimal most) rest more (decimal_in_word most (omega (arith, good.most_small))) e in
-    let behind_value : List ℕ = codes " " ++ (decimal most ++ rest) in
-    let at_value = parted_behind (decimal value) behind_value (decimal most ∷ more) (decimal_in_word value (omega (arith, good.value_small)))
+    let at_most = parted_after (decimal most) rest more (decimal_in_word most (omega (arith, good.most_small))) e in
+    let after_value : List ℕ = codes " " ++ (decimal most ++ rest) in
+    let at_value = parted_after (decimal value) after_value (decimal most ∷ more) (decimal_in_word value (omega (arith, good.value_small)))
     (ap (λ (words : List (List ℕ)). [] ∷ words) at_most) in
-    let behind_time : List ℕ = codes " " ++ (decimal value ++ behind_value) in
-    let at_time = parted_behind (decimal time) behind_time (decimal value ∷ decimal most ∷ more) (decimal_in_word time (omega (arith, good.time_small)))
+    let after_time : List ℕ = codes " " ++ (decimal value ++ after_value) in
+    let at_time = parted_after (decimal time) after_time (decimal value ∷ decimal most ∷ more) (decimal_in_word time (omega (arith, good.time_small)))
     (ap (λ (words : List (List ℕ)). [] ∷ words) at_value) in
-    let joined : (decimal time ++ (codes " " ++ (decimal value ++ (codes " " ++ decimal most)))) ++ rest ≡ decimal time ++ behind_time = simp append_assoc in
+    let joined : (decimal time ++ (codes " " ++ (decimal value ++ (codes " " ++ decimal most)))) ++ rest ≡ decimal time ++ after_time = simp append_assoc in
     ap (λ (text : List ℕ). parted (codes " sched-entry open " ++ text)) joined
     ∙ ap (λ (words : List (List ℕ)). [] ∷ codes "sched-entry" ∷ codes "open" ∷ words) at_time
 
@@ -231,13 +231,13 @@ one_again true octets value time most more is good =
     ap (λ (number : Option ℕ). before_others (option_map (λ (n : ℕ). limited 6 n 0) number) (gate_of_parts octets more)) (decimal_read time good.time_small)
     ∙ ap (λ (entry : StreamEntry). before_others (Some entry) (gate_of_parts octets more)) same
 one_again false octets value time most more is good =
-    let told : Option ℕ → Option ℕ → Option ℕ → Option StreamEntry = λ times values limits.
+    let written : Option ℕ → Option ℕ → Option ℕ → Option StreamEntry = λ times values limits.
     option_and_then (λ (n : ℕ). option_and_then (λ (v : ℕ). option_map (λ (limit : ℕ). limited v n limit) limits) values) times in
     let others = gate_of_parts octets more in
-    ap (λ (number : Option ℕ). before_others (told number (decimal_value (decimal value)) (octets_of_word octets (decimal most))) others)
+    ap (λ (number : Option ℕ). before_others (written number (decimal_value (decimal value)) (octets_of_word octets (decimal most))) others)
     (decimal_read time good.time_small)
-    ∙ ap (λ (number : Option ℕ). before_others (told (Some time) number (octets_of_word octets (decimal most))) others) (decimal_read value good.value_small)
-    ∙ ap (λ (number : Option ℕ). before_others (told (Some time) (Some value) number) others) (octets_read octets most good.most_small)
+    ∙ ap (λ (number : Option ℕ). before_others (written (Some time) number (octets_of_word octets (decimal most))) others) (decimal_read value good.value_small)
+    ∙ ap (λ (number : Option ℕ). before_others (written (Some time) (Some value) number) others) (octets_read octets most good.most_small)
 
 -- entries that are read back unchanged, before others
 record AreRead (entries : List StreamEntry) : Type 0 where
@@ -304,27 +304,27 @@ open_read n octets cycle small some few = one_read (6 + cycle % 2) n octets
     two : 0 < 2
     two = omega arith
 
-spans_read : (n octets : ℕ) (pace : Pace) (depth : ℕ) → (pace.pause + 1) * n < 2 ^ 32 → 0 < octets → octets < 2 ^ 32 →
-    AreRead (reserved_spans n octets pace depth)
-spans_read n octets pace depth short some few =
-    let turn : ℕ = first_turn pace depth in
-    let inside : turn < pace.pause + 1 = mod-lt (pace.phase + depth) (omega arith) in
-    let own = open_in n octets turn in
+spans_read : (n octets : ℕ) (pace : Pace) (hop_number : ℕ) → (pace.pause + 1) * n < 2 ^ 32 → 0 < octets → octets < 2 ^ 32 →
+    AreRead (reserved_spans n octets pace hop_number)
+spans_read n octets pace hop_number short some few =
+    let active_cycle : ℕ = first_active_cycle pace hop_number in
+    let inside : active_cycle < pace.pause + 1 = mod-lt (pace.phase + hop_number) (omega arith) in
+    let own = open_in n octets active_cycle in
     let within : (cycles : ℕ) → cycles ≤ pace.pause → cycles * n < 2 ^ 32 = λ cycles most.
     (let at_most : cycles * n ≤ (pace.pause + 1) * n = mul-le cycles n (pace.pause + 1) n (omega (arith, most)) (omega arith) in omega (arith, at_most, short)) in
     let one : n < 2 ^ 32 = (let least : 1 * n ≤ (pace.pause + 1) * n = mul-le 1 n (pace.pause + 1) n (omega arith) (omega arith) in omega (arith, least, short)) in
-    let again : AreRead (second_turn n octets pace turn) = by_test within one turn ((pace.pause + 1) % 2 == 0) in
-    let last = closed_read n (pace.pause - turn) (within (pace.pause - turn) (omega arith)) in
-    both_read (closed_for n turn) (own ∷ (second_turn n octets pace turn ++ closed_for n (pace.pause - turn))) (closed_read n turn (within turn (omega (arith, inside))))
-    (both_read (own ∷ []) (second_turn n octets pace turn ++ closed_for n (pace.pause - turn)) (open_read n octets turn one some few)
-    (both_read (second_turn n octets pace turn) (closed_for n (pace.pause - turn)) again last))
+    let again : AreRead (second_active_cycle n octets pace active_cycle) = by_test within one active_cycle ((pace.pause + 1) % 2 == 0) in
+    let last = closed_read n (pace.pause - active_cycle) (within (pace.pause - active_cycle) (omega arith)) in
+    both_read (closed_for n active_cycle) (own ∷ (second_active_cycle n octets pace active_cycle ++ closed_for n (pace.pause - active_cycle))) (closed_read n active_cycle (within active_cycle (omega (arith, inside))))
+    (both_read (own ∷ []) (second_active_cycle n octets pace active_cycle ++ closed_for n (pace.pause - active_cycle)) (open_read n octets active_cycle one some few)
+    (both_read (second_active_cycle n octets pace active_cycle) (closed_for n (pace.pause - active_cycle)) again last))
   where
-    by_test : ((cycles : ℕ) → cycles ≤ pace.pause → cycles * n < 2 ^ 32) → n < 2 ^ 32 → (turn : ℕ) (b : Bool) →
-        AreRead (if b then [] else closed_for n pace.pause ++ open_in n octets (turn + (pace.pause + 1)) ∷ [])
-    by_test within one turn true = none_read
-    by_test within one turn false =
-        both_read (closed_for n pace.pause) (open_in n octets (turn + (pace.pause + 1)) ∷ []) (closed_read n pace.pause (within pace.pause (omega arith)))
-        (open_read n octets (turn + (pace.pause + 1)) one some few)
+    by_test : ((cycles : ℕ) → cycles ≤ pace.pause → cycles * n < 2 ^ 32) → n < 2 ^ 32 → (active_cycle : ℕ) (b : Bool) →
+        AreRead (if b then [] else closed_for n pace.pause ++ open_in n octets (active_cycle + (pace.pause + 1)) ∷ [])
+    by_test within one active_cycle true = none_read
+    by_test within one active_cycle false =
+        both_read (closed_for n pace.pause) (open_in n octets (active_cycle + (pace.pause + 1)) ∷ []) (closed_read n pace.pause (within pace.pause (omega arith)))
+        (open_read n octets (active_cycle + (pace.pause + 1)) one some few)
 
 -- so a list's words are read as the list
 list_again : (octets : ℕ) (entries : List StreamEntry) → AreRead entries → gate_of_words octets (list_words entries) ≡ Some entries
@@ -389,9 +389,9 @@ lists_held d accepted =
     let small : d.cycle_time < 2 ^ 32 = omega (arith, accepted.cycle_most) in
     record {
       ports = ports_read d accepted small;
-      gates = λ octets depth pace none. gate_again d.cycle_time octets small ∙ ap Some (sym (plain_spans d.cycle_time octets pace depth none));
+      gates = λ octets hop_number pace none. gate_again d.cycle_time octets small ∙ ap Some (sym (plain_spans d.cycle_time octets pace hop_number none));
       lists = λ row bridge octets good some few.
           list_again octets (gate_at d row bridge)
-          (spans_read d.cycle_time row.octets row.pace (depth_behind row (way_to d bridge row)) (short_round row.pace d.cycle_time good accepted.cycle_most) some
+          (spans_read d.cycle_time row.octets row.pace (hop_number_after row (ingress_at d bridge row)) (short_round row.pace d.cycle_time good accepted.cycle_most) some
           (omega (arith, few)));
     }

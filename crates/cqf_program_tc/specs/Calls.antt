@@ -15,9 +15,9 @@ use Rattle.cqf_program_tc.specs.Variables.{stream_variable}
 use Rattle.cqf_program_tc.specs.Text.{by_list_lines, gate_command, list_command, tc_text, undo_gate, undo_list}
 
 -- the lines after the first line equal to this one
-abbrev pub lines_behind : List ℕ → List (List ℕ) → List (List ℕ)
-lines_behind line [] = []
-lines_behind line (first ∷ lines) = if is_text first line then lines else lines_behind line lines
+abbrev pub lines_after : List ℕ → List (List ℕ) → List (List ℕ)
+lines_after line [] = []
+lines_after line (first ∷ lines) = if is_text first line then lines else lines_after line lines
 
 -- the lines before the first line equal to this one
 abbrev pub lines_before : List ℕ → List (List ℕ) → List (List ℕ)
@@ -29,7 +29,7 @@ abbrev pub head_of : List ℕ → List ℕ
 head_of name = name ++ codes "() {"
 
 abbrev pub lines_of_function : List ℕ → List ℕ → List (List ℕ)
-lines_of_function name script = lines_before (codes "}") (lines_behind (head_of name) (lines_of script))
+lines_of_function name script = lines_before (codes "}") (lines_after (head_of name) (lines_of script))
 
 -- whether a line calls the function that sets the list of a link, or one that sets the gate of a stream
 abbrev pub begins_with : List ℕ → List ℕ → Bool
@@ -46,7 +46,7 @@ abbrev pub calls_at : ℕ → List ℕ → List (List ℕ)
 calls_at bridge script = filter is_call (lines_of_function (function_of_bridge bridge) script)
 
 -- the calls due at a bridge: one call for each link that leaves it, by number, followed by one call for each stream that leaves it, with
--- the way by which the stream arrives and the index of its gate
+-- the ingress by which the stream arrives and the index of its gate
 abbrev pub link_calls : Domain → ℕ → ℕ → List (List ℕ)
 link_calls d bridge link = if leaves d link bridge then link_call d link ∷ [] else []
 

@@ -11,7 +11,7 @@ use Rattle.cqf_model.specs.declared.topology.Row.{Row}
 use Rattle.cqf_model.specs.Domain.{Domain, bridge_of}
 use Rattle.cqf_topology.specs.NodeNames.{name_of_bridge}
 use Rattle.cqf_program_plans.specs.EndNames.{name_of_end}
-use Rattle.cqf_program_tc.specs.Bridge.{each_link, each_stream, way_at}
+use Rattle.cqf_program_tc.specs.Bridge.{each_link, each_stream, ingress_at}
 use Rattle.cqf_program_tc.specs.Variables.{link_variable, stream_variable}
 
 -- a value, or nothing
@@ -43,11 +43,11 @@ in_lines d interfaces bridge link =
     ++ (codes "\nIN_" ++ (link_variable d link ++ (codes "=" ++ (value_text (far_interface interfaces link) ++ codes "\n")))))))
 
 -- the lines of the interface over which a stream arrives
-abbrev pub way_lines : Domain → List LinkInterfaces → ℕ → List ℕ → Row → Option ℕ → List ℕ
-way_lines d interfaces bridge variable row None =
+abbrev pub ingress_lines : Domain → List LinkInterfaces → ℕ → List ℕ → Row → Option ℕ → List ℕ
+ingress_lines d interfaces bridge variable row None =
     codes "# interface of "
     ++ (name_of_bridge d bridge ++ (codes " to the talker of " ++ (row.name ++ (codes "\nTALKER_" ++ (variable ++ codes "=\n")))))
-way_lines d interfaces bridge variable row (Some link) = in_lines d interfaces bridge link
+ingress_lines d interfaces bridge variable row (Some link) = in_lines d interfaces bridge link
 
 -- the lines of a stream's frames
 abbrev pub frame_lines : List StreamAddress → List ℕ → Row → List ℕ
@@ -63,12 +63,12 @@ frame_lines addresses variable row =
 
 -- the lines of a stream that arrives this way
 abbrev pub lines_by : Domain → List LinkInterfaces → List StreamAddress → ℕ → List ℕ → Row → (Option ℕ × Bool) → List ℕ
-lines_by d interfaces addresses bridge variable row way =
-    (if way.1 then way_lines d interfaces bridge variable row way.0 else []) ++ frame_lines addresses variable row
+lines_by d interfaces addresses bridge variable row ingress =
+    (if ingress.1 then ingress_lines d interfaces bridge variable row ingress.0 else []) ++ frame_lines addresses variable row
 
 abbrev pub stream_env : Domain → List LinkInterfaces → List StreamAddress → List Row → ℕ → List Row → Row → List ℕ
 stream_env d interfaces addresses rows bridge before row =
-    option_map_or (lines_by d interfaces addresses bridge (stream_variable rows row) row) (way_at d bridge before row) []
+    option_map_or (lines_by d interfaces addresses bridge (stream_variable rows row) row) (ingress_at d bridge before row) []
 
 -- what the file is, and the variables that hold for the whole script
 abbrev pub head_text : Domain → ℕ → List ℕ

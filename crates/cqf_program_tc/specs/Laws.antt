@@ -2,7 +2,7 @@
 use Rattle.std.specs.Prelude.{ℕ, ◌≡◌, ◌+◌, ◌-◌, ◌*◌, ◌%◌, ◌^◌, ◌≤◌, ◌<◌, Contains, List, Some, Ok, if◌then◌else◌, slice_get}
 use Rattle.std.specs.Option.{option_map_or}
 use Rattle.cqf_compile.specs.BridgeGates.{gate_at}
-use Rattle.cqf_admission.specs.Turns.{AreOfGoodPaces, IsGoodPace}
+use Rattle.cqf_admission.specs.ActiveCycles.{AreOfGoodPaces, IsGoodPace}
 use Rattle.cqf_gates.specs.ReservedSpans.{reserved_spans}
 use Rattle.cqf_model.specs.declared.topology.Pace.{Pace}
 use Rattle.cqf_model.specs.declared.topology.Row.{Row}
@@ -29,7 +29,7 @@ words_for d l = option_map_or (words_by d) (slice_get d.links l) (common_words d
 -- compiled, at every hop number. Those that a stream of another pace gives are read as the list to which its gate at a bridge is compiled
 pub record ScriptListsReadBack (d : Domain) : Type 0 where
   pub ports : (l : ℕ) → tx_of_words (words_for d l) ≡ Some (Ok (compiled_lists d l))
-  pub gates : (octets depth : ℕ) (pace : Pace) → pace.pause ≡ 0 → gate_of_words octets (gate_words d.cycle_time) ≡ Some (reserved_spans d.cycle_time octets pace depth)
+  pub gates : (octets hop_number : ℕ) (pace : Pace) → pace.pause ≡ 0 → gate_of_words octets (gate_words d.cycle_time) ≡ Some (reserved_spans d.cycle_time octets pace hop_number)
   pub lists : (row : Row) (bridge octets : ℕ) → IsGoodPace row.pace → 0 < row.octets → row.octets ≤ most_reserved →
       gate_of_words octets (list_words (gate_at d row bridge)) ≡ Some (gate_at d row bridge)
 

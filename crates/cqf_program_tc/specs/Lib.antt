@@ -11,4 +11,4 @@ pub mod Rows
 pub mod Calls
 pub mod Wanted
 pub mod Laws
-pub mod Ways
+pub mod Ingresses

@@ -11,7 +11,7 @@ use Rattle.cqf_addressing.specs.declared.links.LinkInterfaces.{LinkInterfaces}
 use Rattle.cqf_addressing.specs.declared.streams.StreamAddress.{StreamAddress}
 use Rattle.cqf_lists.specs.Results.{and_then}
 use Rattle.cqf_text.specs.Parts.{parts_of}
-use Rattle.cqf_admission.specs.Turns.{AreOfGoodPaces}
+use Rattle.cqf_admission.specs.ActiveCycles.{AreOfGoodPaces}
 use Rattle.cqf_model.specs.declared.topology.Node.{Node}
 use Rattle.cqf_model.specs.declared.topology.Node.TheVariants.{Bridge, Station}
 use Rattle.cqf_model.specs.declared.topology.Row.{Row}
@@ -105,17 +105,17 @@ text_of_env file = env_text file.domain file.interfaces file.addresses file.rows
 
 -- the data of both outputs are ready: the rows' paces are good, it is known which of them leave each bridge, and links and streams have
 -- their variables
-pub record IsReadyPlan (d : Domain) (rows : List Row) (places : List (List ℕ)) (links streams : List (Vec ℕ Global)) : Type 0 where
+pub record IsReadyPlan (d : Domain) (rows : List Row) (indices : List (List ℕ)) (links streams : List (Vec ℕ Global)) : Type 0 where
   pub paced : AreOfGoodPaces rows
-  pub by_bridge : AreByBridge d rows places
+  pub by_bridge : AreByBridge d rows indices
   pub named : AreNamed d rows links streams
 
 -- the same for a script, with the words of each stream's gate
-pub record IsReadyScript (d : Domain) (rows : List Row) (places : List (List ℕ)) (links streams : List (Vec ℕ Global)) (gates : List ℕ) : Type 0 where
-  pub plan : IsReadyPlan d rows places links streams
+pub record IsReadyScript (d : Domain) (rows : List Row) (indices : List (List ℕ)) (links streams : List (Vec ℕ Global)) (gates : List ℕ) : Type 0 where
+  pub plan : IsReadyPlan d rows indices links streams
   pub words : gates ≡ gate_words d.cycle_time
 
 -- the same for the file of one of the domain's bridges
-pub record IsReadyFile (d : Domain) (rows : List Row) (places : List (List ℕ)) (links streams : List (Vec ℕ Global)) (bridge : ℕ) : Type 0 where
-  pub plan : IsReadyPlan d rows places links streams
+pub record IsReadyFile (d : Domain) (rows : List Row) (indices : List (List ℕ)) (links streams : List (Vec ℕ Global)) (bridge : ℕ) : Type 0 where
+  pub plan : IsReadyPlan d rows indices links streams
   pub inside : bridge < length d.bridges

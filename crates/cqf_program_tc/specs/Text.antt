@@ -1,5 +1,5 @@
 -- The script that `compile --format tc` writes: a POSIX shell script that sets the gates of a bridge by `tc`.
-use Rattle.std.specs.Prelude.{ℕ, ◌*◌, ◌++◌, Bool, List, [], ◌∷◌, codes, decimal, if◌then◌else◌, length, nat_le}
+use Rattle.std.specs.Prelude.{ℕ, ◌*◌, ◌++◌, ◌==◌, Bool, List, [], ◌∷◌, codes, decimal, if◌then◌else◌, length, nat_le}
 use Rattle.std.specs.List.{list_any}
 use Rattle.cqf_lists.specs.Lists.{each_below}
 use Rattle.cqf_model.specs.declared.topology.Row.{Row}
@@ -51,13 +51,25 @@ software_notes =
     codes "# A gate in software doesn't give frames the class in its list (IPV), so a program before each gate does, by the cycle. It\n"
     ++ codes "# needs Linux 6.1, a little-endian machine and a tc with libbpf, and the interfaces need eight transmit queues.\n"
 
-abbrev pub notes_text : Bool → List ℕ
-notes_text software =
+abbrev pub whole_notes : List ℕ
+whole_notes =
     codes "# Octets of a gate are those of whole frames, from the destination address to the FCS. Linux counts 22 fewer a frame, without\n"
-    ++ (codes "# the header's 14, the tag's 4 and the FCS's 4: frames of 1500, 1500 and 64 octets pass a gate of 3000. One that it drops counts.\n"
+    ++ codes "# the header's 14, the tag's 4 and the FCS's 4: frames of 1500, 1500 and 64 octets pass a gate of 3000. One that it drops counts.\n"
+
+abbrev pub less_notes : List ℕ
+less_notes =
+    codes "# Octets of a gate are those of frames, from the destination address to the FCS, without those of gate-overhead. Linux leaves out\n"
+    ++ codes "# 22 of each: the header's 14, the tag's 4 and the FCS's 4. A frame that it drops counts.\n"
+
+abbrev pub notes_by : Bool → Bool → List ℕ
+notes_by whole software =
+    (if whole then whole_notes else less_notes)
     ++ ((if software then software_notes else offload_notes)
     ++ (codes "# What the bridge itself sends, as IPv6 neighbour discovery and MLD, may have class 7: keep it off these interfaces.\n"
-    ++ codes "# If CHAIN isn't 0, only a filter of yours in chain 0 with goto chain CHAIN leads frames to the gates.\n")))
+    ++ codes "# If CHAIN isn't 0, only a filter of yours in chain 0 with goto chain CHAIN leads frames to the gates.\n"))
+
+abbrev pub notes_text : Domain → Bool → List ℕ
+notes_text d software = notes_by (d.overhead == 0) software
 
 -- the names of the bridges, each after a space
 abbrev pub name_text : Domain → ℕ → List ℕ
@@ -242,5 +254,5 @@ functions_text d software rows =
 abbrev pub tc_text : Domain → Bool → (ℕ → ℕ) → List Row → List ℕ
 tc_text d software gates rows =
     usage_text d rows
-    ++ (notes_text software
+    ++ (notes_text d software
     ++ (opening_text d ++ (given_text d rows ++ (functions_text d software rows ++ (bridges_text d gates rows ++ choice_text d software)))))

@@ -49,7 +49,7 @@ stream_variable rows row = numbered (word_of_stream row) (is_stream_taken rows r
 
 -- the variables of a domain's links by number, and of the streams of rows by index
 abbrev pub variable_at : List Row → ℕ → List ℕ
-variable_at rows place = option_map_or (stream_variable rows) (slice_get rows place) []
+variable_at rows index = option_map_or (stream_variable rows) (slice_get rows index) []
 
 pub record AreNamed (d : Domain) (rows : List Row) (links streams : List (Vec ℕ Global)) : Type 0 where
   pub of_links : AreListsBy (link_variable d) (length d.links) (lists_of links)

@@ -7,20 +7,20 @@ ghost use Rattle.cqf_compile.specs.BridgeGates.{first_hop};
 ghost use Rattle.cqf_model.specs.declared.topology.Hop.{Hop as AHop};
 ghost use Rattle.cqf_model.specs.Domain.{bridge_of};
 ghost use Rattle.cqf_model.specs.Network.{compiled_lists};
-ghost use Rattle.cqf_admission.specs.Turns.{AreOfGoodPaces, IsGoodPace};
+ghost use Rattle.cqf_admission.specs.ActiveCycles.{AreOfGoodPaces, IsGoodPace};
 ghost use Rattle.cqf_output.specs.Writer.{Puts};
 ghost use Rattle.cqf_program_plans.specs.EndNames.{name_of_end};
 ghost use Rattle.cqf_program_tc.specs.Bridge.{bridge_text, clearing_by, each_link, each_stream, frame_needs};
 ghost use Rattle.cqf_program_tc.specs.Bridge.{gate_call, gate_target, has_own_guard, if_left, link_call, link_lines, link_need, list_call, needs_by, plain_call};
 ghost use Rattle.cqf_program_tc.specs.Bridge.{out_need, own_list, stream_clearing, stream_gates, stream_lines, stream_needs};
-ghost use Rattle.cqf_program_tc.specs.Bridge.{way_clearing, way_in, way_need, way_out, ways_out};
-ghost use Rattle.cqf_program_tc.specs.Rows.{places_at};
+ghost use Rattle.cqf_program_tc.specs.Bridge.{in_variable, ingress_clearing, ingress_need, out_variable, out_variables};
+ghost use Rattle.cqf_program_tc.specs.Rows.{indices_at};
 ghost use Rattle.cqf_program_tc.specs.Variables.{AreNamed};
 ghost use Rattle.cqf_program_tc.specs.Words.{tx_words};
 
+use crate::ingresses::ingress_of;
 use crate::lists::{pauses, put_list_words};
 use crate::plan::{Plan, Stream, put_link_variable, stream_at};
-use crate::ways::way_of;
 use crate::words::put_tx_words;
 use cqf_compile::{first_hop, gate_of, leaves, port_list_of};
 use cqf_model::{Hop, Row};
@@ -48,11 +48,16 @@ pub(crate) fn bridge_of(domain: &Domain, link: u16) -> u16
 }
 
 /// Puts the variable of the interface over which a stream with this variable arrives.
-fn put_way<W: Sink>(writer: &mut Writer<'_, W>, plan: Plan<'_>, variable: &[u8], way: Option<u16>)
+fn put_ingress<W: Sink>(
+    writer: &mut Writer<'_, W>,
+    plan: Plan<'_>,
+    variable: &[u8],
+    ingress: Option<u16>,
+)
     requires { AreNamed plan.domain.now plan.rows.now plan.links.now plan.streams.now }
-    ensures { Puts W.contents writer.old writer.new (way_in plan.entry.domain.now variable.now way) }
+    ensures { Puts W.contents writer.old writer.new (in_variable plan.entry.domain.now variable.now ingress) }
 {
-    match way {
+    match ingress {
         Some(link) => {
             writer.put(b"IN_");
             put_link_variable(writer, plan, link);
@@ -89,7 +94,7 @@ fn put_talker_need<W: Sink>(
     bridge: u16,
     stream: Stream<'_>,
 )
-    ensures { Puts W.contents writer.old writer.new (way_need domain.now bridge stream.entry.variable.now stream.entry.row.now None) }
+    ensures { Puts W.contents writer.old writer.new (ingress_need domain.now bridge stream.entry.variable.now stream.entry.row.now None) }
 {
     writer.put(b"    port TALKER_");
     writer.put(stream.variable);
@@ -122,17 +127,17 @@ fn put_link_need<W: Sink>(writer: &mut Writer<'_, W>, plan: Plan<'_>, bridge: u1
 }
 
 /// Puts the line that requires the interface over which a stream arrives.
-fn put_way_need<W: Sink>(
+fn put_ingress_need<W: Sink>(
     writer: &mut Writer<'_, W>,
     plan: Plan<'_>,
     bridge: u16,
     stream: Stream<'_>,
-    way: Option<u16>,
+    ingress: Option<u16>,
 )
     requires { AreNamed plan.domain.now plan.rows.now plan.links.now plan.streams.now }
-    ensures { Puts W.contents writer.old writer.new (way_need plan.entry.domain.now bridge stream.entry.variable.now stream.entry.row.now way) }
+    ensures { Puts W.contents writer.old writer.new (ingress_need plan.entry.domain.now bridge stream.entry.variable.now stream.entry.row.now ingress) }
 {
-    match way {
+    match ingress {
         Some(link) => put_link_need(writer, plan, bridge, link),
         None => put_talker_need(writer, plan.domain, bridge, stream),
     }
@@ -160,13 +165,13 @@ fn put_clearing<W: Sink>(
     writer: &mut Writer<'_, W>,
     plan: Plan<'_>,
     variable: &[u8],
-    way: Option<u16>,
+    ingress: Option<u16>,
 )
     requires { AreNamed plan.domain.now plan.rows.now plan.links.now plan.streams.now }
-    ensures { Puts W.contents writer.old writer.new (way_clearing plan.entry.domain.now variable.now way) }
+    ensures { Puts W.contents writer.old writer.new (ingress_clearing plan.entry.domain.now variable.now ingress) }
 {
     writer.put(b"    no_gates \"$");
-    put_way(writer, plan, variable, way);
+    put_ingress(writer, plan, variable, ingress);
     writer.put(b"\"\n");
 }
 
@@ -222,9 +227,9 @@ fn put_link_lines<W: Sink>(writer: &mut Writer<'_, W>, plan: Plan<'_>, link: u16
 }
 
 /// Puts the interface of a hop, if the hop leaves the bridge.
-fn put_way_out<W: Sink>(writer: &mut Writer<'_, W>, plan: Plan<'_>, bridge: u16, hop: &Hop)
+fn put_out_variable<W: Sink>(writer: &mut Writer<'_, W>, plan: Plan<'_>, bridge: u16, hop: &Hop)
     requires { AreNamed plan.domain.now plan.rows.now plan.links.now plan.streams.now }
-    ensures { Puts W.contents writer.old writer.new (way_out plan.entry.domain.now bridge hop.now) }
+    ensures { Puts W.contents writer.old writer.new (out_variable plan.entry.domain.now bridge hop.now) }
 {
     if leaves(plan.domain, hop.link, bridge) {
         writer.put(b" OUT_");
@@ -233,12 +238,12 @@ fn put_way_out<W: Sink>(writer: &mut Writer<'_, W>, plan: Plan<'_>, bridge: u16,
 }
 
 /// Puts the interfaces by which a stream leaves the bridge.
-fn put_ways_out<W: Sink>(writer: &mut Writer<'_, W>, plan: Plan<'_>, bridge: u16, row: &Row)
+fn put_out_variables<W: Sink>(writer: &mut Writer<'_, W>, plan: Plan<'_>, bridge: u16, row: &Row)
     requires { AreNamed plan.domain.now plan.rows.now plan.links.now plan.streams.now }
-    ensures { Puts W.contents writer.old writer.new (ways_out plan.entry.domain.now bridge row.now) }
+    ensures { Puts W.contents writer.old writer.new (out_variables plan.entry.domain.now bridge row.now) }
 {
     for hop in row.tree.as_slice() {
-        put_way_out(writer, plan, bridge, hop);
+        put_out_variable(writer, plan, bridge, hop);
     }
 }
 
@@ -247,12 +252,12 @@ fn put_gate_target<W: Sink>(
     writer: &mut Writer<'_, W>,
     plan: Plan<'_>,
     stream: Stream<'_>,
-    way: Option<u16>,
+    ingress: Option<u16>,
 )
     requires { AreNamed plan.domain.now plan.rows.now plan.links.now plan.streams.now }
-    ensures { Puts W.contents writer.old writer.new (gate_target plan.entry.domain.now stream.entry.variable.now stream.entry.gate way) }
+    ensures { Puts W.contents writer.old writer.new (gate_target plan.entry.domain.now stream.entry.variable.now stream.entry.gate ingress) }
 {
-    put_way(writer, plan, stream.variable, way);
+    put_ingress(writer, plan, stream.variable, ingress);
     writer.put(b"\" ");
     writer.put_number(stream.gate);
     writer.put(b" \"$MAC_");
@@ -267,13 +272,13 @@ fn put_plain_call<W: Sink>(
     writer: &mut Writer<'_, W>,
     plan: Plan<'_>,
     stream: Stream<'_>,
-    way: Option<u16>,
+    ingress: Option<u16>,
 )
     requires { AreNamed plan.domain.now plan.rows.now plan.links.now plan.streams.now }
-    ensures { Puts W.contents writer.old writer.new (plain_call plan.entry.domain.now stream.entry.variable.now stream.entry.gate stream.entry.row.now way) }
+    ensures { Puts W.contents writer.old writer.new (plain_call plan.entry.domain.now stream.entry.variable.now stream.entry.gate stream.entry.row.now ingress) }
 {
     writer.put(b"    gate \"$");
-    put_gate_target(writer, plan, stream, way);
+    put_gate_target(writer, plan, stream, ingress);
     writer.put(b" ");
     writer.put_number(stream.row.octets);
 }
@@ -284,15 +289,15 @@ fn put_list_call<W: Sink>(
     plan: Plan<'_>,
     bridge: u16,
     stream: Stream<'_>,
-    way: Option<u16>,
+    ingress: Option<u16>,
 )
     requires named { AreNamed plan.domain.now plan.rows.now plan.links.now plan.streams.now }
     requires paced { IsGoodPace stream.row.now.pace }
     ensures { Puts W.contents writer.old writer.new
-        (list_call plan.entry.domain.now bridge stream.entry.variable.now stream.entry.gate stream.entry.row.now way) }
+        (list_call plan.entry.domain.now bridge stream.entry.variable.now stream.entry.gate stream.entry.row.now ingress) }
 {
     writer.put(b"    gate_by_list \"$");
-    put_gate_target(writer, plan, stream, way);
+    put_gate_target(writer, plan, stream, ingress);
     put_list_words(writer, &gate_of(plan.domain, stream.row, bridge));
 }
 
@@ -302,17 +307,17 @@ fn put_gate_call<W: Sink>(
     plan: Plan<'_>,
     bridge: u16,
     stream: Stream<'_>,
-    way: Option<u16>,
+    ingress: Option<u16>,
 )
     requires named { AreNamed plan.domain.now plan.rows.now plan.links.now plan.streams.now }
     requires paced { IsGoodPace stream.row.now.pace }
     ensures { Puts W.contents writer.old writer.new
-        (gate_call plan.entry.domain.now bridge stream.entry.variable.now stream.entry.gate stream.entry.row.now way) }
+        (gate_call plan.entry.domain.now bridge stream.entry.variable.now stream.entry.gate stream.entry.row.now ingress) }
 {
     if pauses(stream.row) {
-        put_list_call(writer, plan, bridge, stream, way);
+        put_list_call(writer, plan, bridge, stream, ingress);
     } else {
-        put_plain_call(writer, plan, stream, way);
+        put_plain_call(writer, plan, stream, ingress);
     }
 }
 
@@ -322,21 +327,21 @@ fn put_stream_lines<W: Sink>(
     plan: Plan<'_>,
     bridge: u16,
     stream: Stream<'_>,
-    way: Option<u16>,
+    ingress: Option<u16>,
 )
     requires named { AreNamed plan.domain.now plan.rows.now plan.links.now plan.streams.now }
     requires paced { IsGoodPace stream.row.now.pace }
     ensures { Puts W.contents writer.old writer.new
-        (stream_lines plan.entry.domain.now bridge stream.entry.variable.now stream.entry.gate stream.entry.row.now way) }
+        (stream_lines plan.entry.domain.now bridge stream.entry.variable.now stream.entry.gate stream.entry.row.now ingress) }
 {
     writer.put(b"    # stream ");
     writer.put_number(stream.row.no);
     writer.put(b" ");
     writer.put(stream.row.name.as_bytes());
     writer.put(b", leaves by");
-    put_ways_out(writer, plan, bridge, stream.row);
+    put_out_variables(writer, plan, bridge, stream.row);
     writer.put(b"\n");
-    put_gate_call(writer, plan, bridge, stream, way);
+    put_gate_call(writer, plan, bridge, stream, ingress);
     writer.put(b"\n");
 }
 
@@ -386,14 +391,14 @@ fn put_new_need<W: Sink>(
     plan: Plan<'_>,
     bridge: u16,
     stream: Stream<'_>,
-    way: (Option<u16>, bool),
+    ingress: (Option<u16>, bool),
 )
     requires { AreNamed plan.domain.now plan.rows.now plan.links.now plan.streams.now }
     ensures { Puts W.contents writer.old writer.new
-        (if way.1 then way_need plan.entry.domain.now bridge stream.entry.variable.now stream.entry.row.now way.0 else []) }
+        (if ingress.1 then ingress_need plan.entry.domain.now bridge stream.entry.variable.now stream.entry.row.now ingress.0 else []) }
 {
-    if way.1 {
-        put_way_need(writer, plan, bridge, stream, way.0);
+    if ingress.1 {
+        put_ingress_need(writer, plan, bridge, stream, ingress.0);
     }
 }
 
@@ -403,13 +408,13 @@ fn put_needs_by<W: Sink>(
     plan: Plan<'_>,
     bridge: u16,
     stream: Stream<'_>,
-    way: (Option<u16>, bool),
+    ingress: (Option<u16>, bool),
 )
     requires { AreNamed plan.domain.now plan.rows.now plan.links.now plan.streams.now }
     ensures { Puts W.contents writer.old writer.new
-        (needs_by plan.entry.domain.now bridge stream.entry.variable.now stream.entry.gate stream.entry.row.now way) }
+        (needs_by plan.entry.domain.now bridge stream.entry.variable.now stream.entry.gate stream.entry.row.now ingress) }
 {
-    put_new_need(writer, plan, bridge, stream, way);
+    put_new_need(writer, plan, bridge, stream, ingress);
     put_frame_needs(writer, stream);
 }
 
@@ -419,29 +424,29 @@ fn put_needs_of<W: Sink>(
     plan: Plan<'_>,
     bridge: u16,
     stream: Stream<'_>,
-    way: Option<(Option<u16>, bool)>,
+    ingress: Option<(Option<u16>, bool)>,
 )
     requires { AreNamed plan.domain.now plan.rows.now plan.links.now plan.streams.now }
     ensures { Puts W.contents writer.old writer.new
-        (option_map_or (needs_by plan.entry.domain.now bridge stream.entry.variable.now stream.entry.gate stream.entry.row.now) way []) }
+        (option_map_or (needs_by plan.entry.domain.now bridge stream.entry.variable.now stream.entry.gate stream.entry.row.now) ingress []) }
 {
-    if let Some(way) = way {
-        put_needs_by(writer, plan, bridge, stream, way);
+    if let Some(ingress) = ingress {
+        put_needs_by(writer, plan, bridge, stream, ingress);
     }
 }
 
 /// Puts what the streams that leave the bridge need.
-fn put_needs<W: Sink>(writer: &mut Writer<'_, W>, plan: Plan<'_>, bridge: u16, places: &[usize])
+fn put_needs<W: Sink>(writer: &mut Writer<'_, W>, plan: Plan<'_>, bridge: u16, indices: &[usize])
     requires named { AreNamed plan.domain.now plan.rows.now plan.links.now plan.streams.now }
-    requires at { places.now ≡ places_at plan.domain.now plan.rows.now bridge }
+    requires at { indices.now ≡ indices_at plan.domain.now plan.rows.now bridge }
     ensures { Puts W.contents writer.old writer.new
         (each_stream (stream_needs plan.entry.domain.now (gate_index plan.entry.addresses.now) plan.entry.rows.now bridge) plan.entry.rows.now) }
 {
     let mut seen = [false; 65536];
-    for place in places {
-        let stream = stream_at(plan, *place);
-        let way = way_of(plan.domain, bridge, &mut seen, stream.row);
-        put_needs_of(writer, plan, bridge, stream, way);
+    for index in indices {
+        let stream = stream_at(plan, *index);
+        let ingress = ingress_of(plan.domain, bridge, &mut seen, stream.row);
+        put_needs_of(writer, plan, bridge, stream, ingress);
     }
 }
 
@@ -450,13 +455,13 @@ fn put_clearing_by<W: Sink>(
     writer: &mut Writer<'_, W>,
     plan: Plan<'_>,
     variable: &[u8],
-    way: (Option<u16>, bool),
+    ingress: (Option<u16>, bool),
 )
     requires { AreNamed plan.domain.now plan.rows.now plan.links.now plan.streams.now }
-    ensures { Puts W.contents writer.old writer.new (clearing_by plan.entry.domain.now variable.now way) }
+    ensures { Puts W.contents writer.old writer.new (clearing_by plan.entry.domain.now variable.now ingress) }
 {
-    if way.1 {
-        put_clearing(writer, plan, variable, way.0);
+    if ingress.1 {
+        put_clearing(writer, plan, variable, ingress.0);
     }
 }
 
@@ -465,27 +470,32 @@ fn put_clearing_of<W: Sink>(
     writer: &mut Writer<'_, W>,
     plan: Plan<'_>,
     variable: &[u8],
-    way: Option<(Option<u16>, bool)>,
+    ingress: Option<(Option<u16>, bool)>,
 )
     requires { AreNamed plan.domain.now plan.rows.now plan.links.now plan.streams.now }
-    ensures { Puts W.contents writer.old writer.new (option_map_or (clearing_by plan.entry.domain.now variable.now) way []) }
+    ensures { Puts W.contents writer.old writer.new (option_map_or (clearing_by plan.entry.domain.now variable.now) ingress []) }
 {
-    if let Some(way) = way {
-        put_clearing_by(writer, plan, variable, way);
+    if let Some(ingress) = ingress {
+        put_clearing_by(writer, plan, variable, ingress);
     }
 }
 
 /// Puts the lines that clear the interfaces over which streams arrive.
-fn put_clearings<W: Sink>(writer: &mut Writer<'_, W>, plan: Plan<'_>, bridge: u16, places: &[usize])
+fn put_clearings<W: Sink>(
+    writer: &mut Writer<'_, W>,
+    plan: Plan<'_>,
+    bridge: u16,
+    indices: &[usize],
+)
     requires named { AreNamed plan.domain.now plan.rows.now plan.links.now plan.streams.now }
-    requires at { places.now ≡ places_at plan.domain.now plan.rows.now bridge }
+    requires at { indices.now ≡ indices_at plan.domain.now plan.rows.now bridge }
     ensures { Puts W.contents writer.old writer.new (each_stream (stream_clearing plan.entry.domain.now plan.entry.rows.now bridge) plan.entry.rows.now) }
 {
     let mut seen = [false; 65536];
-    for place in places {
-        let stream = stream_at(plan, *place);
-        let way = way_of(plan.domain, bridge, &mut seen, stream.row);
-        put_clearing_of(writer, plan, stream.variable, way);
+    for index in indices {
+        let stream = stream_at(plan, *index);
+        let ingress = ingress_of(plan.domain, bridge, &mut seen, stream.row);
+        put_clearing_of(writer, plan, stream.variable, ingress);
     }
 }
 
@@ -502,15 +512,15 @@ fn put_stream<W: Sink>(writer: &mut Writer<'_, W>, plan: Plan<'_>, bridge: u16, 
 }
 
 /// Puts the lines of the streams that leave the bridge.
-fn put_streams<W: Sink>(writer: &mut Writer<'_, W>, plan: Plan<'_>, bridge: u16, places: &[usize])
+fn put_streams<W: Sink>(writer: &mut Writer<'_, W>, plan: Plan<'_>, bridge: u16, indices: &[usize])
     requires named { AreNamed plan.domain.now plan.rows.now plan.links.now plan.streams.now }
     requires paced { AreOfGoodPaces plan.rows.now }
-    requires at { places.now ≡ places_at plan.domain.now plan.rows.now bridge }
+    requires at { indices.now ≡ indices_at plan.domain.now plan.rows.now bridge }
     ensures { Puts W.contents writer.old writer.new
         (flat_map (stream_gates plan.entry.domain.now (gate_index plan.entry.addresses.now) plan.entry.rows.now bridge) plan.entry.rows.now) }
 {
-    for place in places {
-        let stream = stream_at(plan, *place);
+    for index in indices {
+        let stream = stream_at(plan, *index);
         put_stream(writer, plan, bridge, stream);
     }
 }
@@ -521,11 +531,11 @@ pub(crate) fn put_bridge_function<W: Sink>(
     writer: &mut Writer<'_, W>,
     plan: Plan<'_>,
     bridge: u16,
-    places: &[usize],
+    indices: &[usize],
 )
     requires named { AreNamed plan.domain.now plan.rows.now plan.links.now plan.streams.now }
     requires paced { AreOfGoodPaces plan.rows.now }
-    requires at { places.now ≡ places_at plan.domain.now plan.rows.now bridge }
+    requires at { indices.now ≡ indices_at plan.domain.now plan.rows.now bridge }
     ensures { Puts W.contents writer.old writer.new
         (bridge_text plan.entry.domain.now (gate_index plan.entry.addresses.now) plan.entry.rows.now bridge) }
 {
@@ -535,10 +545,10 @@ pub(crate) fn put_bridge_function<W: Sink>(
     put_bridge(writer, plan.domain, bridge);
     writer.put(b"\n");
     put_out_needs(writer, plan, bridge);
-    put_needs(writer, plan, bridge, places);
+    put_needs(writer, plan, bridge, indices);
     writer.put(b"    ready\n");
-    put_clearings(writer, plan, bridge, places);
+    put_clearings(writer, plan, bridge, indices);
     put_links(writer, plan, bridge);
-    put_streams(writer, plan, bridge, places);
+    put_streams(writer, plan, bridge, indices);
     writer.put(b"}\n");
 }

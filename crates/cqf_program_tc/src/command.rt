@@ -2,16 +2,16 @@
 //! bridge.
 ghost use Rattle.std.specs.Prelude.{◌≡◌, ◌<◌, AllPairs, Ok, IfOk, IfErr, length, map, string_bytes};
 ghost use Rattle.cqf_admission.specs.Asking.{asked_paced};
-ghost use Rattle.cqf_admission.specs.Turns.{AreOfGoodPaces};
+ghost use Rattle.cqf_admission.specs.ActiveCycles.{AreOfGoodPaces};
 ghost use Rattle.cqf_model.specs.declared.topology.Row.{Row as ARow};
 ghost use Rattle.cqf_output.specs.Stops.{EndsWith, IsRefused};
 ghost use Rattle.cqf_program_plans.specs.Compile.Gated.{gated_rows};
 ghost use Rattle.cqf_program_tc.specs.Output.{IsReadyPlan, addressed_input, bridge_named, env_of, env_of_input};
 ghost use Rattle.cqf_program_tc.specs.Output.{keys_of, rows_of, tc_of, tc_of_input, text_of_env, text_of_tc, unknown_bridge};
-ghost use Rattle.cqf_program_tc.specs.Rows.{places_in};
+ghost use Rattle.cqf_program_tc.specs.Rows.{indices_in};
 
 use crate::outputs::{EnvOutput, ReadyPlan, TcOutput};
-use crate::rows::places_by_bridge;
+use crate::rows::indices_by_bridge;
 use crate::variables::{link_variables, stream_variables};
 use crate::words::write_gate_words;
 use cqf_addressing::{LinkInterfaces, StreamAddress, addresses_part, interfaces_part};
@@ -76,9 +76,9 @@ fn plan_ready(alloc: Global, found: Found, rows: Vec<Row>) -> Result<ReadyPlan, 
     ensures rows { IfOk result (λ plan. plan.rows.items ≡ rows.items) }
     ensures interfaces { IfOk result (λ plan. plan.interfaces.items ≡ found.interfaces.items) }
     ensures addresses { IfOk result (λ plan. plan.addresses.items ≡ found.addresses.items) }
-    ensures ready { IfOk result (λ plan. IsReadyPlan plan.domain plan.rows.items (places_in plan.places.items) plan.links.items plan.streams.items) }
+    ensures ready { IfOk result (λ plan. IsReadyPlan plan.domain plan.rows.items (indices_in plan.indices.items) plan.links.items plan.streams.items) }
 {
-    let places = places_by_bridge(alloc, &found.domain, rows.as_slice())?;
+    let indices = indices_by_bridge(alloc, &found.domain, rows.as_slice())?;
     let links = link_variables(alloc, &found.domain)?;
     let streams = stream_variables(alloc, rows.as_slice())?;
     let Found {
@@ -92,7 +92,7 @@ fn plan_ready(alloc: Global, found: Found, rows: Vec<Row>) -> Result<ReadyPlan, 
         rows,
         interfaces,
         addresses,
-        places,
+        indices,
         links,
         streams,
     })
@@ -112,7 +112,7 @@ fn plan_gated(
     ensures rows { IfOk result (λ plan. plan.rows.items ≡ gated_rows edge_gates rows.items) }
     ensures interfaces { IfOk result (λ plan. plan.interfaces.items ≡ found.interfaces.items) }
     ensures addresses { IfOk result (λ plan. plan.addresses.items ≡ found.addresses.items) }
-    ensures ready { IfOk result (λ plan. IsReadyPlan plan.domain plan.rows.items (places_in plan.places.items) plan.links.items plan.streams.items) }
+    ensures ready { IfOk result (λ plan. IsReadyPlan plan.domain plan.rows.items (indices_in plan.indices.items) plan.links.items plan.streams.items) }
 {
     let gated = gated_rows(alloc, edge_gates, rows)?;
     let plan = plan_ready(alloc, found, gated)?;
@@ -121,7 +121,7 @@ fn plan_gated(
 
 /// Returns the script of a plan, ready to be written.
 fn script_ready(alloc: Global, software: bool, plan: ReadyPlan) -> Result<TcOutput, Memory>
-    requires { IsReadyPlan plan.domain plan.rows.items (places_in plan.places.items) plan.links.items plan.streams.items }
+    requires { IsReadyPlan plan.domain plan.rows.items (indices_in plan.indices.items) plan.links.items plan.streams.items }
     ensures { IfOk result (λ output. output ≡ record {
       domain = plan.domain;
       rows = plan.rows.items;
@@ -157,7 +157,7 @@ fn plan_of(alloc: Global, edge_gates: bool, found: Found) -> Result<ReadyPlan, S
     ensures domain { IfOk result (λ plan. plan.domain ≡ found.domain) }
     ensures interfaces { IfOk result (λ plan. plan.interfaces.items ≡ found.interfaces.items) }
     ensures addresses { IfOk result (λ plan. plan.addresses.items ≡ found.addresses.items) }
-    ensures ready { IfOk result (λ plan. IsReadyPlan plan.domain plan.rows.items (places_in plan.places.items) plan.links.items plan.streams.items) }
+    ensures ready { IfOk result (λ plan. IsReadyPlan plan.domain plan.rows.items (indices_in plan.indices.items) plan.links.items plan.streams.items) }
 {
     let rows = rows_of_cycle_0(alloc, &found.domain, found.requests.as_slice())?;
     match plan_gated(alloc, edge_gates, found, rows) {
@@ -244,7 +244,7 @@ fn bridge_of_name(alloc: Global, domain: &Domain, name: &str) -> Result<u16, Sto
 
 /// Returns the variable file of a bridge of a plan, ready to be written.
 fn file_ready(alloc: Global, plan: ReadyPlan, bridge: u16) -> Result<EnvOutput, Memory>
-    requires ready { IsReadyPlan plan.domain plan.rows.items (places_in plan.places.items) plan.links.items plan.streams.items }
+    requires ready { IsReadyPlan plan.domain plan.rows.items (indices_in plan.indices.items) plan.links.items plan.streams.items }
     requires inside { bridge < length plan.domain.bridges }
     ensures { IfOk result (λ output. output ≡ record {
       domain = plan.domain;

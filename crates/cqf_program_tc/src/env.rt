@@ -2,25 +2,25 @@
 ghost use Rattle.std.specs.Prelude.{◌≡◌, ◌<◌, [], None, if◌then◌else◌, length, option_map};
 ghost use Rattle.std.specs.Option.{option_map_or};
 ghost use Rattle.cqf_addressing.specs.Links.{far_interface, near_interface};
-ghost use Rattle.cqf_output.specs.Edge.{HasTold, writing};
+ghost use Rattle.cqf_output.specs.Edge.{IsWritten, writing};
 ghost use Rattle.cqf_output.specs.Writer.{Puts};
 ghost use Rattle.cqf_program_tc.specs.Bridge.{each_link, each_stream, if_left};
 ghost use Rattle.cqf_program_tc.specs.Env.{env_text, frame_lines, head_text, in_lines, lines_by, mac_of, out_lines, stream_env, value_text, vlan_of};
-ghost use Rattle.cqf_program_tc.specs.Env.{way_lines};
+ghost use Rattle.cqf_program_tc.specs.Env.{ingress_lines};
 ghost use Rattle.cqf_program_tc.specs.Output.{IsReadyPlan, text_of_env};
-ghost use Rattle.cqf_program_tc.specs.Rows.{places_at, places_in};
+ghost use Rattle.cqf_program_tc.specs.Rows.{indices_at, indices_in};
 ghost use Rattle.cqf_program_tc.specs.Variables.{AreNamed};
 
 use crate::bridges::{bridge_of, put_end};
+use crate::ingresses::ingress_of;
 use crate::outputs::EnvOutput;
 use crate::plan::{Plan, Stream, put_link_variable, stream_at};
-use crate::ways::way_of;
 use cqf_addressing::{
     InterfaceName, LinkInterfaces, StreamAddress, far_interface, mac_of_stream, near_interface,
     put_mac, vlan_of_stream,
 };
 use cqf_compile::leaves;
-use cqf_output::{Sink, Told, Writer};
+use cqf_output::{CheckedSink, Sink, Writer};
 use cqf_topology::{Domain, put_bridge};
 
 /// Puts the name of an interface, if there is one.
@@ -104,7 +104,7 @@ fn put_talker_lines<W: Sink>(
     stream: Stream<'_>,
 )
     ensures { Puts W.contents writer.old writer.new
-        (way_lines domain.now interfaces.now bridge stream.entry.variable.now stream.entry.row.now None) }
+        (ingress_lines domain.now interfaces.now bridge stream.entry.variable.now stream.entry.row.now None) }
 {
     writer.put(b"# interface of ");
     put_bridge(writer, domain, bridge);
@@ -116,19 +116,19 @@ fn put_talker_lines<W: Sink>(
 }
 
 /// Puts the lines of the interface over which a stream arrives.
-fn put_way_lines<W: Sink>(
+fn put_ingress_lines<W: Sink>(
     writer: &mut Writer<'_, W>,
     plan: Plan<'_>,
     interfaces: &[LinkInterfaces],
     bridge: u16,
     stream: Stream<'_>,
-    way: Option<u16>,
+    ingress: Option<u16>,
 )
     requires { AreNamed plan.domain.now plan.rows.now plan.links.now plan.streams.now }
     ensures { Puts W.contents writer.old writer.new
-        (way_lines plan.entry.domain.now interfaces.now bridge stream.entry.variable.now stream.entry.row.now way) }
+        (ingress_lines plan.entry.domain.now interfaces.now bridge stream.entry.variable.now stream.entry.row.now ingress) }
 {
-    match way {
+    match ingress {
         Some(link) => put_in_lines(writer, plan, interfaces, bridge, link),
         None => put_talker_lines(writer, plan.domain, interfaces, bridge, stream),
     }
@@ -164,14 +164,14 @@ fn put_new_lines<W: Sink>(
     interfaces: &[LinkInterfaces],
     bridge: u16,
     stream: Stream<'_>,
-    way: (Option<u16>, bool),
+    ingress: (Option<u16>, bool),
 )
     requires { AreNamed plan.domain.now plan.rows.now plan.links.now plan.streams.now }
     ensures { Puts W.contents writer.old writer.new
-        (if way.1 then way_lines plan.entry.domain.now interfaces.now bridge stream.entry.variable.now stream.entry.row.now way.0 else []) }
+        (if ingress.1 then ingress_lines plan.entry.domain.now interfaces.now bridge stream.entry.variable.now stream.entry.row.now ingress.0 else []) }
 {
-    if way.1 {
-        put_way_lines(writer, plan, interfaces, bridge, stream, way.0);
+    if ingress.1 {
+        put_ingress_lines(writer, plan, interfaces, bridge, stream, ingress.0);
     }
 }
 
@@ -182,13 +182,13 @@ fn put_lines_by<W: Sink>(
     interfaces: &[LinkInterfaces],
     bridge: u16,
     stream: Stream<'_>,
-    way: (Option<u16>, bool),
+    ingress: (Option<u16>, bool),
 )
     requires { AreNamed plan.domain.now plan.rows.now plan.links.now plan.streams.now }
     ensures { Puts W.contents writer.old writer.new (lines_by plan.entry.domain.now interfaces.now plan.entry.addresses.now bridge
-        stream.entry.variable.now stream.entry.row.now way) }
+        stream.entry.variable.now stream.entry.row.now ingress) }
 {
-    put_new_lines(writer, plan, interfaces, bridge, stream, way);
+    put_new_lines(writer, plan, interfaces, bridge, stream, ingress);
     put_frame_lines(writer, plan.addresses, stream);
 }
 
@@ -199,14 +199,14 @@ fn put_lines_of<W: Sink>(
     interfaces: &[LinkInterfaces],
     bridge: u16,
     stream: Stream<'_>,
-    way: Option<(Option<u16>, bool)>,
+    ingress: Option<(Option<u16>, bool)>,
 )
     requires { AreNamed plan.domain.now plan.rows.now plan.links.now plan.streams.now }
     ensures { Puts W.contents writer.old writer.new (option_map_or (lines_by plan.entry.domain.now interfaces.now plan.entry.addresses.now bridge
-        stream.entry.variable.now stream.entry.row.now) way []) }
+        stream.entry.variable.now stream.entry.row.now) ingress []) }
 {
-    if let Some(way) = way {
-        put_lines_by(writer, plan, interfaces, bridge, stream, way);
+    if let Some(ingress) = ingress {
+        put_lines_by(writer, plan, interfaces, bridge, stream, ingress);
     }
 }
 
@@ -216,18 +216,18 @@ fn put_stream_lines<W: Sink>(
     plan: Plan<'_>,
     interfaces: &[LinkInterfaces],
     bridge: u16,
-    places: &[usize],
+    indices: &[usize],
 )
     requires named { AreNamed plan.domain.now plan.rows.now plan.links.now plan.streams.now }
-    requires at { places.now ≡ places_at plan.domain.now plan.rows.now bridge }
+    requires at { indices.now ≡ indices_at plan.domain.now plan.rows.now bridge }
     ensures { Puts W.contents writer.old writer.new (each_stream
         (stream_env plan.entry.domain.now interfaces.now plan.entry.addresses.now plan.entry.rows.now bridge) plan.entry.rows.now) }
 {
     let mut seen = [false; 65536];
-    for place in places {
-        let stream = stream_at(plan, *place);
-        let way = way_of(plan.domain, bridge, &mut seen, stream.row);
-        put_lines_of(writer, plan, interfaces, bridge, stream, way);
+    for index in indices {
+        let stream = stream_at(plan, *index);
+        let ingress = ingress_of(plan.domain, bridge, &mut seen, stream.row);
+        put_lines_of(writer, plan, interfaces, bridge, stream, ingress);
     }
 }
 
@@ -286,14 +286,14 @@ fn put_file<W: Sink>(
     plan: Plan<'_>,
     interfaces: &[LinkInterfaces],
     bridge: u16,
-    places: &[Vec<usize>],
+    indices: &[Vec<usize>],
 )
-    requires ready { IsReadyPlan plan.domain.now plan.rows.now (places_in places.now) plan.links.now plan.streams.now }
+    requires ready { IsReadyPlan plan.domain.now plan.rows.now (indices_in indices.now) plan.links.now plan.streams.now }
     requires inside { bridge < length plan.domain.now.bridges }
     ensures { Puts W.contents writer.old writer.new
         (env_text plan.entry.domain.now interfaces.now plan.entry.addresses.now plan.entry.rows.now bridge) }
 {
-    let here = places[usize::from(bridge)].as_slice();
+    let here = indices[usize::from(bridge)].as_slice();
     put_head(writer, plan.domain, bridge);
     put_links_out(writer, plan, interfaces, bridge);
     put_stream_lines(writer, plan, interfaces, bridge, here);
@@ -301,22 +301,22 @@ fn put_file<W: Sink>(
 
 impl EnvOutput {
     /// Writes the output: the bridge's variable file. It allocates no memory.
-    pub fn tell<W: Sink>(self, told: &mut Told<W>)
-        ensures { HasTold (writing W.contents told.old told.new) (text_of_env self) }
+    pub fn write<W: Sink>(self, written: &mut CheckedSink<W>)
+        ensures { IsWritten (writing W.contents written.old written.new) (text_of_env self) }
     {
         let EnvOutput {
             plan,
             bridge,
             buffer,
         } = self;
-        let mut writer = Writer::new(told, buffer);
+        let mut writer = Writer::new(written, buffer);
         put_file(
             &mut writer,
             plan.as_plan(),
             plan.interfaces.as_slice(),
             bridge,
-            plan.places.as_slice(),
+            plan.indices.as_slice(),
         );
-        let _told = writer.close();
+        let _written = writer.close();
     }
 }

@@ -4,7 +4,7 @@ ghost use Rattle.std.specs.List.{list_any};
 ghost use Rattle.cqf_lists.specs.Lists.{each_below};
 ghost use Rattle.cqf_output.specs.Writer.{Puts};
 ghost use Rattle.cqf_program_tc.specs.Text.{choice_line, choice_text, common_words, gate_command, given_text, given_words, link_note, link_text, list_command};
-ghost use Rattle.cqf_program_tc.specs.Text.{making_text, offload_notes, port_end, port_words, removing_text, software_notes};
+ghost use Rattle.cqf_program_tc.specs.Text.{less_notes, making_text, notes_by, offload_notes, port_end, port_words, removing_text, software_notes, whole_notes};
 ghost use Rattle.cqf_program_tc.specs.Text.{last_gate, multiple, name_text, names_text, no_gates_text, notes_text, old_gates_text};
 ghost use Rattle.cqf_program_tc.specs.Text.{opening_text, tc_gate_text, usage_text};
 ghost use Rattle.cqf_program_tc.specs.Bridge.{has_own_guard};
@@ -104,9 +104,9 @@ fn put_kind_notes<W: Sink>(writer: &mut Writer<'_, W>, software: bool)
     }
 }
 
-/// Puts the notes on the gates of Linux.
-pub(crate) fn put_notes<W: Sink>(writer: &mut Writer<'_, W>, software: bool)
-    ensures { Puts W.contents writer.old writer.new (notes_text software) }
+/// Puts the notes on what gates count, if they count whole frames.
+fn put_whole_notes<W: Sink>(writer: &mut Writer<'_, W>)
+    ensures { Puts W.contents writer.old writer.new whole_notes }
 {
     writer.put(
         b"# Octets of a gate are those of whole frames, from the destination address to the FCS. Linux counts 22 fewer a frame, without\n",
@@ -114,6 +114,36 @@ pub(crate) fn put_notes<W: Sink>(writer: &mut Writer<'_, W>, software: bool)
     writer.put(
         b"# the header's 14, the tag's 4 and the FCS's 4: frames of 1500, 1500 and 64 octets pass a gate of 3000. One that it drops counts.\n",
     );
+}
+
+/// Puts the notes on what gates count, if they don't count whole frames.
+fn put_less_notes<W: Sink>(writer: &mut Writer<'_, W>)
+    ensures { Puts W.contents writer.old writer.new less_notes }
+{
+    writer.put(
+        b"# Octets of a gate are those of frames, from the destination address to the FCS, without those of gate-overhead. Linux leaves out\n",
+    );
+    writer.put(
+        b"# 22 of each: the header's 14, the tag's 4 and the FCS's 4. A frame that it drops counts.\n",
+    );
+}
+
+/// Puts the notes on what gates count.
+fn put_counting_notes<W: Sink>(writer: &mut Writer<'_, W>, whole: bool)
+    ensures { Puts W.contents writer.old writer.new (if whole then whole_notes else less_notes) }
+{
+    if whole {
+        put_whole_notes(writer);
+    } else {
+        put_less_notes(writer);
+    }
+}
+
+/// Puts the notes on the gates of Linux.
+fn put_notes_by<W: Sink>(writer: &mut Writer<'_, W>, whole: bool, software: bool)
+    ensures { Puts W.contents writer.old writer.new (notes_by whole software) }
+{
+    put_counting_notes(writer, whole);
     put_kind_notes(writer, software);
     writer.put(
         b"# What the bridge itself sends, as IPv6 neighbour discovery and MLD, may have class 7: keep it off these interfaces.\n",
@@ -121,6 +151,13 @@ pub(crate) fn put_notes<W: Sink>(writer: &mut Writer<'_, W>, software: bool)
     writer.put(
         b"# If CHAIN isn't 0, only a filter of yours in chain 0 with goto chain CHAIN leads frames to the gates.\n",
     );
+}
+
+/// Puts the notes on the gates of Linux, for a domain.
+pub(crate) fn put_notes<W: Sink>(writer: &mut Writer<'_, W>, domain: &Domain, software: bool)
+    ensures { Puts W.contents writer.old writer.new (notes_text domain.now software) }
+{
+    put_notes_by(writer, domain.overhead() == 0, software);
 }
 
 /// Puts the name of a bridge, after a space.

@@ -10,7 +10,7 @@
 //! - Variables are named after links and streams, and no two have the same name ([`variables_are_apart`]).
 //! - The lists begin at an instant: the first multiple, from BASE on, of the cycles after which all lists begin anew ([`lists_begin_anew`]). It is
 //!   below 2^63 ([`instants_fit`]).
-//! - [`places_by_bridge`] returns which streams leave each bridge.
+//! - [`indices_by_bridge`] returns which streams leave each bridge.
 //!
 //! `specs/` defines the values of an input (`Output`), the texts of the outputs (`Text` with `Checks`, `Bridge`, `Program` and `Words`, and `Env`),
 //! the variables (`Variables`), and how a script and a file are read back (`Calls`, `Wanted`).
@@ -38,16 +38,16 @@ mod checks;
 mod command;
 mod env;
 mod frame;
+mod ingresses;
 mod laws;
 mod lists;
 mod outputs;
 mod plan;
 mod program;
 mod rows;
-mod told;
 mod variables;
-mod ways;
 mod words;
+mod written;
 
 pub use command::{env_output, tc_output};
 pub use laws::{
@@ -55,4 +55,4 @@ pub use laws::{
     scripts_hold_the_lists, variables_are_apart,
 };
 pub use outputs::{EnvOutput, TcOutput};
-pub use rows::places_by_bridge;
+pub use rows::indices_by_bridge;

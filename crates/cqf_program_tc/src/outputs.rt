@@ -16,7 +16,7 @@ pub(crate) struct ReadyPlan {
     pub rows: Vec<Row>,
     pub interfaces: Vec<LinkInterfaces>,
     pub addresses: Vec<StreamAddress>,
-    pub places: Vec<Vec<usize>>,
+    pub indices: Vec<Vec<usize>>,
     pub links: Vec<Vec<u8>>,
     pub streams: Vec<Vec<u8>>,
 }
@@ -52,13 +52,13 @@ pub struct TcOutput {
 
 impl Model for TcOutput {
     ghost use Rattle.cqf_program_tc.specs.Output.{IsReadyScript, TcScript};
-    ghost use Rattle.cqf_program_tc.specs.Rows.{places_in};
+    ghost use Rattle.cqf_program_tc.specs.Rows.{indices_in};
 
     ghost Value = { TcScript };
 
     ghost view = { λ o. record { domain = o.plan.domain; rows = o.plan.rows.items; addresses = o.plan.addresses.items; software = o.software } };
 
-    ghost invariant = { λ o. IsReadyScript o.plan.domain o.plan.rows.items (places_in o.plan.places.items) o.plan.links.items o.plan.streams.items
+    ghost invariant = { λ o. IsReadyScript o.plan.domain o.plan.rows.items (indices_in o.plan.indices.items) o.plan.links.items o.plan.streams.items
         o.gate_words.items };
 }
 
@@ -73,7 +73,7 @@ pub struct EnvOutput {
 impl Model for EnvOutput {
     ghost use Rattle.std.specs.Prelude.{◌<◌, length};
     ghost use Rattle.cqf_program_tc.specs.Output.{EnvFile, IsReadyFile};
-    ghost use Rattle.cqf_program_tc.specs.Rows.{places_in};
+    ghost use Rattle.cqf_program_tc.specs.Rows.{indices_in};
 
     ghost Value = { EnvFile };
 
@@ -85,6 +85,6 @@ impl Model for EnvOutput {
       bridge = o.bridge;
     } };
 
-    ghost invariant = { λ o. IsReadyFile o.plan.domain o.plan.rows.items (places_in o.plan.places.items) o.plan.links.items o.plan.streams.items
+    ghost invariant = { λ o. IsReadyFile o.plan.domain o.plan.rows.items (indices_in o.plan.indices.items) o.plan.links.items o.plan.streams.items
         o.bridge };
 }

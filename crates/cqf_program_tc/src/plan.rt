@@ -48,17 +48,17 @@ pub(crate) fn put_link_variable<W: Sink>(writer: &mut Writer<'_, W>, plan: Plan<
 }
 
 /// Returns the stream of the row at this index.
-pub(crate) fn stream_at<'r>(plan: Plan<'r>, place: usize) -> Stream<'r>
+pub(crate) fn stream_at<'r>(plan: Plan<'r>, index: usize) -> Stream<'r>
     requires named { AreNamed plan.domain.now plan.rows.now plan.links.now plan.streams.now }
-    requires inside { place < length plan.rows.now }
-    ensures row { result.row.now ≡ slice_index_or plan.entry.rows.now place result.row.now }
+    requires inside { index < length plan.rows.now }
+    ensures row { result.row.now ≡ slice_index_or plan.entry.rows.now index result.row.now }
     ensures variable { result.variable.now ≡ stream_variable plan.entry.rows.now result.row.now }
     ensures gate { result.gate ≡ gate_index plan.entry.addresses.now result.row.now.no }
 {
-    let row = &plan.rows[place];
+    let row = &plan.rows[index];
     Stream {
         row,
-        variable: plan.streams[place].as_slice(),
+        variable: plan.streams[index].as_slice(),
         gate: gate_index(plan.addresses, row.no),
     }
 }

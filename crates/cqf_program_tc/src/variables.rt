@@ -97,8 +97,8 @@ fn stream_words(alloc: Global, rows: &[Row]) -> Result<Vec<Vec<u8>>, Memory>
     ensures { IfOk result (λ words. lists_of words.items ≡ map word_of_stream rows.now) }
 {
     let mut words = Vec::new(alloc);
-    for place in 0..rows.len() {
-        let word = stream_word(alloc, &rows[place])?;
+    for index in 0..rows.len() {
+        let word = stream_word(alloc, &rows[index])?;
         words.push(word)?;
     }
     Ok(words)
@@ -108,15 +108,15 @@ fn stream_words(alloc: Global, rows: &[Row]) -> Result<Vec<Vec<u8>>, Memory>
 fn are_taken(alloc: Global, words: &[Vec<u8>]) -> Result<Vec<bool>, Memory>
     ensures { IfOk result (λ taken. AreTaken (lists_of words.now) taken.items) }
 {
-    let mut places = BTreeMap::new(alloc);
+    let mut indices = BTreeMap::new(alloc);
     let mut taken = Vec::new(alloc);
-    for place in 0..words.len() {
-        let word = words[place].as_slice();
-        if places.contains_key(word) {
+    for index in 0..words.len() {
+        let word = words[index].as_slice();
+        if indices.contains_key(word) {
             taken.push(true)?;
             continue;
         }
-        places.insert(word, place)?;
+        indices.insert(word, index)?;
         taken.push(false)?;
     }
     Ok(taken)
@@ -152,11 +152,11 @@ pub(crate) fn link_variables(alloc: Global, domain: &Domain) -> Result<Vec<Vec<u
     let taken = noted.as_slice();
     let mut variables = Vec::new(alloc);
     for link in 0..domain.links() {
-        let place = usize::from(link);
+        let index = usize::from(link);
         let variable = numbered(
             alloc,
-            words[place].as_slice(),
-            taken[place],
+            words[index].as_slice(),
+            taken[index],
             u32::from(link),
         )?;
         variables.push(variable)?;
@@ -174,8 +174,8 @@ pub(crate) fn stream_variables(alloc: Global, rows: &[Row]) -> Result<Vec<Vec<u8
     let noted = are_taken(alloc, words)?;
     let taken = noted.as_slice();
     let mut variables = Vec::new(alloc);
-    for place in 0..rows.len() {
-        let variable = numbered(alloc, words[place].as_slice(), taken[place], rows[place].no)?;
+    for index in 0..rows.len() {
+        let variable = numbered(alloc, words[index].as_slice(), taken[index], rows[index].no)?;
         variables.push(variable)?;
     }
     Ok(variables)

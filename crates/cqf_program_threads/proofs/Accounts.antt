@@ -10,12 +10,12 @@ use Rattle.cqf_model.specs.Domain.{Domain, IsAccepted}
 use Rattle.cqf_model.specs.Headline.{IsAccountOf}
 use Rattle.cqf_model.specs.History.{Act, Recorded}
 use Rattle.cqf_admission.specs.declared.entries.Command.{Command}
-use Rattle.cqf_laws_account.specs.Traced.{TracesTell, TracesTellTheBook}
-use Rattle.cqf_trace.specs.Traces.{MayBeTold, told_from}
+use Rattle.cqf_laws_account.specs.Traced.{TracesGive, TracesGiveTheBook}
+use Rattle.cqf_trace.specs.Traces.{MayBeReported, reported_from}
 use Rattle.cqf_program_runs.specs.Run.Output.{run_text}
 use Rattle.cqf_program_scenario.specs.Opening.{IsOpenedInput, opening_history}
 use Rattle.cqf_program_scenario.specs.Parted.{acts_of_each}
-use Rattle.cqf_program_scenario.specs.Parting.{AreCommandsBehind}
+use Rattle.cqf_program_scenario.specs.Parting.{AreCommandsAfter}
 use Rattle.cqf_program_scenario.specs.Scenario.{scenario_input}
 use Rattle.cqf_program_scenario.specs.declared.opening.Opened.{Opened}
 use Rattle.cqf_output.specs.Stops.{EndsWith, IsRefused, fault_line}
@@ -53,7 +53,7 @@ IsAccountOfInput-opened limits cycles input made account offers frames opened sa
       holds = opened.holds;
       domain = o.domain;
       commands = admins;
-      asked = subst (λ (lists : List (List Act)). AreCommandsBehind s.calls s.sealer lists) (asked_of made.commands.items) o.commands;
+      asked = subst (λ (lists : List (List Act)). AreCommandsAfter s.calls s.sealer lists) (asked_of made.commands.items) o.commands;
       is_account = subst₂ (λ (offers : List Offer) (frames : List Background). IsTracedAccount made.domain (opening_history s) offers frames
           cycles admins account)
           (same_offers ∙ o.offers) (same_frames ∙ o.background) of_opening;
@@ -76,7 +76,7 @@ IsFaultOfInput-opened limits cycles input made fault d entries offers frames ope
       holds = opened.holds;
       of_scenario = record {
         commands = admins;
-        asked = subst (λ (lists : List (List Act)). AreCommandsBehind s.calls s.sealer lists) (asked_of made.commands.items) o.commands;
+        asked = subst (λ (lists : List (List Act)). AreCommandsAfter s.calls s.sealer lists) (asked_of made.commands.items) o.commands;
         may = subst₂ (λ (e : Domain) (entries : List Recorded). IsConductFault e entries s.offers s.background cycles admins fault)
             (same_domain ∙ o.domain) (same_entries ∙ o.entries) of_offers;
       };
@@ -84,16 +84,16 @@ IsFaultOfInput-opened limits cycles input made fault d entries offers frames ope
 
 -- the traces of such an account yield its book
 module _ (limits : Limits) (cycles : ℕ) (input : List ℕ) (d : Domain) (account : TracedAccount)
-    (of : IsAccountOfInput limits cycles input d account) (law : TracesTellTheBook) (accepted : IsAccepted d) where
-  tells : TracesTell d cycles account.traces of.is_account.book
-  tells = law d cycles account.traces of.is_account.book accepted of.is_account.some of.is_account.its_traces
+    (of : IsAccountOfInput limits cycles input d account) (law : TracesGiveTheBook) (accepted : IsAccepted d) where
+  reports : TracesGive d cycles account.traces of.is_account.book
+  reports = law d cycles account.traces of.is_account.book accepted of.is_account.some of.is_account.its_traces
 
   -- without any sorting
-  pub may_be_told : MayBeTold d account.traces
-  may_be_told = tells.may
+  pub may_be_written : MayBeReported d account.traces
+  may_be_written = reports.may
 
   -- the text of its history and of the book of its traces is the output
-  pub IsThreadsOutput-written : (text : List ℕ) → text ≡ run_text d (entries_of account.history) (told_from d cycles account.traces) →
+  pub IsThreadsOutput-written : (text : List ℕ) → text ≡ run_text d (entries_of account.history) (reported_from d cycles account.traces) →
       IsThreadsOutput limits cycles input text
   IsThreadsOutput-written text written =
       let s = of.scenario in
@@ -108,7 +108,7 @@ module _ (limits : Limits) (cycles : ℕ) (input : List ℕ) (d : Domain) (accou
         entries = entries;
         book = book;
         of_scenario = record { commands = of.commands; asked = of.asked; is_account = same };
-        written = written ∙ ap (run_text d entries) (sym tells.told) ∙ ap (λ (e : Domain). run_text e entries book) of.domain;
+        written = written ∙ ap (run_text d entries) (sym reports.reported) ∙ ap (λ (e : Domain). run_text e entries book) of.domain;
       }
 
 -- an input that is refused ends it
@@ -141,7 +141,7 @@ EndsThreads-fault limits cycles input fault stop may other e = record {
     fault = fault;
     of_scenario = may.of_scenario;
     other = other;
-    tells = e.line_is four;
+    reports = e.line_is four;
   };
   memory = e.memory;
 }
@@ -159,10 +159,10 @@ memory_or_not Spawn = inr (λ e. (cc))
 pub EndsThreads-stopped : (limits : Limits) (cycles : ℕ) (input : List ℕ) (fault : ConductFault) (stop : Stop) → IsFaultOfInput limits cycles input fault
     → (fault ≢ Memory → EndsWith 4 (fault_line (codes "run") (conduct_fault_text fault)) stop) → (fault ≡ Memory → EndsWith 3 [] stop)
     → EndsThreads limits cycles input stop
-EndsThreads-stopped limits cycles input fault stop may told memory = elim (memory_or_not fault) [
+EndsThreads-stopped limits cycles input fault stop may reported memory = elim (memory_or_not fault) [
   | inl is ↦
       let e = memory is in
       let three : stop.status ≡ 3 = elim e.statuses [ inl three ↦ three | inr three ↦ three ] in
       EndsThreads-memory limits cycles input stop three (e.memory three)
-  | inr other ↦ EndsThreads-fault limits cycles input fault stop may other (told other)
+  | inr other ↦ EndsThreads-fault limits cycles input fault stop may other (reported other)
 ]

@@ -1,4 +1,4 @@
-mod Places
+mod Indices
 mod Marks
 mod PageLines
 mod Accounts

@@ -8,29 +8,29 @@ use Rattle.cqf_model.specs.Domain.{Domain, cycle_of}
 use Rattle.cqf_report.specs.Books.{lines_of_starts, started_fields}
 use Rattle.cqf_report.specs.Written.{line_of_fields}
 use Rattle.cqf_trace.specs.declared.trace.Mark.{Mark}
-use Rattle.cqf_trace.specs.Traces.{is_in, started_by, started_in, told_on}
+use Rattle.cqf_trace.specs.Traces.{is_in, reported_on, started_by, started_in}
 
 module _ (d : Domain) (cycle link : ℕ) where
   -- each of them is of the cycle
-  pub told_in_cycle : (marks : List Mark) → told_on d cycle link marks ≡ map (started_in cycle link) (filter (is_in d cycle) marks)
-  told_in_cycle [] = refl
-  told_in_cycle (m ∷ marks) = elim (cases_Bool (is_in d cycle m)) [
+  pub written_in_cycle : (marks : List Mark) → reported_on d cycle link marks ≡ map (started_in cycle link) (filter (is_in d cycle) marks)
+  written_in_cycle [] = refl
+  written_in_cycle (m ∷ marks) = elim (cases_Bool (is_in d cycle m)) [
     | inl here ↦
         ap (map (started_by d link)) (cond-true (is_in d cycle m) (m ∷ filter (is_in d cycle) marks) (filter (is_in d cycle) marks) here)
-        ∙ ap (λ (n : ℕ). started_in n link m ∷ told_on d cycle link marks) (eqb-true (cycle_of d m.start.0) cycle here)
-        ∙ ap (λ (xs : List Started). started_in cycle link m ∷ xs) (told_in_cycle marks)
+        ∙ ap (λ (n : ℕ). started_in n link m ∷ reported_on d cycle link marks) (eqb-true (cycle_of d m.start.0) cycle here)
+        ∙ ap (λ (xs : List Started). started_in cycle link m ∷ xs) (written_in_cycle marks)
         ∙ ap (map (started_in cycle link))
         (sym (cond-true (is_in d cycle m) (m ∷ filter (is_in d cycle) marks) (filter (is_in d cycle) marks) here))
     | inr apart ↦
         ap (map (started_by d link)) (cond-false (is_in d cycle m) (m ∷ filter (is_in d cycle) marks) (filter (is_in d cycle) marks) apart)
-        ∙ told_in_cycle marks
+        ∙ written_in_cycle marks
         ∙ ap (map (started_in cycle link))
         (sym (cond-false (is_in d cycle m) (m ∷ filter (is_in d cycle) marks) (filter (is_in d cycle) marks) apart))
   ]
 
   -- they are found in their order
-  pub told_of_own : (marks own : List Mark) → filter (is_in d cycle) marks ≡ own → map (started_in cycle link) own ≡ told_on d cycle link marks
-  told_of_own marks own is = ap (map (started_in cycle link)) (sym is) ∙ sym (told_in_cycle marks)
+  pub written_of_own : (marks own : List Mark) → filter (is_in d cycle) marks ≡ own → map (started_in cycle link) own ≡ reported_on d cycle link marks
+  written_of_own marks own is = ap (map (started_in cycle link)) (sym is) ∙ sym (written_in_cycle marks)
 
 -- the next one's line comes after those before
 pub marks_more : (what : List ℕ) (d : Domain) (f : Mark → Started) (own : List Mark) (k : ℕ) (some : Mark) (started : Started) → k < length own

@@ -1,3 +1,3 @@
 pub mod PagedBooks
-pub mod AccountTold
+pub mod AccountWritten
 pub mod ThreadsOutput

@@ -3,7 +3,7 @@ use Rattle.std.specs.Prelude.{ℕ}
 use Rattle.cqf_model.specs.Book.{Contents}
 use Rattle.cqf_model.specs.Domain.{Domain}
 use Rattle.cqf_trace.specs.declared.traces.Traces.{Traces}
-use Rattle.cqf_trace.specs.Traces.{told_from}
+use Rattle.cqf_trace.specs.Traces.{reported_from}
 
 -- traces of some cycles of a domain
 pub record ByTraces : Type 0 where
@@ -12,5 +12,5 @@ pub record ByTraces : Type 0 where
   pub traces : Traces
 
 -- the book of the traces
-abbrev pub contents_told : ByTraces → Contents
-contents_told book = told_from book.domain book.cycles book.traces
+abbrev pub contents_written : ByTraces → Contents
+contents_written book = reported_from book.domain book.cycles book.traces

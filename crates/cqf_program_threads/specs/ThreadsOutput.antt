@@ -8,7 +8,7 @@ use Rattle.cqf_model.specs.History.{Recorded}
 use Rattle.cqf_admission.specs.declared.entries.Command.{Command}
 use Rattle.cqf_program_runs.specs.Run.Output.{run_text}
 use Rattle.cqf_program_scenario.specs.Opening.{opening_history}
-use Rattle.cqf_program_scenario.specs.Parting.{AreCommandsBehind}
+use Rattle.cqf_program_scenario.specs.Parting.{AreCommandsAfter}
 use Rattle.cqf_program_scenario.specs.Scenario.{Scenario, scenario_input}
 use Rattle.cqf_output.specs.Stops.{fault_line}
 use Rattle.cqf_output.specs.declared.stops.Stop.{Stop}
@@ -23,7 +23,7 @@ use Rattle.cqf_worker.specs.declared.faults.ConductFault.TheVariants.{Memory}
 -- before the first Seal, and in it each administrator makes the calls that it has after that Seal
 pub record IsAccountOfScenario (cycles : ℕ) (s : Scenario) (entries : List Recorded) (book : Contents) : Type 0 where
   pub commands : List (List Command)
-  pub asked : AreCommandsBehind s.calls s.sealer (all_asked commands)
+  pub asked : AreCommandsAfter s.calls s.sealer (all_asked commands)
   pub is_account : IsAccountOf s.domain (opening_history s) s.offers s.background cycles (all_asked commands) entries book
 
 -- an account, by traces, of an input's scenario; and the scenario's domain
@@ -32,14 +32,14 @@ pub record IsAccountOfInput (limits : Limits) (cycles : ℕ) (input : List ℕ) 
   pub holds : scenario_input limits cycles input ≡ Ok scenario
   pub domain : d ≡ scenario.domain
   pub commands : List (List Command)
-  pub asked : AreCommandsBehind scenario.calls scenario.sealer (all_asked commands)
+  pub asked : AreCommandsAfter scenario.calls scenario.sealer (all_asked commands)
   pub is_account : IsTracedAccount d (opening_history scenario) scenario.offers scenario.background cycles commands account
 
--- a possible fault of a run of a scenario over some cycles that begins so and in which each administrator makes its
--- calls
+-- a possible fault of a run of a scenario over some cycles that begins with the history of the calls before the first
+-- Seal, and in which each administrator makes the calls that it has after that Seal
 pub record IsFaultOfScenario (cycles : ℕ) (s : Scenario) (fault : ConductFault) : Type 0 where
   pub commands : List (List Command)
-  pub asked : AreCommandsBehind s.calls s.sealer (all_asked commands)
+  pub asked : AreCommandsAfter s.calls s.sealer (all_asked commands)
   pub may : IsConductFault s.domain (opening_history s) s.offers s.background cycles commands fault
 
 -- a possible fault of a run of an input's scenario
@@ -57,20 +57,20 @@ pub record IsThreadsOutput (limits : Limits) (cycles : ℕ) (input output : List
   pub of_scenario : IsAccountOfScenario cycles scenario entries book
   pub written : output ≡ run_text scenario.domain entries book
 
--- the line is that of a possible fault of a run of the input's scenario over some cycles. A failed allocation outside a
--- bridge has no such line
-pub record TellsFault (cycles : ℕ) (found : Result Scenario (List ℕ)) (line : List ℕ) : Type 0 where
+-- the line is that of a possible fault of a run of the input's scenario over some cycles. A failed allocation has no
+-- such line
+pub record WritesFault (cycles : ℕ) (found : Result Scenario (List ℕ)) (line : List ℕ) : Type 0 where
   pub scenario : Scenario
   pub holds : found ≡ Ok scenario
   pub fault : ConductFault
   pub of_scenario : IsFaultOfScenario cycles scenario fault
   pub other : fault ≢ Memory
-  pub tells : line ≡ fault_line (codes "run") (conduct_fault_text fault)
+  pub reports : line ≡ fault_line (codes "run") (conduct_fault_text fault)
 
 -- how it ends without an account: with status 1 and the line of the input's first fault, with status 4 and the line of
--- the run's fault, or with status 3 for lack of memory
+-- the run's fault, or with status 3 because an allocation failed
 pub record EndsThreads (limits : Limits) (cycles : ℕ) (input : List ℕ) (stop : Stop) : Type 0 where
   pub statuses : (stop.status ≡ 1) ⊎ ((stop.status ≡ 3) ⊎ (stop.status ≡ 4))
   pub refused : stop.status ≡ 1 → scenario_input limits cycles input ≡ Err stop.text.items
-  pub fault : stop.status ≡ 4 → TellsFault cycles (scenario_input limits cycles input) stop.text.items
+  pub fault : stop.status ≡ 4 → WritesFault cycles (scenario_input limits cycles input) stop.text.items
   pub memory : stop.status ≡ 3 → stop.text.items ≡ []

@@ -1,7 +1,7 @@
 //! A book, given by its traces.
 ghost use Rattle.std.specs.Prelude.{◌≡◌, ◌≤◌};
 ghost use Rattle.cqf_model.specs.Limits.{most_cycles};
-ghost use Rattle.cqf_trace.specs.Traces.{MayBeTold};
+ghost use Rattle.cqf_trace.specs.Traces.{MayBeReported};
 
 use cqf_topology::Domain;
 use cqf_trace::Traces;
@@ -18,21 +18,22 @@ pub struct PagedBook {
 impl Model for PagedBook {
     ghost use Rattle.std.specs.Prelude.{◌≤◌};
     ghost use Rattle.cqf_model.specs.Limits.{most_cycles};
-    ghost use Rattle.cqf_trace.specs.Traces.{MayBeTold};
+    ghost use Rattle.cqf_trace.specs.Traces.{MayBeReported};
     ghost use Rattle.cqf_program_threads.specs.PagedBooks.{ByTraces};
 
     ghost Value = { ByTraces };
 
     ghost view = { λ book. record { domain = book.domain; cycles = book.cycles; traces = book.traces } };
 
-    ghost invariant = { λ book. (book.cycles ≤ most_cycles) × MayBeTold book.domain book.traces };
+    ghost invariant = { λ book. (book.cycles ≤ most_cycles) × MayBeReported book.domain book.traces };
 }
 
 impl PagedBook {
-    /// Makes the book of `cycles` cycles of the domain with these traces.
+    /// Returns the book of `cycles` cycles of the domain, at most 100,000, with these traces. On each trace the
+    /// transmissions are in order of instant.
     pub fn new(domain: Domain, cycles: u32, traces: Traces) -> PagedBook
         requires few { cycles ≤ most_cycles }
-        requires traces { MayBeTold domain traces }
+        requires traces { MayBeReported domain traces }
         ensures { result ≡ record { domain = domain; cycles = cycles; traces = traces } }
     {
         PagedBook {
@@ -60,7 +61,7 @@ impl PagedBook {
     /// Returns the traces.
     pub(crate) fn traces(&self) -> &Traces
         ensures value { result.now ≡ self.now.traces }
-        ensures may { MayBeTold self.now.domain result.now }
+        ensures may { MayBeReported self.now.domain result.now }
     {
         &self.traces
     }

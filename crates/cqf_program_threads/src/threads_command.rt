@@ -1,24 +1,24 @@
 //! The command `run` with `--threads`: the history and the book of an account.
 ghost use Rattle.std.specs.Prelude.{◌≡◌, ◌≢◌, ◌≤◌, ◌++◌, [], IfErr, IfOk, codes, map, string_bytes};
 ghost use Rattle.cqf_admission.specs.Admission.{recorded_of};
-ghost use Rattle.cqf_output.specs.Edge.{HasTold, writing};
+ghost use Rattle.cqf_output.specs.Edge.{IsWritten, writing};
 ghost use Rattle.cqf_output.specs.Writer.{Puts};
 ghost use Rattle.cqf_report.specs.Books.{text_of_book};
 ghost use Rattle.cqf_program_runs.specs.Run.Output.{run_text};
 ghost use Rattle.cqf_program_scenario.specs.Opening.{IsOpenedInput};
 ghost use Rattle.cqf_output.specs.Stops.{EndsWith, fault_line, line_of};
 ghost use Rattle.cqf_worker.specs.Faults.{conduct_fault_text};
-ghost use Rattle.cqf_program_threads.specs.AccountTold.{text_of_account};
-ghost use Rattle.cqf_program_threads.specs.PagedBooks.{contents_told};
+ghost use Rattle.cqf_program_threads.specs.AccountWritten.{text_of_account};
+ghost use Rattle.cqf_program_threads.specs.PagedBooks.{contents_written};
 ghost use Rattle.cqf_program_threads.specs.ThreadsOutput.{EndsThreads, IsAccountOfInput, IsFaultOfInput, IsThreadsOutput};
 ghost use Rattle.cqf_model.specs.Limits.{most_cycles};
 
 use crate::threads_outputs::ThreadsOutput;
 use crate::{PagedBook, put_paged_book};
 use cqf_admission::Entry;
-use cqf_laws_account::traces_tell_the_book;
+use cqf_laws_account::traces_give_the_book;
 use cqf_model::Limits;
-use cqf_output::{Buffer, FAULT, Sink, Stop, Told, Writer};
+use cqf_output::{Buffer, CheckedSink, FAULT, Sink, Stop, Writer};
 use cqf_program_scenario::{Opened, read_opened};
 use cqf_report::put_history;
 use cqf_topology::Domain;
@@ -38,7 +38,7 @@ fn fault_line_of(alloc: Global, fault: ConductFault) -> Result<String, AllocErro
 
 /// Returns the stop of a run that has a fault.
 fn fault_stop(alloc: Global, fault: ConductFault) -> Stop
-    ensures told { fault ≢ ConductFault.Memory → EndsWith 4 (fault_line (codes "run") (conduct_fault_text fault)) result }
+    ensures reported { fault ≢ ConductFault.Memory → EndsWith 4 (fault_line (codes "run") (conduct_fault_text fault)) result }
     ensures memory { fault ≡ ConductFault.Memory → EndsWith 3 [] result }
 {
     match fault {
@@ -86,7 +86,7 @@ fn conduct_opened(
 
 /// Puts a line `%%`, followed by the text of the book of the traces.
 fn put_rest<W: Sink>(writer: &mut Writer<'_, W>, book: &PagedBook)
-    ensures { Puts W.contents writer.old writer.new (line_of (codes "%%") ++ text_of_book book.now.domain (contents_told book.now)) }
+    ensures { Puts W.contents writer.old writer.new (line_of (codes "%%") ++ text_of_book book.now.domain (contents_written book.now)) }
 {
     writer.put(b"%%\n");
     put_paged_book(writer, book);
@@ -94,7 +94,7 @@ fn put_rest<W: Sink>(writer: &mut Writer<'_, W>, book: &PagedBook)
 
 /// Puts the texts of a history and of the book of the traces, separated by a line `%%`.
 fn put_account<W: Sink>(writer: &mut Writer<'_, W>, history: &[Entry], book: &PagedBook)
-    ensures { Puts W.contents writer.old writer.new (run_text book.now.domain (map recorded_of history.now) (contents_told book.now)) }
+    ensures { Puts W.contents writer.old writer.new (run_text book.now.domain (map recorded_of history.now) (contents_written book.now)) }
 {
     put_history(writer, history);
     put_rest(writer, book);
@@ -103,18 +103,18 @@ fn put_account<W: Sink>(writer: &mut Writer<'_, W>, history: &[Entry], book: &Pa
 impl ThreadsOutput {
     /// Writes the output: a history of the input's scenario, a line `%%`, and the one-thread book of that history.
     /// Allocates no memory and sorts nothing.
-    pub fn tell<W: Sink>(self, told: &mut Told<W>)
-        ensures { HasTold (writing W.contents told.old told.new) (text_of_account self) }
+    pub fn write<W: Sink>(self, reported: &mut CheckedSink<W>)
+        ensures { IsWritten (writing W.contents reported.old reported.new) (text_of_account self) }
     {
         let ThreadsOutput {
             history,
             book,
             buffer,
         } = self;
-        let mut writer = Writer::new(told, buffer);
+        let mut writer = Writer::new(reported, buffer);
         let history = history.entries.as_slice();
         put_account(&mut writer, history, &book);
-        let _told = writer.close();
+        let _written = writer.close();
     }
 }
 
@@ -128,8 +128,8 @@ impl ThreadsOutput {
 ///
 /// # Errors
 /// With status 1 and the line of the first fault of the input: of its parts, the domain, the streams, the script, the
-/// offers, or the background frames. With status 4 and the line `cqf: run: FAULT` if the run has a fault; this includes
-/// a failed allocation in a bridge. With status 3 if an allocation fails elsewhere. Then nothing of the run is kept.
+/// offers, or the background frames. With status 4 and the line `cqf: run: FAULT` if the run has a fault other than a
+/// failed allocation. With status 3 if an allocation fails. Then nothing of the run is kept.
 pub fn threads_output(
     rt: &(impl Threads + Wait + Sync),
     alloc: Global,
@@ -145,7 +145,7 @@ pub fn threads_output(
         Ok(opened) => opened,
         Err(stop) => return Err(stop),
     };
-    traces_tell_the_book();
+    traces_give_the_book();
     let (domain, account) = match conduct_opened(rt, alloc, limits, cycles, input, opened) {
         Ok(ran) => ran,
         Err(fault) => return Err(fault_stop(alloc, fault)),

@@ -20,7 +20,7 @@ use Rattle.cqf_network_text.specs.Networks.{array_at, table_of}
 use Rattle.cqf_network_text.proofs.CycleChosen.{domain_has_table}
 use Rattle.cqf_program_plans.specs.Compile.Output.{admitted_from, stream_line, with_asked}
 use Rattle.cqf_program_offers.specs.OffersOutput.{asked_in}
-use Rattle.cqf_program_planning.specs.PlanLaws.{ToldPlanIsAdmitted}
+use Rattle.cqf_program_planning.specs.PlanLaws.{WrittenPlanIsAdmitted}
 use Rattle.cqf_program_planning.proofs.Inputs.{parts_read}
 use Rattle.cqf_program_planning.proofs.Tried.{tried_known}
 use Rattle.cqf_program_words.specs.declared.links.LinkName.{LinkName}
@@ -50,11 +50,11 @@ has_none limits given links text left network shallow is read = by (table_of tex
   where
     by : (o : Option Members) → table_of text ≡ o → IsTextOfTable o links text left → HasNone links left
     by None none same = absurd (no_table text left none same (domain_has_table limits given left network read))
-    by (Some members) at told =
+    by (Some members) at reported =
         let left_members = without_links links members in
         record {
           members = left_members;
-          table = told (shallow members at);
+          table = reported (shallow members at);
           none = λ name there. subst (λ (n : LinkName). is_among n (array_at (key_text Links) left_members) ≡ false) there.2
               (links_are_out links members there.0 name there.1);
         }
@@ -84,18 +84,18 @@ networks_lack_links limits given links text left network shallow is read =
 
 -- streams that are admitted one after the other use none of them
 each_unused : (network : NetworkDomain) (cycle : ℕ) (links : List LinkName) (test : LinkName → Bool) → HasNamedLinks test network →
-    ((name : LinkName) → Contains links name → test name ≡ false) → (entries : List Recorded) (place : ℕ) (flows : List FlowText) (end : List Recorded) →
-    admitted_from (domain_at network cycle) entries place (map asked_in flows) ≡ Ok end → All (λ (flow : FlowText). pass_any links flow.0.0.paths ≡ false) flows
-each_unused network cycle links test named out entries place [] end admitted = All-nil (λ (flow : FlowText). pass_any links flow.0.0.paths ≡ false)
-each_unused network cycle links test named out entries place (flow ∷ flows) end admitted =
+    ((name : LinkName) → Contains links name → test name ≡ false) → (entries : List Recorded) (index : ℕ) (flows : List FlowText) (end : List Recorded) →
+    admitted_from (domain_at network cycle) entries index (map asked_in flows) ≡ Ok end → All (λ (flow : FlowText). pass_any links flow.0.0.paths ≡ false) flows
+each_unused network cycle links test named out entries index [] end admitted = All-nil (λ (flow : FlowText). pass_any links flow.0.0.paths ≡ false)
+each_unused network cycle links test named out entries index (flow ∷ flows) end admitted =
     let d = domain_at network cycle in
     let rows = held_in d entries (seals entries) in
-    let (granted, more) = refuse-Ok (refusal_of d rows (asked_in flow)) (stream_line place)
-    (admitted_from d (with_asked d entries (asked_in flow)) (place + 1) (map asked_in flows)) end admitted in
+    let (granted, more) = refuse-Ok (refusal_of d rows (asked_in flow)) (stream_line index)
+    (admitted_from d (with_asked d entries (asked_in flow)) (index + 1) (map asked_in flows)) end admitted in
     All-cons (λ (one : FlowText). pass_any links one.0.0.paths ≡ false) flow flows (none_used network cycle test named links rows (asked_in flow) out granted)
-    (each_unused network cycle links test named out (with_asked d entries (asked_in flow)) (place + 1) flows end more)
+    (each_unused network cycle links test named out (with_asked d entries (asked_in flow)) (index + 1) flows end more)
 
-pub plans_use_no_link_out : ToldPlanIsAdmitted → PlansUseNoLinkOut
+pub plans_use_no_link_out : WrittenPlanIsAdmitted → PlansUseNoLinkOut
 plans_use_no_link_out sound limits search given links domain domain_left streams_left text source shallow is e plan =
     let parts = parts_read limits given domain_left streams_left source e in
     let planned = plan.planned in

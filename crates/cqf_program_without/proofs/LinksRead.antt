@@ -21,13 +21,13 @@ use Rattle.cqf_topology.specs.declared.keys.Key.{Key}
 use Rattle.cqf_topology.specs.declared.keys.Key.TheVariants as key
 use Rattle.cqf_topology.specs.declared.toml_faults.TomlFault.{TomlFault}
 use Rattle.cqf_topology.specs.declared.toml_faults.TomlFault.TheVariants.{BadValue}
-use Rattle.cqf_topology.specs.DomainText.{first_taken, if_some, link_keys, sync_from, with_front}
+use Rattle.cqf_topology.specs.DomainText.{first_taken, if_some, link_keys, overhead_from, sync_from, with_front}
 use Rattle.cqf_topology.specs.Fields.{are_tables, if_name, key_text, name_from, names_at, number_from, read_at, value_at, whole_document}
 use Rattle.cqf_topology.specs.LinkTimes.{times_read}
 use Rattle.cqf_topology.proofs.Refusals.{and_then-Ok, and_then-Some, ok_or-Ok, refuse-Ok}
 use Rattle.cqf_network.specs.declared.domain.TalkerLink.{TalkerLink}
 use Rattle.cqf_network.specs.declared.draft.NetworkLink.{NetworkLink}
-use Rattle.cqf_network.specs.declared.draft.OneWay.{OneWay}
+use Rattle.cqf_network.specs.declared.draft.OneDirection.{OneDirection}
 use Rattle.cqf_network.specs.declared.faults.NetworkFault.{NetworkFault}
 use Rattle.cqf_network.specs.declared.faults.NetworkFault.TheVariants as fault
 use Rattle.cqf_network.specs.Edges.{Edge, back_of as back_edge, edges_of, end_named, is_station, is_talkers, joined, joined_edge, may_lead, talkers_of}
@@ -36,7 +36,7 @@ use Rattle.cqf_network.specs.Faults.{network_fault, or_network}
 use Rattle.cqf_network.specs.NetworkDomain.{NetworkDomain, bridge_edges, checked, link_of, name_taken, network_with, number_of, open_network_of_text, talker_of}
 use Rattle.cqf_network.specs.NetworkDomain.{with_edges, with_names}
 use Rattle.cqf_network.specs.NetworkText.{NetworkText, candidates_read, draft_from, draft_of_text, duplex_at, duplex_by, link_read, links_from, links_of_array, links_read, network_keys}
-use Rattle.cqf_network.specs.NetworkText.{network_with_cycles, one_way_read, other_at}
+use Rattle.cqf_network.specs.NetworkText.{network_with_cycles, one_direction_read, other_at}
 use Rattle.cqf_network.proofs.StreamParts.{and_first-Ok, map_both-Ok}
 use Rattle.cqf_network_text.specs.Networks.{array_at, array_or_none, table_of}
 use Rattle.cqf_network_text.proofs.TablesRead.{table_is, whole_parts}
@@ -83,9 +83,9 @@ both_named element from to at_from at_to link f t =
     (λ i. has_name key.From (f i) element && has_name key.To (t i) element)
     ∙ and_from (has_name key.From from element) (has_name key.To to element) at_from at_to
 
-way_named : (element : Members) (there : OneWay) → one_way_read element ≡ Ok there → (link : LinkName) → link.from ≡ there.from → link.to ≡ there.to →
+path_named : (element : Members) (there : OneDirection) → one_direction_read element ≡ Ok there → (link : LinkName) → link.from ≡ there.from → link.to ≡ there.to →
     is_along link element ≡ true
-way_named element there read link f t =
+path_named element there read link f t =
     let (from, is_from, more) = and_then-Ok (read_at key.From name_from element) _ there read in
     let (to, is_to, last) = and_then-Ok (read_at key.To name_from element) _ there more in
     let (times, is_times, made) = and_then-Ok (times_read element) _ there last in
@@ -98,14 +98,14 @@ or_network-Ok r x e = map_both-Ok network_fault r x e
 
 link_is_read : (element : Members) (one : NetworkLink) → link_read element ≡ Ok one → IsReadAs element one
 link_is_read element one read =
-    let (there, is_there, more) = and_then-Ok (or_network (one_way_read element)) _ one read in
+    let (there, is_there, more) = and_then-Ok (or_network (one_direction_read element)) _ one read in
     let (duplex, is_duplex, last) = and_then-Ok (duplex_at element) _ one more in
     let (other, is_other, made) = and_then-Ok (other_at element) _ one last in
-    let way : there ≡ one.there = cc in
+    let path : there ≡ one.there = cc in
     let both : duplex ≡ one.duplex = cc in
     record {
-      along = λ link f t. way_named element there (or_network-Ok (one_way_read element) there is_there) link (f ∙ ap (λ (w : OneWay). w.from) (sym way))
-          (t ∙ ap (λ (w : OneWay). w.to) (sym way));
+      along = λ link f t. path_named element there (or_network-Ok (one_direction_read element) there is_there) link (f ∙ ap (λ (w : OneDirection). w.from) (sym path))
+          (t ∙ ap (λ (w : OneDirection). w.to) (sym path));
       duplex = duplex_is element duplex is_duplex ∙ both;
     }
 
@@ -127,9 +127,9 @@ module _ (bridges stations : List (List ℕ)) where
       record { link = led.link; passes_test = more led.link led.passes_test; from_is = led.from_is; to_is = led.to_is; one_station = led.one_station }
 
   -- the ends of an edge that is joined
-  record HasEnds (way : OneWay) (edge : Edge) : Type 0 where
-    from_is : end_named bridges stations way.from ≡ Some edge.from
-    to_is : end_named bridges stations way.to ≡ Some edge.to
+  record HasEnds (path : OneDirection) (edge : Edge) : Type 0 where
+    from_is : end_named bridges stations path.from ≡ Some edge.from
+    to_is : end_named bridges stations path.to ≡ Some edge.to
     one_station : (is_station edge.from && is_station edge.to) ≡ false
 
   not_both : (from to : Node) → may_lead from to ≡ true → (is_station from && is_station to) ≡ false
@@ -137,27 +137,27 @@ module _ (bridges stations : List (List ℕ)) where
   not_both (Station s) (Bridge b) may = refl
   not_both (Station s) (Station t) may = absurd cc
 
-  ends_found : (number : ℕ) (other : Option ℕ) (way : OneWay) (edge : Edge) → joined_edge bridges stations number other way ≡ Ok edge → HasEnds way edge
-  ends_found number other way edge e =
-      let (from, from_is, rest) = and_then-Ok (ok_or (end_named bridges stations way.from) (fault.Domain (domain.UnknownName way.from))) _ edge e in
-      let (to, to_is, last) = and_then-Ok (ok_or (end_named bridges stations way.to) (fault.Domain (domain.UnknownName way.to))) _ edge rest in
-      by from to (may_lead from to) refl (ok_or-Ok _ (fault.Domain (domain.UnknownName way.from)) from from_is)
-      (ok_or-Ok _ (fault.Domain (domain.UnknownName way.to)) to to_is) last
+  ends_found : (number : ℕ) (other : Option ℕ) (path : OneDirection) (edge : Edge) → joined_edge bridges stations number other path ≡ Ok edge → HasEnds path edge
+  ends_found number other path edge e =
+      let (from, from_is, rest) = and_then-Ok (ok_or (end_named bridges stations path.from) (fault.Domain (domain.UnknownName path.from))) _ edge e in
+      let (to, to_is, last) = and_then-Ok (ok_or (end_named bridges stations path.to) (fault.Domain (domain.UnknownName path.to))) _ edge rest in
+      by from to (may_lead from to) refl (ok_or-Ok _ (fault.Domain (domain.UnknownName path.from)) from from_is)
+      (ok_or-Ok _ (fault.Domain (domain.UnknownName path.to)) to to_is) last
     where
-      by : (from to : Node) (may : Bool) → may_lead from to ≡ may → end_named bridges stations way.from ≡ Some from → end_named bridges stations way.to ≡ Some to →
-          cond may (Ok (record { from = from; to = to; times = way.times; other = other; element = number })) (Err (fault.Domain (domain.UnknownName way.to))) ≡ Ok edge →
-          HasEnds way edge
+      by : (from to : Node) (may : Bool) → may_lead from to ≡ may → end_named bridges stations path.from ≡ Some from → end_named bridges stations path.to ≡ Some to →
+          cond may (Ok (record { from = from; to = to; times = path.times; other = other; element = number })) (Err (fault.Domain (domain.UnknownName path.to))) ≡ Ok edge →
+          HasEnds path edge
       by from to true is a b found =
-          let made : Edge = record { from = from; to = to; times = way.times; other = other; element = number } in
+          let made : Edge = record { from = from; to = to; times = path.times; other = other; element = number } in
           let same : made ≡ edge = cc in
-          subst (HasEnds way) same (record { from_is = a; to_is = b; one_station = not_both from to is })
+          subst (HasEnds path) same (record { from_is = a; to_is = b; one_station = not_both from to is })
       by from to false is a b found = absurd cc
 
   -- both directions of an edge
-  ways_led : (test : LinkName → Bool) (duplex : Bool) (edge : Edge) → IsLedBy test edge → (duplex ≡ true → IsLedBy test (back_edge edge)) →
+  paths_led : (test : LinkName → Bool) (duplex : Bool) (edge : Edge) → IsLedBy test edge → (duplex ≡ true → IsLedBy test (back_edge edge)) →
       All (IsLedBy test) (edges_of duplex edge)
-  ways_led test false edge there back = All-cons (IsLedBy test) edge [] there (All-nil (IsLedBy test))
-  ways_led test true edge there back = by (is_talkers (back_edge edge)) (back refl)
+  paths_led test false edge there back = All-cons (IsLedBy test) edge [] there (All-nil (IsLedBy test))
+  paths_led test true edge there back = by (is_talkers (back_edge edge)) (back refl)
     where
       two : (a b : Edge) → IsLedBy test a → IsLedBy test b → All (IsLedBy test) (a ∷ b ∷ [])
       two a b first second = All-cons (IsLedBy test) a (b ∷ []) first (All-cons (IsLedBy test) b [] second (All-nil (IsLedBy test)))
@@ -178,7 +178,7 @@ module _ (bridges stations : List (List ℕ)) where
       let there : LinkName = record { from = one.there.from; to = one.there.to } in
       let back : LinkName = record { from = one.there.to; to = one.there.from } in
       let along : is_along there element ≡ true = is.along there refl refl in
-      ways_led (λ link. is_direction link element) one.duplex edge
+      paths_led (λ link. is_direction link element) one.duplex edge
       (record {
         link = there;
         passes_test = ap (λ b. b || (is_duplex element && is_along (back_of there) element)) along;
@@ -332,7 +332,8 @@ links_drafted limits given text members draft is e =
     let (candidates, a, h0) = and_then-Ok (or_network (candidates_read given table)) (network_with_cycles limits table) draft from in
     let (guard, b, h1) = and_then-Ok (or_network (read_at key.Guard (number_from 1 10000000) table)) _ draft h0 in
     let (sync, c, h2) = and_then-Ok (or_network (sync_from table)) _ draft h1 in
-    let (bridges, f, h3) = and_then-Ok (or_network (and_then (names_at key.Bridges table) (if_some key.Bridges))) _ draft h2 in
+    let (overhead, o, following) = and_then-Ok (or_network (overhead_from table)) _ draft h2 in
+    let (bridges, f, h3) = and_then-Ok (or_network (and_then (names_at key.Bridges table) (if_some key.Bridges))) _ draft following in
     let (stations, g, h4) = and_then-Ok (or_network (names_at key.Stations table)) _ draft h3 in
     let (links, read, made) = and_then-Ok (links_read table) _ draft h4 in
     ap (λ t. links_from (array_at (key_text key.Links) t)) (sym same) ∙ links_are_read table links read ∙ ap (λ ls. Ok ls) (ok_links _ draft made)

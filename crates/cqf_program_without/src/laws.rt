@@ -1,7 +1,7 @@
 //! Laws: the links are out.
 ghost use Rattle.cqf_program_without.specs.OutLaws.{LinksAreOut, NetworksLackLinks, PlansUseNoLinkOut};
 
-use cqf_program_planning::told_plan_is_admitted;
+use cqf_program_planning::written_plan_is_admitted;
 
 /// Law: none of the links is left in the tables of a network file without them, as a direction of any element of its array of links.
 pub fn links_are_out()
@@ -19,5 +19,5 @@ pub fn networks_lack_links()
 pub fn plans_use_no_link_that_is_out()
     ensures { PlansUseNoLinkOut }
 {
-    told_plan_is_admitted();
+    written_plan_is_admitted();
 }

@@ -103,7 +103,7 @@ fn leaves_station(stations: &[Value], element: &Table) -> bool
 }
 
 /// Writes an element in its opposite direction. Fails only if an allocation fails.
-fn turn(alloc: Global, element: &mut Table) -> Result<(), Memory>
+fn reverse(alloc: Global, element: &mut Table) -> Result<(), Memory>
     ensures { OnOk result (table_view element.new ≡ turned (table_view element.old)) }
 {
     exchange(alloc, element, Key::From.as_str(), Key::To.as_str())?;
@@ -149,7 +149,7 @@ fn both_left(
         if back {
             return Ok(None);
         }
-        turn(alloc, &mut element)?;
+        reverse(alloc, &mut element)?;
         keep_alone(stations, &mut element);
         return Ok(Some(element));
     }
@@ -229,8 +229,8 @@ pub(crate) fn links_left(
     ensures { IfOk result (λ all. view all ≡ array (links_left links.now (items_view stations.now) (items_view values.now))) }
 {
     let mut all = Vec::new(alloc);
-    for place in 0..values.len() {
-        let left = item_left(alloc, links, stations, &values[place])?;
+    for index in 0..values.len() {
+        let left = item_left(alloc, links, stations, &values[index])?;
         put_some(&mut all, left)?;
     }
     Ok(Value::Array(all))

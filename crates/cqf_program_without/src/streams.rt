@@ -38,8 +38,8 @@ fn begins_along(link: &LinkName, path: &[String]) -> bool
 fn passes(link: &LinkName, path: &[String]) -> bool
     ensures { result ≡ passes link.now (map string_bytes path.now) }
 {
-    for place in 0..path.len() {
-        if begins_along(link, &path[place..]) {
+    for index in 0..path.len() {
+        if begins_along(link, &path[index..]) {
             return true;
         }
     }

@@ -19,12 +19,12 @@ pub lengthens_twice : (old new newer : List ℕ) → Lengthens old new → Lengt
 lengthens_twice old new newer first second = lengthens_more old new newer second.more first second.is
 
 -- a line of three texts after its beginning
-pub line_of_three : (line before shown behind text : List ℕ) → line ≡ codes "cqf: words: " ++ (before ++ (shown ++ (behind ++ 10 ∷ [])))
-    → before ++ (shown ++ behind) ≡ text → line ≡ line_of (codes "cqf: words: " ++ text)
-line_of_three line before shown behind text is told =
+pub line_of_three : (line before shown following text : List ℕ) → line ≡ codes "cqf: words: " ++ (before ++ (shown ++ (following ++ 10 ∷ [])))
+    → before ++ (shown ++ following) ≡ text → line ≡ line_of (codes "cqf: words: " ++ text)
+line_of_three line before shown following text is reported =
     let feed : List ℕ = 10 ∷ [] in
-    let inner : shown ++ (behind ++ feed) ≡ (shown ++ behind) ++ feed = sym (append_assoc shown behind feed) in
-    let outer : before ++ (shown ++ (behind ++ feed)) ≡ (before ++ (shown ++ behind)) ++ feed =
-    ap (λ (t : List ℕ). before ++ t) inner ∙ sym (append_assoc before (shown ++ behind) feed) in
-    is ∙ ap (λ (t : List ℕ). codes "cqf: words: " ++ t) (outer ∙ ap (λ (t : List ℕ). t ++ feed) told)
+    let inner : shown ++ (following ++ feed) ≡ (shown ++ following) ++ feed = sym (append_assoc shown following feed) in
+    let outer : before ++ (shown ++ (following ++ feed)) ≡ (before ++ (shown ++ following)) ++ feed =
+    ap (λ (t : List ℕ). before ++ t) inner ∙ sym (append_assoc before (shown ++ following) feed) in
+    is ∙ ap (λ (t : List ℕ). codes "cqf: words: " ++ t) (outer ∙ ap (λ (t : List ℕ). t ++ feed) reported)
     ∙ sym (append_assoc (codes "cqf: words: ") text feed)

@@ -23,16 +23,16 @@ lacks byte digits other all i inside is =
     absurd (cc)
 
 -- what follows the first dot of a range; and the same with that dot
-abbrev pub behind_dot : Text → Text → Text
-behind_dot to step = 46 ∷ (to ++ (codes "/" ++ step))
+abbrev pub after_dot : Text → Text → Text
+after_dot to step = 46 ∷ (to ++ (codes "/" ++ step))
 
-abbrev pub behind_two : Text → Text → Text
-behind_two to step = 46 ∷ behind_dot to step
+abbrev pub after_two : Text → Text → Text
+after_two to step = 46 ∷ after_dot to step
 
 -- the first dot of a range follows its first text
 pub dot_cut : (word from to step : Text) (r : Option (Bor (List ℕ) × Bor (List ℕ))) → IsSplitOnceResult 46 word r → word ≡ range_word from to step →
-    list_all is_ascii_digit from ≡ true → MatchOption r ⊥ (λ x. (x.0.now ≡ from) × (x.1.now ≡ behind_dot to step))
-dot_cut word from to step r cut is digits = split_after 46 word from (behind_dot to step) r cut (omega arith) is (lacks 46 from refl digits)
+    list_all is_ascii_digit from ≡ true → MatchOption r ⊥ (λ x. (x.0.now ≡ from) × (x.1.now ≡ after_dot to step))
+dot_cut word from to step r cut is digits = split_after 46 word from (after_dot to step) r cut (omega arith) is (lacks 46 from refl digits)
 
 -- and the first slash after the dots follows its second text
 pub slash_cut : (others to step : Text) (r : Option (Bor (List ℕ) × Bor (List ℕ))) → IsSplitOnceResult 47 others r → others ≡ to ++ (codes "/" ++ step) →
@@ -48,11 +48,11 @@ pub at_none : {A : Type 0} (r : Option A) (N : Type 0) (P : A → Type 0) → r 
 at_none {A = A} r N P is h = let Q : Option A → Type 0 = λ v. MatchOption v N P in subst Q is h
 
 -- what follows the first of two dots; nothing if another byte follows
-pub second_dot : (behind rest : Text) (r : Option (Bor (List ℕ))) → MatchOption r ((more : Text) → behind ≢ 46 ∷ more) (λ x. behind ≡ 46 ∷ x.now) →
-    behind ≡ 46 ∷ rest →
+pub second_dot : (following rest : Text) (r : Option (Bor (List ℕ))) → MatchOption r ((more : Text) → following ≢ 46 ∷ more) (λ x. following ≡ 46 ∷ x.now) →
+    following ≡ 46 ∷ rest →
     MatchOption r ⊥ (λ x. x.now ≡ rest)
-second_dot behind rest None none is = none rest is
-second_dot behind rest (Some x) some is = ap (drop 1) (sym some ∙ is)
+second_dot following rest None none is = none rest is
+second_dot following rest (Some x) some is = ap (drop 1) (sym some ∙ is)
 
 -- a text that writes a number has the form of one
 written_form : (form : Bool) (least most value number : ℕ) → option_and_then (in_range least most) (cond form (Some value) None) ≡ Some number → form ≡ true
@@ -69,8 +69,8 @@ digits_of least most number text is = digits_by_form text (written_form (is_deci
 -- a range isn't a number
 pub range_no_number : (word from to step : Text) (least most number : ℕ) → word ≡ range_word from to step → decimal_in least most word ≡ Some number → ⊥
 range_no_number word from to step least most number is written =
-    let dot : get_or (from ++ behind_two to step) (length from) 0 ≡ 46 = get_or-append_seam from 46 (behind_dot to step) 0 in
-    let inside : length from < length word = rw is (omega (arith, length-append from (behind_two to step))) in
+    let dot : get_or (from ++ after_two to step) (length from) 0 ≡ 46 = get_or-append_seam from 46 (after_dot to step) 0 in
+    let inside : length from < length word = rw is (omega (arith, length-append from (after_two to step))) in
     lacks 46 word refl (digits_of least most number word written) (length from) inside (ap (λ (w : Text). get_or w (length from) 0) is ∙ dot)
 
 -- candidates by other texts of the same range are candidates by these

@@ -24,7 +24,7 @@ use Rattle.cqf_program_words.specs.Candidates.{AreNamed}
 use Rattle.cqf_program_words.specs.Commands.{cqf_app}
 use Rattle.cqf_program_words.specs.Mistakes.{mistake_of}
 use Rattle.cqf_program_words.specs.Words.{app_for, ask_for_large, rate_text, IsJob, IsFormat, IsFormatOf, IsFreeIn, IsJobOf, IsNumberIn, AreGiven, ArePlanOptions}
-use Rattle.cqf_program_words.specs.Words.{Mean, AskForHelp, EndsBy, EndsWords, TellsMistake}
+use Rattle.cqf_program_words.specs.Words.{Mean, AskForHelp, EndsBy, EndsWords, WritesMistake}
 
 -- an option whose parser was set has the same rule except for the parser
 pub with_parser : (before after : Arg) (rule : Rule) (parser : ValueParser) → after ≡ record before { value_parser = after.value_parser } →
@@ -293,9 +293,9 @@ Mean-by_matches app words matches job same taken has is_job =
     }
 
 -- words that mean no job end so too if the stop is given another text
-pub EndsWords-told : (words : List Text) (stop told : Stop) → EndsWords words stop → (told.status ≡ stop.status) ⊎ (told.status ≡ 3)
-    → (told.status ≡ 3 → told.text.items ≡ []) → EndsWords words told
-EndsWords-told words stop told e (inl same) memory = record {
+pub EndsWords-reported : (words : List Text) (stop reported : Stop) → EndsWords words stop → (reported.status ≡ stop.status) ⊎ (reported.status ≡ 3)
+    → (reported.status ≡ 3 → reported.text.items ≡ []) → EndsWords words reported
+EndsWords-reported words stop reported e (inl same) memory = record {
   statuses = elim e.statuses [
     | inl zero_is ↦ inl (same ∙ zero_is)
     | inr other ↦
@@ -306,7 +306,7 @@ EndsWords-told words stop told e (inl same) memory = record {
   mistake = λ two. e.mistake (sym same ∙ two);
   memory = memory;
 }
-EndsWords-told words stop told e (inr three) memory = record {
+EndsWords-reported words stop reported e (inr three) memory = record {
   statuses = inr (inr three);
   no_job = λ known. absurd (known three);
   help = λ zero_is. absurd (omega arith);
@@ -315,25 +315,25 @@ EndsWords-told words stop told e (inr three) memory = record {
 }
 
 -- if clap takes the words, its matches say which command they name, with which values
-pub TellsMistake-by_matches : (app : App) (words : List Text) (matches : ArgMatches) (stop : Stop) → app ≡ app_for words → HasMatchesOf app words matches →
-    EndsWith 2 (line_of (codes "cqf: words: " ++ mistake_of (subcommand_rows_of matches))) stop → TellsMistake words stop
-TellsMistake-by_matches app words matches stop same has ends = λ taken two.
+pub WritesMistake-by_matches : (app : App) (words : List Text) (matches : ArgMatches) (stop : Stop) → app ≡ app_for words → HasMatchesOf app words matches →
+    EndsWith 2 (line_of (codes "cqf: words: " ++ mistake_of (subcommand_rows_of matches))) stop → WritesMistake words stop
+WritesMistake-by_matches app words matches stop same has ends = λ taken two.
     let rows : subcommand_rows_of matches ≡ subcommand_of (app_for words) words = (has (ap is_simple same ∙ simple_app (ask_for_large words))).1 ∙ ap (λ (a : App). subcommand_of a words) same in
     ends.line_is two ∙ ap (λ (r : Option (Text × List Row)). line_of (codes "cqf: words: " ++ mistake_of r)) rows
 
 -- if clap refuses the words, it doesn't take them
-pub TellsMistake-by_error : (app : App) (words : List Text) (error : Error) (stop : Stop) → app ≡ app_for words →
-    (is_simple_and_free app ≡ true → HasKind (fault_of app words) error) → EndsBy (kind_of error) stop → TellsMistake words stop
-TellsMistake-by_error app words error stop same fails e = λ taken two.
+pub WritesMistake-by_error : (app : App) (words : List Text) (error : Error) (stop : Stop) → app ≡ app_for words →
+    (is_simple_and_free app ≡ true → HasKind (fault_of app words) error) → EndsBy (kind_of error) stop → WritesMistake words stop
+WritesMistake-by_error app words error stop same fails e = λ taken two.
     let P : App → Type 0 = λ a. HasKind (fault_of a words) error in
     let among = among_faults words (kind_of error) (subst P same (fails (ap is_simple_and_free same ∙ simple words))) (e.known (λ three. omega arith)) in
     let Q : Kinds → Type 0 = λ kinds. IsAmong (kind_of error) kinds in
     absurd (subst Q taken among)
 
 -- a mistake with another text ends so too
-pub EndsBy-helped : (kind : ErrorKind) (stop told : Stop) → EndsBy kind stop → stop.status ≡ 2 → (told.status ≡ 2) ⊎ (told.status ≡ 3)
-    → (told.status ≡ 3 → told.text.items ≡ []) → EndsBy kind told
-EndsBy-helped kind stop told e two statuses memory = record {
+pub EndsBy-helped : (kind : ErrorKind) (stop reported : Stop) → EndsBy kind stop → stop.status ≡ 2 → (reported.status ≡ 2) ⊎ (reported.status ≡ 3)
+    → (reported.status ≡ 3 → reported.text.items ≡ []) → EndsBy kind reported
+EndsBy-helped kind stop reported e two statuses memory = record {
   statuses = inr statuses;
   help = λ zero_is. elim statuses [ inl is ↦ absurd (omega arith) | inr is ↦ absurd (omega arith) ];
   mistake = λ _. e.mistake two;

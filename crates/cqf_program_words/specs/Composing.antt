@@ -15,8 +15,8 @@ abbrev pub closed : List ℕ → List ℕ
 closed text = text ++ (if is_closed text then [] else 10 ∷ [])
 
 -- a text that follows others: after a divider
-abbrev pub text_behind : List ℕ → List ℕ
-text_behind text = line_of (codes "%%") ++ closed text
+abbrev pub text_after : List ℕ → List ℕ
+text_after text = line_of (codes "%%") ++ closed text
 
 -- a name of a TOML file; and whether the second of some names is one
 abbrev pub is_toml : List ℕ → Bool
@@ -36,9 +36,9 @@ is_network job names first = takes_domain job && (not (second_is_toml names) && 
 
 -- the first text; a plan is there twice
 abbrev pub first_text : Bool → List ℕ → List ℕ
-first_text network first = closed first ++ (if network then text_behind first else [])
+first_text network first = closed first ++ (if network then text_after first else [])
 
 -- the input that is made from files with these names and texts
 abbrev pub composed_of : Job → List (List ℕ) → List (List ℕ) → List ℕ
 composed_of job names [] = []
-composed_of job names (first ∷ more) = first_text (is_network job names first) first ++ flat_map text_behind more
+composed_of job names (first ∷ more) = first_text (is_network job names first) first ++ flat_map text_after more

@@ -7,8 +7,8 @@ use Rattle.cqf_program_words.specs.Links.{first_no_link}
 use Rattle.cqf_program_words.specs.Texts.{texts_of}
 
 -- a line in three texts: the text before a word that is shown, the word, and the text after it
-abbrev pub told_of : Bor Text × Bor Text × Bor Text → Text
-told_of texts = texts.0.now ++ (texts.1.now ++ texts.2.now)
+abbrev pub written_of : Bor Text × Bor Text × Bor Text → Text
+written_of texts = texts.0.now ++ (texts.1.now ++ texts.2.now)
 
 -- the value of an option; an empty text if it isn't given
 abbrev pub value_of : Text → List Row → Text

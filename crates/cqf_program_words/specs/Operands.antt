@@ -2,8 +2,8 @@
 use Rattle.std.specs.Prelude.{ℕ, ◌≡◌, ◌==◌, ◌++◌, Bool, true, false, List, [], ◌∷◌, Option, Some, None, if◌then◌else◌, bytes_eq, codes, count_by, fold, length, map, nat_le}
 use Rattle.std.specs.List.{list_any}
 use Rattle.clap.specs.Words.{Text}
-use Rattle.cqf_program_words.specs.declared.operands.WordPlace.{WordPlace}
-use Rattle.cqf_program_words.specs.declared.operands.WordPlace.TheVariants.{Start, Free, Value, Behind, Other}
+use Rattle.cqf_program_words.specs.declared.operands.WordPosition.{WordPosition}
+use Rattle.cqf_program_words.specs.declared.operands.WordPosition.TheVariants.{Start, Free, Value, After, Other}
 use Rattle.cqf_program_words.specs.declared.operands.Operands.{Operands}
 use Rattle.cqf_program_words.specs.declared.words.Job.{Job}
 use Rattle.cqf_program_words.specs.declared.words.Job.TheVariants.{Diff}
@@ -38,34 +38,34 @@ is_option (first ∷ second ∷ more) = first == 45
 is_option word = false
 
 -- what a word is read as, by the words before it
-abbrev pub behind_word : WordPlace → Text → WordPlace
-behind_word Start word = if is_command word then Free else Other
-behind_word Free word = if wants_value word then Value else (if ends_options word then Behind else Free)
-behind_word Value word = Free
-behind_word Behind word = Behind
-behind_word Other word = Other
+abbrev pub after_word : WordPosition → Text → WordPosition
+after_word Start word = if is_command word then Free else Other
+after_word Free word = if wants_value word then Value else (if ends_options word then After else Free)
+after_word Value word = Free
+after_word After word = After
+after_word Other word = Other
 
 -- whether a word names a file: after a command, each word that is neither an option nor an option's value; after `--`, each word
-abbrev pub names_file : WordPlace → Text → Bool
+abbrev pub names_file : WordPosition → Text → Bool
 names_file Free word = if is_option word then false else true
-names_file Behind word = true
-names_file place word = false
+names_file After word = true
+names_file position word = false
 
 -- the words so far: those that name no files, those that do, and what the next word is read as
 pub record Split : Type 0 where
   pub words : List Text
   pub files : List Text
-  pub place : WordPlace
+  pub position : WordPosition
 
 abbrev pub no_words : Split
-no_words = record { words = []; files = []; place = Start }
+no_words = record { words = []; files = []; position = Start }
 
 -- with one more word
 abbrev pub with_word : Split → Text → Split
 with_word split word = record {
-  words = if names_file split.place word then split.words else split.words ++ word ∷ [];
-  files = if names_file split.place word then split.files ++ word ∷ [] else split.files;
-  place = behind_word split.place word;
+  words = if names_file split.position word then split.words else split.words ++ word ∷ [];
+  files = if names_file split.position word then split.files ++ word ∷ [] else split.files;
+  position = after_word split.position word;
 }
 
 -- a command line, split
@@ -77,7 +77,7 @@ abbrev pub split_so_far : Operands → Split
 split_so_far operands = record {
   words = map (λ word. word.now) operands.words.items;
   files = map (λ word. word.now) operands.files.items;
-  place = operands.place;
+  position = operands.position;
 }
 
 -- the file is standard input; and two of some files are

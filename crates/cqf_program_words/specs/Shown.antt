@@ -34,20 +34,20 @@ abbrev pub no_words : List ℕ
 no_words = codes "cqf: the words aren't a command:"
 
 -- a line that begins so, and shows something after that
-pub record ShowsBehind (start text : List ℕ) : Type 0 where
+pub record ShowsAfter (start text : List ℕ) : Type 0 where
   pub shown : List ℕ
   pub is : text ≡ line_of (start ++ shown)
 
 -- an end with status 2 and such a line, or with status 3 if an allocation for it fails
 pub record EndsShown (start : List ℕ) (stop : Stop) : Type 0 where
   pub statuses : (stop.status ≡ 2) ⊎ (stop.status ≡ 3)
-  pub shows : stop.status ≡ 2 → ShowsBehind start stop.text.items
+  pub shows : stop.status ≡ 2 → ShowsAfter start stop.text.items
   pub memory : stop.status ≡ 3 → stop.text.items ≡ []
 
 -- a mistake in words that aren't all printable ends with such a line, which shows them escaped. For other words the text is clap's
 abbrev pub ShowsWords : List Text → Stop → Type 0
-ShowsWords words stop = stop.status ≡ 2 → are_printable words ≡ false → ShowsBehind no_words stop.text.items
+ShowsWords words stop = stop.status ≡ 2 → are_printable words ≡ false → ShowsAfter no_words stop.text.items
 
 -- and so does a mistake in a first line of the input that isn't shown unchanged
 abbrev pub ShowsLine : Text → Stop → Type 0
-ShowsLine line stop = stop.status ≡ 2 → is_shown_whole line ≡ false → ShowsBehind no_command stop.text.items
+ShowsLine line stop = stop.status ≡ 2 → is_shown_whole line ≡ false → ShowsAfter no_command stop.text.items

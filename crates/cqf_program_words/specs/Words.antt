@@ -188,6 +188,6 @@ pub record EndsWords (words : List Text) (stop : Stop) : Type 0 where
   pub memory : stop.status ≡ 3 → stop.text.items ≡ []
 
 -- if clap accepts the words, and they are a mistake, the line is the program's own: which value is wrong, and which are accepted
-abbrev pub TellsMistake : List Text → Stop → Type 0
-TellsMistake words stop = fault_of (app_for words) words ≡ [] → stop.status ≡ 2
+abbrev pub WritesMistake : List Text → Stop → Type 0
+WritesMistake words stop = fault_of (app_for words) words ≡ [] → stop.status ≡ 2
     → stop.text.items ≡ line_of (codes "cqf: words: " ++ mistake_of (subcommand_of (app_for words) words))

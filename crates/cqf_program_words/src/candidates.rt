@@ -32,12 +32,12 @@ impl Candidates {
     }
 
     /// Returns the candidate at an index, in nanoseconds.
-    fn time_at(&self, place: u32) -> u32
-        requires { place < count_of self.now }
-        ensures time { result ≡ self.now.first + place * self.now.step }
+    fn time_at(&self, position: u32) -> u32
+        requires { position < count_of self.now }
+        ensures time { result ≡ self.now.first + position * self.now.step }
         ensures longest { result ≤ 10000000 }
     {
-        self.first + place * self.step
+        self.first + position * self.step
     }
 
     /// Returns the candidates as cycle times in nanoseconds, in their order: 1 to 1,000, each 10,000 to 10,000,000. Returns `Memory` if an
@@ -49,8 +49,8 @@ impl Candidates {
         ensures each { IfOk result (λ times. All (λ time. (10000 ≤ time) × (time ≤ 10000000)) times.items) }
     {
         let mut times = Vec::new(alloc);
-        for place in 0..self.count() {
-            times.push(self.time_at(place))?;
+        for position in 0..self.count() {
+            times.push(self.time_at(position))?;
         }
         Ok(times)
     }

@@ -1,7 +1,7 @@
 //! Texts of files, one after the other.
 ghost use Rattle.std.specs.Prelude.{◌≡◌, ◌∷◌, ◌++◌, IfOk, OnOk, map};
 ghost use Rattle.std.specs.List.{flat_map};
-ghost use Rattle.cqf_program_words.specs.Composing.{text_behind, closed, composed_of, first_text, is_closed, is_network, is_toml, is_undivided, second_is_toml};
+ghost use Rattle.cqf_program_words.specs.Composing.{text_after, closed, composed_of, first_text, is_closed, is_network, is_toml, is_undivided, second_is_toml};
 
 use crate::Job;
 use cqf_text::parts;
@@ -27,8 +27,8 @@ fn put_closed(input: &mut Vec<u8>, text: &[u8]) -> Result<(), AllocError>
 }
 
 /// Appends a divider to the input, and then a text.
-fn put_behind(input: &mut Vec<u8>, text: &[u8]) -> Result<(), AllocError>
-    ensures { OnOk result (input.new.items ≡ input.old.items ++ text_behind text.now) }
+fn put_after(input: &mut Vec<u8>, text: &[u8]) -> Result<(), AllocError>
+    ensures { OnOk result (input.new.items ≡ input.old.items ++ text_after text.now) }
 {
     input.extend_from_slice(b"%%\n")?;
     put_closed(input, text)
@@ -78,17 +78,17 @@ fn put_first(input: &mut Vec<u8>, network: bool, first: &[u8]) -> Result<(), All
 {
     put_closed(input, first)?;
     if network {
-        put_behind(input, first)?;
+        put_after(input, first)?;
     }
     Ok(())
 }
 
 /// Appends texts to the input, each after a divider.
 fn put_rest(input: &mut Vec<u8>, texts: &[&[u8]]) -> Result<(), AllocError>
-    ensures { OnOk result (input.new.items ≡ input.old.items ++ flat_map text_behind (map (λ text. text.now) texts.now)) }
+    ensures { OnOk result (input.new.items ≡ input.old.items ++ flat_map text_after (map (λ text. text.now) texts.now)) }
 {
     for text in texts {
-        put_behind(input, text)?;
+        put_after(input, text)?;
     }
     Ok(())
 }
@@ -101,7 +101,7 @@ pub fn joined(
     first: &[u8],
     rest: &[&[u8]],
 ) -> Result<Vec<u8>, AllocError>
-    ensures { IfOk result (λ input. input.items ≡ first_text network first.now ++ flat_map text_behind (map (λ text. text.now) rest.now)) }
+    ensures { IfOk result (λ input. input.items ≡ first_text network first.now ++ flat_map text_after (map (λ text. text.now) rest.now)) }
 {
     let mut input = Vec::new(alloc);
     put_first(&mut input, network, first)?;
@@ -110,7 +110,7 @@ pub fn joined(
 }
 
 /// Returns the input that is made from a first text and others after it, as [`composed`] does. Returns `Memory` if an allocation fails.
-pub fn composed_behind(
+pub fn composed_after(
     alloc: Global,
     job: &Job,
     names: &[&str],
@@ -138,7 +138,7 @@ pub fn composed_between(
     let network = is_network(alloc, job, names, first)?;
     let mut input = Vec::new(alloc);
     put_first(&mut input, network, first)?;
-    put_behind(&mut input, second)?;
+    put_after(&mut input, second)?;
     put_rest(&mut input, rest)?;
     Ok(input)
 }
@@ -157,6 +157,6 @@ pub fn composed(
 {
     match *texts {
         [] => Ok(Vec::new(alloc)),
-        [first, ref rest @ ..] => composed_behind(alloc, job, names, first, rest),
+        [first, ref rest @ ..] => composed_after(alloc, job, names, first, rest),
     }
 }

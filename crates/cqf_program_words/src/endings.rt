@@ -71,8 +71,8 @@ pub(crate) fn refused_by_clap(
 fn line_of_mistake(alloc: Global, matches: &ArgMatches<'_>) -> Result<String, Memory>
     ensures { IfOk result (λ line. string_bytes line ≡ line_of (codes "cqf: words: " ++ mistake_of (subcommand_rows_of matches.now))) }
 {
-    let (before, shown, behind) = mistake_of(matches);
-    let line = format!(in alloc; "cqf: words: {before}{shown}{behind}\n")?;
+    let (before, shown, following) = mistake_of(matches);
+    let line = format!(in alloc; "cqf: words: {before}{shown}{following}\n")?;
     Ok(line)
 }
 

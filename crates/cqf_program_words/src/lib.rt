@@ -36,7 +36,7 @@ mod words;
 
 pub use candidates::Candidates;
 pub use composing::{
-    composed, composed_behind, composed_between, is_network, is_toml, is_undivided, joined,
+    composed, composed_after, composed_between, is_network, is_toml, is_undivided, joined,
 };
 pub use laws::words_are_read_as_clap_has_them;
 pub use links::{LinkName, link_named};

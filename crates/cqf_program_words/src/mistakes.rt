@@ -3,7 +3,7 @@ ghost use Rattle.std.specs.Prelude.{◌≡◌, option_map};
 ghost use Rattle.clap.specs.Words.{found_of, rows_of, subcommand_rows_of};
 ghost use Rattle.cqf_units.specs.Name.{is_name};
 ghost use Rattle.cqf_program_words.specs.Mistakes.{mistake_in, mistake_of, mistake_of_candidates, mistake_of_env, mistake_of_format, mistake_of_link, mistake_of_others, mistake_of_plan};
-ghost use Rattle.cqf_program_words.specs.Mistakes.{is_form, mistake_of_rate, told_of, value_of};
+ghost use Rattle.cqf_program_words.specs.Mistakes.{is_form, mistake_of_rate, value_of, written_of};
 
 use crate::plan_words::first_wrong;
 use crate::words::text_of;
@@ -25,7 +25,7 @@ fn value_of<'v>(values: &ArgMatches<'v>, option: &str) -> &'v str
 
 /// Returns the line of `port`: the rate isn't one of the nine.
 fn mistake_of_rate(rate: &str) -> Mistake<'_>
-    ensures { told_of result ≡ mistake_of_rate rate.now }
+    ensures { written_of result ≡ mistake_of_rate rate.now }
 {
     (
         "--rate ",
@@ -36,7 +36,7 @@ fn mistake_of_rate(rate: &str) -> Mistake<'_>
 
 /// Returns the line of `plan`: the word names no link.
 fn mistake_of_link(word: &str) -> Mistake<'_>
-    ensures { told_of result ≡ mistake_of_link word.now }
+    ensures { written_of result ≡ mistake_of_link word.now }
 {
     (
         "--without ",
@@ -47,7 +47,7 @@ fn mistake_of_link(word: &str) -> Mistake<'_>
 
 /// Returns the line of `plan`: the word names no candidates.
 fn mistake_of_candidates(word: &str) -> Mistake<'_>
-    ensures { told_of result ≡ mistake_of_candidates word.now }
+    ensures { written_of result ≡ mistake_of_candidates word.now }
 {
     (
         "--cycle ",
@@ -58,7 +58,7 @@ fn mistake_of_candidates(word: &str) -> Mistake<'_>
 
 /// Returns the line of `plan`: one of the words names no link, or else the word names no candidates.
 fn mistake_of_plan<'v>(no_link: Option<&'v str>, cycle: &'v str) -> Mistake<'v>
-    ensures { told_of result ≡ mistake_of_plan (option_map (λ text. text.now) no_link.entry) cycle.now }
+    ensures { written_of result ≡ mistake_of_plan (option_map (λ text. text.now) no_link.entry) cycle.now }
 {
     match no_link {
         Some(word) => mistake_of_link(word),
@@ -85,7 +85,7 @@ fn is_name(text: &str) -> bool
 
 /// Returns the line of `compile --format env`.
 fn mistake_of_env(bridge: Option<&str>) -> Mistake<'_>
-    ensures { told_of result ≡ mistake_of_env (option_map (λ text. text.now) bridge.entry) }
+    ensures { written_of result ≡ mistake_of_env (option_map (λ text. text.now) bridge.entry) }
 {
     match bridge {
         None => ("--format env needs a bridge: --bridge NAME", "", ""),
@@ -110,7 +110,7 @@ fn mistake_of_others(bridge: Option<&str>) -> &'static str
 
 /// Returns the line of `compile`.
 fn mistake_of_format<'v>(format: &'v str, bridge: Option<&'v str>) -> Mistake<'v>
-    ensures { told_of result ≡ mistake_of_format format.now (option_map (λ text. text.now) bridge.entry) }
+    ensures { written_of result ≡ mistake_of_format format.now (option_map (λ text. text.now) bridge.entry) }
 {
     if !is_form(format) {
         return (
@@ -128,7 +128,7 @@ fn mistake_of_format<'v>(format: &'v str, bridge: Option<&'v str>) -> Mistake<'v
 
 /// Returns the line of a command, by its name and its values.
 fn mistake_in<'v>(name: &str, values: &ArgMatches<'v>) -> Mistake<'v>
-    ensures { told_of result ≡ mistake_in name.now (rows_of (found_of values.now)) }
+    ensures { written_of result ≡ mistake_in name.now (rows_of (found_of values.now)) }
 {
     if name == "port" {
         return mistake_of_rate(value_of(values, "rate"));
@@ -144,7 +144,7 @@ fn mistake_in<'v>(name: &str, values: &ArgMatches<'v>) -> Mistake<'v>
 
 /// Returns the line of the command that was named.
 pub(crate) fn mistake_of<'v>(matches: &ArgMatches<'v>) -> Mistake<'v>
-    ensures { told_of result ≡ mistake_of (subcommand_rows_of matches.now) }
+    ensures { written_of result ≡ mistake_of (subcommand_rows_of matches.now) }
 {
     match matches.subcommand() {
         Some((name, values)) => mistake_in(name, values),

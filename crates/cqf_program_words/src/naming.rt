@@ -68,8 +68,8 @@ fn split_range(word: &str) -> Option<(&str, &str, &str)>
     ensures whole { (from to step : Text) → word.now ≡ range_word from to step → list_all is_ascii_digit from ≡ true → list_all is_ascii_digit to ≡ true
         → MatchOption result ⊥ (λ p. (p.0.now ≡ from) × (p.1.now ≡ to) × (p.2.now ≡ step)) }
 {
-    let (from, behind) = word.split_once('.')?;
-    let others = behind.strip_prefix('.')?;
+    let (from, following) = word.split_once('.')?;
+    let others = following.strip_prefix('.')?;
     let (to, step) = others.split_once('/')?;
     Some((from, to, step))
 }

@@ -2,7 +2,7 @@
 ghost use Rattle.std.specs.Prelude.{◌≡◌, IfErr, IfOk, None, OnOk, Some, map, string_bytes};
 ghost use Rattle.clap.specs.Words.{Text};
 ghost use Rattle.cqf_output.specs.Stops.{EndsWith};
-ghost use Rattle.cqf_program_words.specs.Operands.{behind_word, ends_options, files_fault, is_option, is_standard, is_standard_twice, names_file, takes_files};
+ghost use Rattle.cqf_program_words.specs.Operands.{after_word, ends_options, files_fault, is_option, is_standard, is_standard_twice, names_file, takes_files};
 ghost use Rattle.cqf_program_words.specs.Operands.{split_of, split_so_far, with_word};
 
 use crate::Job;
@@ -12,7 +12,7 @@ use std::alloc::{AllocError, Global};
 
 /// What the next word is read as.
 #[derive(Clone, Copy, Debug, PartialEq, Eq)]
-enum WordPlace {
+enum WordPosition {
     /// The first word: a command or something else.
     Start,
     /// An option or a file.
@@ -20,7 +20,7 @@ enum WordPlace {
     /// The value of the option before it.
     Value,
     /// A file, regardless of its form.
-    Behind,
+    After,
     /// A word of no command that takes files.
     Other,
 }
@@ -30,7 +30,7 @@ enum WordPlace {
 pub struct Operands<'a> {
     words: Vec<&'a str>,
     files: Vec<&'a str>,
-    place: WordPlace,
+    position: WordPosition,
 }
 
 /// Returns whether the word is the one that ends the options.
@@ -50,19 +50,19 @@ fn is_option(word: &str) -> bool
     }
 }
 
-impl WordPlace {
+impl WordPosition {
     /// Returns what the word after this one is read as.
-    fn behind(self, word: &str) -> WordPlace
-        ensures { result ≡ behind_word self word.now }
+    fn following(self, word: &str) -> WordPosition
+        ensures { result ≡ after_word self word.now }
     {
         match self {
-            WordPlace::Start if is_command(word) => WordPlace::Free,
-            WordPlace::Start => WordPlace::Other,
-            WordPlace::Free if wants_value(word) => WordPlace::Value,
-            WordPlace::Free if ends_options(word) => WordPlace::Behind,
-            WordPlace::Free | WordPlace::Value => WordPlace::Free,
-            WordPlace::Behind => WordPlace::Behind,
-            WordPlace::Other => WordPlace::Other,
+            WordPosition::Start if is_command(word) => WordPosition::Free,
+            WordPosition::Start => WordPosition::Other,
+            WordPosition::Free if wants_value(word) => WordPosition::Value,
+            WordPosition::Free if ends_options(word) => WordPosition::After,
+            WordPosition::Free | WordPosition::Value => WordPosition::Free,
+            WordPosition::After => WordPosition::After,
+            WordPosition::Other => WordPosition::Other,
         }
     }
 
@@ -71,9 +71,9 @@ impl WordPlace {
         ensures { result ≡ names_file self word.now }
     {
         match self {
-            WordPlace::Free => !is_option(word),
-            WordPlace::Behind => true,
-            WordPlace::Start | WordPlace::Value | WordPlace::Other => false,
+            WordPosition::Free => !is_option(word),
+            WordPosition::After => true,
+            WordPosition::Start | WordPosition::Value | WordPosition::Other => false,
         }
     }
 }
@@ -97,12 +97,12 @@ impl<'a> Operands<'a> {
     fn put(&mut self, word: &'a str) -> Result<(), AllocError>
         ensures { OnOk result (split_so_far self.new ≡ with_word (split_so_far self.old) word.now) }
     {
-        if self.place.names_file(word) {
+        if self.position.names_file(word) {
             self.files.push(word)?;
         } else {
             self.words.push(word)?;
         }
-        self.place = self.place.behind(word);
+        self.position = self.position.following(word);
         Ok(())
     }
 }
@@ -115,7 +115,7 @@ pub fn split_operands<'a>(alloc: Global, words: &[&'a str]) -> Result<Operands<'
     let mut operands = Operands {
         words: Vec::new(alloc),
         files: Vec::new(alloc),
-        place: WordPlace::Start,
+        position: WordPosition::Start,
     };
     for word in words {
         operands.put(word)?;

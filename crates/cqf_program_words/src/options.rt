@@ -321,9 +321,9 @@ pub(crate) fn argument<'a>(alloc: Global, option: CommandOption, is_large: bool)
     ensures rule { rule_of result ≡ rule_for is_large option }
     ensures own { result.global ≡ false }
 {
-    let told = bare_argument(alloc, option).help(option.about(is_large));
+    let reported = bare_argument(alloc, option).help(option.about(is_large));
     match option.numbers(is_large) {
-        Some(parser) => told.value_parser(parser),
-        None => told,
+        Some(parser) => reported.value_parser(parser),
+        None => reported,
     }
 }

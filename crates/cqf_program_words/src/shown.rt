@@ -2,7 +2,7 @@
 ghost use Rattle.std.specs.Prelude.{◌≡◌, ◌≢◌, ◌⊎◌, [], IfOk, OnOk, false, length, map, string_bytes, true};
 ghost use Rattle.std.specs.List.{list_all};
 ghost use Rattle.std.specs.Str.{chars};
-ghost use Rattle.cqf_program_words.specs.Shown.{EndsShown, Lengthens, ShowsBehind, ShowsLine, ShowsWords, are_printable, is_plain, is_printable};
+ghost use Rattle.cqf_program_words.specs.Shown.{EndsShown, Lengthens, ShowsAfter, ShowsLine, ShowsWords, are_printable, is_plain, is_printable};
 ghost use Rattle.cqf_program_words.specs.Shown.{is_shown_whole, no_command, no_words};
 
 use cqf_output::{FAULT, Stop, USAGE};
@@ -71,7 +71,7 @@ fn show_front(line: &mut String, text: &str) -> Result<(), Memory>
 
 /// Returns the line of a text that isn't a command.
 fn line_of_text(alloc: Global, text: &str) -> Result<String, Memory>
-    ensures { IfOk result (λ line. ShowsBehind no_command (string_bytes line)) }
+    ensures { IfOk result (λ line. ShowsAfter no_command (string_bytes line)) }
 {
     let mut line = String::from_str(alloc, "cqf: the first line of the input isn't a command: ")?;
     show_front(&mut line, text)?;
@@ -135,7 +135,7 @@ fn are_printable(words: &[&str]) -> bool
 
 /// Returns the line of words that aren't a command.
 fn line_of_words(alloc: Global, words: &[&str]) -> Result<String, Memory>
-    ensures { IfOk result (λ line. ShowsBehind no_words (string_bytes line)) }
+    ensures { IfOk result (λ line. ShowsAfter no_words (string_bytes line)) }
 {
     let mut line = String::from_str(alloc, "cqf: the words aren't a command:")?;
     for word in words {

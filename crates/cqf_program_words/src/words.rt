@@ -7,7 +7,7 @@ ghost use Rattle.cqf_program_words.specs.declared.words.Job.{Job};
 ghost use Rattle.cqf_program_words.specs.Words.{rate_text};
 ghost use Rattle.cqf_program_words.specs.Words.{IsFlagGiven, IsFormat, IsFormatOf, IsFreeIn, IsJob, IsJobOf, IsNumberIn, Mean};
 ghost use Rattle.cqf_program_words.specs.Shown.{ShowsWords, are_printable};
-ghost use Rattle.cqf_program_words.specs.Words.{EndsWords, TellsMistake, is_of_bridge, takes_domain};
+ghost use Rattle.cqf_program_words.specs.Words.{EndsWords, WritesMistake, is_of_bridge, takes_domain};
 ghost use Rattle.std.specs.List.{list_any};
 ghost use Rattle.cqf_model.specs.Limits.{large, most_cycles};
 ghost use Rattle.cqf_program_words.specs.Words.{ask_for_large, is_large_word, limits_of};
@@ -471,7 +471,7 @@ pub fn limits_of(words: &[&str]) -> Limits
 fn read_plainly<'a>(alloc: Global, words: &'a [&'a str]) -> Result<Job, Stop>
     ensures ok { IfOk result (Mean (map (λ word. word.now) words.now)) }
     ensures err { IfErr result (EndsWords (map (λ word. word.now) words.now)) }
-    ensures line { IfErr result (TellsMistake (map (λ word. word.now) words.now)) }
+    ensures line { IfErr result (WritesMistake (map (λ word. word.now) words.now)) }
 {
     let Ok(mut command) = commands(alloc, ask_for_large(words)) else {
         return Err(Stop::memory(alloc));
@@ -496,7 +496,7 @@ pub fn read_words<'a>(alloc: Global, words: &'a [&'a str]) -> Result<Job, Stop>
     ensures ok { IfOk result (Mean (map (λ word. word.now) words.now)) }
     ensures err { IfErr result (EndsWords (map (λ word. word.now) words.now)) }
     ensures own { IfErr result (ShowsWords (map (λ word. word.now) words.now)) }
-    ensures line { IfErr result (λ stop. are_printable (map (λ word. word.now) words.now) ≡ true → TellsMistake (map (λ word. word.now) words.now) stop) }
+    ensures line { IfErr result (λ stop. are_printable (map (λ word. word.now) words.now) ≡ true → WritesMistake (map (λ word. word.now) words.now) stop) }
 {
     match read_plainly(alloc, words) {
         Ok(job) => Ok(job),

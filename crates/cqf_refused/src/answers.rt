@@ -7,7 +7,7 @@ use cqf_model::PROFILE;
 use cqf_output::Stop;
 use cqf_program_engine::answer;
 use cqf_program_words::{Format, Job};
-use cqf_refused_values::{Told, mark, once, twice};
+use cqf_refused_values::{Reported, mark, once, twice};
 use cqf_units::Rate;
 use std::alloc::Global;
 use std::thread::Threads;
@@ -21,7 +21,13 @@ fn is_text(given: &Result<Vec<u8>, Stop>, text: &str) -> bool {
 }
 
 /// Tries to answer a job.
-fn answered(rt: &(impl Threads + Sync), alloc: Global, job: &Job, input: &str, text: &str) -> Told
+fn answered(
+    rt: &(impl Threads + Sync),
+    alloc: Global,
+    job: &Job,
+    input: &str,
+    text: &str,
+) -> Reported
     requires within { IsWithin job.now }
     requires unthreaded { is_threaded job.now ≡ false }
 {
@@ -35,7 +41,7 @@ fn answered(rt: &(impl Threads + Sync), alloc: Global, job: &Job, input: &str, t
     once(is_text(&first, text))
 }
 
-pub(crate) fn port_told(rt: &(impl Threads + Sync), alloc: Global) -> Told {
+pub(crate) fn port_reported(rt: &(impl Threads + Sync), alloc: Global) -> Reported {
     let job = Job::Port {
         until: 1_000_000,
         rate: Rate::Mb1000,
@@ -45,7 +51,7 @@ pub(crate) fn port_told(rt: &(impl Threads + Sync), alloc: Global) -> Told {
     answered(rt, alloc, &job, input, text)
 }
 
-pub(crate) fn line_told(rt: &(impl Threads + Sync), alloc: Global) -> Told {
+pub(crate) fn line_reported(rt: &(impl Threads + Sync), alloc: Global) -> Reported {
     let job = Job::Line { cycles: 2 };
     let input = "at,bridge,stream,octets\n0,a,x,1000\n10,a,x,600\n20,a,x,500\n";
     let text = "what,cycle,where,frame,octets,detail\nstart,1,a>s,1,1000,125000\n\
@@ -58,7 +64,7 @@ const ONE_LINK: &str = "cycle = 125000\nguard = 5000\nbridges = [\"a\"]\nstation
     \n[[links]]\nfrom = \"a\"\nto = \"s\"\nrate = 1000\ndelay = 500\n\
     %%\n[[streams]]\nname = \"x\"\noctets = 1500\npath = [\"a\", \"s\"]\n";
 
-pub(crate) fn compile_told(rt: &(impl Threads + Sync), alloc: Global) -> Told {
+pub(crate) fn compile_reported(rt: &(impl Threads + Sync), alloc: Global) -> Reported {
     let job = Job::Compile {
         format: Format::List,
         edge_gates: false,
@@ -78,19 +84,20 @@ pub(crate) const ALONG: &str =
     %%\n0 admit x\n%%\nat,bridge,stream,octets\n0,a,x,64\n";
 
 /// The output for that.
-pub(crate) const TOLD: &str = "0 admit x accepted 0 0\n1 seal\n1 seal\n1 seal\n1 seal\n1 seal\n%%\n\
+pub(crate) const REPORTED: &str =
+    "0 admit x accepted 0 0\n1 seal\n1 seal\n1 seal\n1 seal\n1 seal\n%%\n\
     what,cycle,where,frame,octets,detail\n\
     start,1,a>b,1,64,125000\nstart,2,b>c,1,64,250000\nstart,3,c>s,1,64,375000\n";
 
-pub(crate) fn run_told(rt: &(impl Threads + Sync), alloc: Global) -> Told {
+pub(crate) fn run_reported(rt: &(impl Threads + Sync), alloc: Global) -> Reported {
     let job = Job::Run {
         cycles: 5,
         threads: false,
     };
-    answered(rt, alloc, &job, ALONG, TOLD)
+    answered(rt, alloc, &job, ALONG, REPORTED)
 }
 
-pub(crate) fn report_told(rt: &(impl Threads + Sync), alloc: Global) -> Told {
+pub(crate) fn report_reported(rt: &(impl Threads + Sync), alloc: Global) -> Reported {
     let job = Job::Report { cycles: 5 };
     let text = "link,frames,octets,most\na>b,1,64,64\nb>c,1,64,64\nc>s,1,64,64\n";
     answered(rt, alloc, &job, ALONG, text)

@@ -1,9 +1,9 @@
 //! Complete runs of the program, over a reader and writers that have their room from the start.
 ghost use Rattle.std.specs.Prelude.{◌≡◌, IfOk, false};
 
-use crate::answers::{ALONG, TOLD};
-use cqf_program_engine::{Heard, Told as Written, engine};
-use cqf_refused_values::{Told, mark, once, twice};
+use crate::answers::{ALONG, REPORTED};
+use cqf_program_engine::{CheckedSink as Written, Heard, engine};
+use cqf_refused_values::{Reported, mark, once, twice};
 use cqf_units::Memory;
 use std::alloc::Global;
 use std::sync::Wait;
@@ -27,7 +27,7 @@ fn has(writer: &Written<Vec<u8>>, text: &str) -> bool {
 
 /// Whether a run wrote everything.
 fn is_done(status: u8, writers: &BothWriters) -> bool {
-    status == 0 && has(&writers.0, TOLD) && has(&writers.1, "")
+    status == 0 && has(&writers.0, REPORTED) && has(&writers.1, "")
 }
 
 /// Whether a run ended for lack of memory. Only a run on threads may lack it in a bridge, or in a thread that wasn't
@@ -64,7 +64,7 @@ fn ran<R: Threads + Wait + Sync>(
     alloc: Global,
     words: &[&str],
     on_threads: bool,
-) -> Option<Told> {
+) -> Option<Reported> {
     let mut input = Heard::new(alloc, ALONG.as_bytes());
     let Ok((mut output, mut faults)) = writers(alloc) else {
         return None;
@@ -80,10 +80,13 @@ fn ran<R: Threads + Wait + Sync>(
     Some(twice(stands, is_done_again(rt, alloc, words)))
 }
 
-pub(crate) fn engine_told<R: Threads + Wait + Sync>(rt: &R, alloc: Global) -> Option<Told> {
+pub(crate) fn engine_reported<R: Threads + Wait + Sync>(rt: &R, alloc: Global) -> Option<Reported> {
     ran(rt, alloc, &["run", "--cycles", "5"], false)
 }
 
-pub(crate) fn threads_told<R: Threads + Wait + Sync>(rt: &R, alloc: Global) -> Option<Told> {
+pub(crate) fn threads_reported<R: Threads + Wait + Sync>(
+    rt: &R,
+    alloc: Global,
+) -> Option<Reported> {
     ran(rt, alloc, &["run", "--cycles", "5", "--threads"], true)
 }

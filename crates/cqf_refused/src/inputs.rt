@@ -4,7 +4,7 @@ ghost use Rattle.std.specs.Prelude.{⊤};
 use crate::program::is_wanting;
 use cqf_output::Stop;
 use cqf_program_engine::{Heard, MOST_BYTES, Source, read_input};
-use cqf_refused_values::{Told, mark, once, twice};
+use cqf_refused_values::{Reported, mark, once, twice};
 use std::alloc::Global;
 use std::io;
 use std::io::Read;
@@ -46,7 +46,7 @@ fn is_heard_again(alloc: Global, count: usize) -> bool {
 }
 
 /// Tries to read this number of bytes. If memory is lacking, some of them are kept.
-fn heard(alloc: Global, count: usize) -> Told {
+fn heard(alloc: Global, count: usize) -> Reported {
     let mut input = Heard::new(alloc, Ones { left: count });
     mark(alloc);
     let first = read_input(alloc, MOST_BYTES, &mut input);
@@ -58,10 +58,10 @@ fn heard(alloc: Global, count: usize) -> Told {
     once(is_heard(&input, &first, count))
 }
 
-pub(crate) fn input_told(alloc: Global) -> Told {
+pub(crate) fn input_reported(alloc: Global) -> Reported {
     heard(alloc, 70_000)
 }
 
-pub(crate) fn long_told(alloc: Global) -> Told {
+pub(crate) fn long_reported(alloc: Global) -> Reported {
     heard(alloc, 3_500_000)
 }

@@ -12,7 +12,7 @@ mod inputs;
 mod program;
 mod words;
 
-use cqf_refused_values::Told;
+use cqf_refused_values::Reported;
 use std::alloc::Global;
 use std::env::Env;
 use std::process::ExitCode;
@@ -20,32 +20,32 @@ use std::sync::Wait;
 use std::thread::Threads;
 
 /// Makes the trial with a name. Returns `None` if there is no such trial, or what it needs couldn't be prepared.
-fn told_of<R: Threads + Wait + Sync>(rt: &R, alloc: Global, name: &str) -> Option<Told> {
-    if let Some(told) = cqf_refused_values::told_of(alloc, name) {
-        return Some(told);
+fn reported_of<R: Threads + Wait + Sync>(rt: &R, alloc: Global, name: &str) -> Option<Reported> {
+    if let Some(reported) = cqf_refused_values::reported_of(alloc, name) {
+        return Some(reported);
     }
-    if let Some(told) = cqf_refused_runs::told_of(rt, alloc, name) {
-        return Some(told);
+    if let Some(reported) = cqf_refused_runs::reported_of(rt, alloc, name) {
+        return Some(reported);
     }
-    program::told_of(rt, alloc, name)
+    program::reported_of(rt, alloc, name)
 }
 
 /// Writes the result of the trial with a name, and returns whether there is such a trial and its result is the expected
 /// one. `threads` is for the threads of trials.
-fn tell<R: Threads + Wait + Sync>(rt: &HostRuntime, threads: &R, name: &str) -> bool {
-    let told = told_of(threads, rt.alloc(), name);
-    let is_written = match told {
-        Some(told) => println!(rt; "{name}: {told}").is_ok(),
+fn report<R: Threads + Wait + Sync>(rt: &HostRuntime, threads: &R, name: &str) -> bool {
+    let reported = reported_of(threads, rt.alloc(), name);
+    let is_written = match reported {
+        Some(reported) => println!(rt; "{name}: {reported}").is_ok(),
         None => println!(rt; "{name}: not made ready").is_ok(),
     };
-    is_written && matches!(told, Some(Told::Row | Told::Memory))
+    is_written && matches!(reported, Some(Reported::Row | Reported::Memory))
 }
 
 /// Writes the results of all of these trials.
-fn tell_all<R: Threads + Wait + Sync>(rt: &HostRuntime, threads: &R, names: &[&str]) -> bool {
+fn report_all<R: Threads + Wait + Sync>(rt: &HostRuntime, threads: &R, names: &[&str]) -> bool {
     let mut is_well = true;
     for name in names {
-        is_well = tell(rt, threads, name) && is_well;
+        is_well = report(rt, threads, name) && is_well;
     }
     is_well
 }
@@ -57,15 +57,15 @@ const LONGEST: usize = 64;
 fn run<R: Threads + Wait + Sync>(rt: &HostRuntime, threads: &R) -> bool {
     let mut buffer = [0u8; LONGEST];
     let Ok(count) = rt.arg(1, &mut buffer) else {
-        return tell_all(rt, threads, cqf_refused_values::NAMES)
-            & tell_all(rt, threads, cqf_refused_runs::NAMES)
-            & tell_all(rt, threads, program::NAMES);
+        return report_all(rt, threads, cqf_refused_values::NAMES)
+            & report_all(rt, threads, cqf_refused_runs::NAMES)
+            & report_all(rt, threads, program::NAMES);
     };
     let Some(bytes) = buffer.get(..count) else {
         return false;
     };
     match std::str::from_utf8(bytes) {
-        Ok(name) => tell(rt, threads, name),
+        Ok(name) => report(rt, threads, name),
         Err(_) => false,
     }
 }

@@ -2,7 +2,7 @@
 //! repeated if it was refused for lack of memory. A reader that was read can't be reused, so the repetition reads a
 //! fresh one with the same bytes.
 use cqf_output::{NO_MEMORY, Stop};
-use cqf_refused_values::{Told, names_of, told_by};
+use cqf_refused_values::{Reported, names_of, reported_by};
 use std::alloc::Global;
 use std::sync::Wait;
 use std::thread::Threads;
@@ -20,19 +20,19 @@ macro_rules! trials {
     ($with:ident, $name:ident, $rt:ident, $alloc:ident) => {
         $with! {
             $name,
-            "read_words" => Some(crate::words::job_told($alloc)),
-            "read_words with a name" => crate::words::named_told($alloc),
-            "read_words of a misuse" => Some(crate::words::misuse_told($alloc)),
-            "read_words of a call for help" => Some(crate::words::help_told($alloc)),
-            "read_input" => Some(crate::inputs::input_told($alloc)),
-            "read_input of some mebibytes" => Some(crate::inputs::long_told($alloc)),
-            "answer to port" => Some(crate::answers::port_told($rt, $alloc)),
-            "answer to line" => Some(crate::answers::line_told($rt, $alloc)),
-            "answer to compile" => Some(crate::answers::compile_told($rt, $alloc)),
-            "answer to run" => Some(crate::answers::run_told($rt, $alloc)),
-            "answer to report" => Some(crate::answers::report_told($rt, $alloc)),
-            "engine" => crate::engines::engine_told($rt, $alloc),
-            "engine on threads" => crate::engines::threads_told($rt, $alloc),
+            "read_words" => Some(crate::words::job_reported($alloc)),
+            "read_words with a name" => crate::words::named_reported($alloc),
+            "read_words of a misuse" => Some(crate::words::misuse_reported($alloc)),
+            "read_words of a call for help" => Some(crate::words::help_reported($alloc)),
+            "read_input" => Some(crate::inputs::input_reported($alloc)),
+            "read_input of some mebibytes" => Some(crate::inputs::long_reported($alloc)),
+            "answer to port" => Some(crate::answers::port_reported($rt, $alloc)),
+            "answer to line" => Some(crate::answers::line_reported($rt, $alloc)),
+            "answer to compile" => Some(crate::answers::compile_reported($rt, $alloc)),
+            "answer to run" => Some(crate::answers::run_reported($rt, $alloc)),
+            "answer to report" => Some(crate::answers::report_reported($rt, $alloc)),
+            "engine" => crate::engines::engine_reported($rt, $alloc),
+            "engine on threads" => crate::engines::threads_reported($rt, $alloc),
         }
     };
 }
@@ -41,6 +41,10 @@ macro_rules! trials {
 pub const NAMES: &[&str] = trials!(names_of, name, rt, alloc);
 
 /// Makes the trial with a name. Returns `None` if there is no such trial here, or what it needs couldn't be prepared.
-pub fn told_of<R: Threads + Wait + Sync>(rt: &R, alloc: Global, name: &str) -> Option<Told> {
-    trials!(told_by, name, rt, alloc)
+pub fn reported_of<R: Threads + Wait + Sync>(
+    rt: &R,
+    alloc: Global,
+    name: &str,
+) -> Option<Reported> {
+    trials!(reported_by, name, rt, alloc)
 }

@@ -2,7 +2,7 @@
 use crate::program::is_wanting;
 use cqf_output::{DONE, Stop, USAGE};
 use cqf_program_words::{Job, read_words};
-use cqf_refused_values::{Told, mark, once, twice};
+use cqf_refused_values::{Reported, mark, once, twice};
 use std::alloc::Global;
 
 /// The expected result for words: a job, or a stop with this status whose text contains this part.
@@ -32,7 +32,7 @@ fn is_wanted(read: &Result<Job, Stop>, wanted: Wanted<'_>) -> bool {
 }
 
 /// Tries to read the words.
-fn read(alloc: Global, words: &[&str], wanted: Wanted<'_>) -> Told {
+fn read(alloc: Global, words: &[&str], wanted: Wanted<'_>) -> Reported {
     mark(alloc);
     let first = read_words(alloc, words);
     mark(alloc);
@@ -42,7 +42,7 @@ fn read(alloc: Global, words: &[&str], wanted: Wanted<'_>) -> Told {
     once(is_wanted(&first, wanted))
 }
 
-pub(crate) fn job_told(alloc: Global) -> Told {
+pub(crate) fn job_reported(alloc: Global) -> Reported {
     let job = Job::Run {
         cycles: 5,
         threads: false,
@@ -50,7 +50,7 @@ pub(crate) fn job_told(alloc: Global) -> Told {
     read(alloc, &["run", "--cycles", "5"], Wanted::Job(&job))
 }
 
-pub(crate) fn named_told(alloc: Global) -> Option<Told> {
+pub(crate) fn named_reported(alloc: Global) -> Option<Reported> {
     let name = String::from_str(alloc, "mic-l").ok()?;
     let job = Job::Hops {
         cycles: 5,
@@ -61,11 +61,11 @@ pub(crate) fn named_told(alloc: Global) -> Option<Told> {
     Some(read(alloc, &words, Wanted::Job(&job)))
 }
 
-pub(crate) fn misuse_told(alloc: Global) -> Told {
+pub(crate) fn misuse_reported(alloc: Global) -> Reported {
     read(alloc, &["run"], Wanted::End(USAGE, "--cycles <N>"))
 }
 
-pub(crate) fn help_told(alloc: Global) -> Told {
+pub(crate) fn help_reported(alloc: Global) -> Reported {
     read(
         alloc,
         &["--help"],

@@ -2,7 +2,7 @@
 //! withdraw another one.
 use cqf_admission::{Call, Command, Entry};
 use cqf_model::{Book, Offer};
-use cqf_refused_values::{Told, X, domain_of, mark, once, twice, writes};
+use cqf_refused_values::{Reported, X, domain_of, mark, once, twice, writes};
 use cqf_test_fixtures::{Begun, admission_of, are_begun, are_offers, line, offers_of};
 use cqf_topology::Domain;
 use cqf_units::Memory;
@@ -132,7 +132,7 @@ fn conducted<R: Threads + Wait + Sync>(
     alloc: Global,
     domain: &Domain,
     offers: &[Offer],
-) -> Option<Told> {
+) -> Option<Reported> {
     match outcome(rt, alloc, domain, offers, commands(alloc).ok()?)? {
         Err(fault) => {
             let again = is_given_again(rt, alloc, domain, offers);
@@ -142,7 +142,10 @@ fn conducted<R: Threads + Wait + Sync>(
     }
 }
 
-pub(crate) fn conduct_told<R: Threads + Wait + Sync>(rt: &R, alloc: Global) -> Option<Told> {
+pub(crate) fn conduct_reported<R: Threads + Wait + Sync>(
+    rt: &R,
+    alloc: Global,
+) -> Option<Reported> {
     let offers = offers_of(alloc, &[(0, 0, "x", 64)]).ok()?;
     let domain = domain_of(alloc, line())?;
     conducted(rt, alloc, &domain, offers.as_slice())

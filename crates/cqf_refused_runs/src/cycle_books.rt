@@ -2,7 +2,7 @@
 use crate::pages::{drop_at, is_page, page_of, start_on};
 use cqf_book::{BookClose, CycleBook, Page, PageFault, Pages, Share, Totals};
 use cqf_model::Book;
-use cqf_refused_values::{Told, mark, once, twice};
+use cqf_refused_values::{Reported, mark, once, twice};
 use cqf_units::Memory;
 use std::alloc::Global;
 use std::sync::Wait;
@@ -45,7 +45,7 @@ fn two_pages(alloc: Global) -> Result<(Pages, Pages), Memory> {
     Ok((first, Pages::new(alloc, 3, 5)?))
 }
 
-pub(crate) fn new_told<R: Wait>(rt: &R, alloc: Global) -> Option<Told> {
+pub(crate) fn new_reported<R: Wait>(rt: &R, alloc: Global) -> Option<Reported> {
     let (pages, twin) = two_pages(alloc).ok()?;
     mark(alloc);
     let first = CycleBook::new(alloc, pages);
@@ -73,7 +73,7 @@ fn has_posted(share: &Share, is_there: bool) -> bool {
 }
 
 /// Posts again the page that was returned.
-fn posted_again<R: Wait>(rt: &R, book: &CycleBook, share: &mut Share, page: Page) -> Told {
+fn posted_again<R: Wait>(rt: &R, book: &CycleBook, share: &mut Share, page: Page) -> Reported {
     let stands = is_page(&page, 1) && has_frames(rt, book, 0) && has_posted(share, false);
     let is_ok = book.post(rt, share, page).is_ok();
     twice(
@@ -83,7 +83,13 @@ fn posted_again<R: Wait>(rt: &R, book: &CycleBook, share: &mut Share, page: Page
 }
 
 /// Tries to post a page by its bridge's share.
-fn posted<R: Wait>(rt: &R, alloc: Global, book: &CycleBook, share: &mut Share, page: Page) -> Told {
+fn posted<R: Wait>(
+    rt: &R,
+    alloc: Global,
+    book: &CycleBook,
+    share: &mut Share,
+    page: Page,
+) -> Reported {
     mark(alloc);
     let first = book.post(rt, share, page);
     mark(alloc);
@@ -100,12 +106,12 @@ fn posted_by_second<R: Wait>(
     alloc: Global,
     book: &CycleBook,
     shares: &mut [Share],
-) -> Option<Told> {
+) -> Option<Reported> {
     let page = page_of(alloc, 1).ok()?;
     Some(posted(rt, alloc, book, shares.get_mut(1)?, page))
 }
 
-pub(crate) fn post_told<R: Wait>(rt: &R, alloc: Global) -> Option<Told> {
+pub(crate) fn post_reported<R: Wait>(rt: &R, alloc: Global) -> Option<Reported> {
     let (book, mut shares) = made(alloc).ok()?;
     posted_by_second(rt, alloc, &book, shares.as_mut_slice())
 }
@@ -125,7 +131,7 @@ fn posted_twice<R: Wait>(
     book: &CycleBook,
     share: &mut Share,
     pages: (Page, Page),
-) -> Option<Told> {
+) -> Option<Reported> {
     let (page, another) = pages;
     if book.post(rt, share, page).is_err() {
         drop(another);
@@ -149,12 +155,12 @@ fn posted_twice_by_second<R: Wait>(
     alloc: Global,
     book: &CycleBook,
     shares: &mut [Share],
-) -> Option<Told> {
+) -> Option<Reported> {
     let pages = two_of_second(alloc).ok()?;
     posted_twice(rt, alloc, book, shares.get_mut(1)?, pages)
 }
 
-pub(crate) fn twice_told<R: Wait>(rt: &R, alloc: Global) -> Option<Told> {
+pub(crate) fn twice_reported<R: Wait>(rt: &R, alloc: Global) -> Option<Reported> {
     let (book, mut shares) = made(alloc).ok()?;
     posted_twice_by_second(rt, alloc, &book, shares.as_mut_slice())
 }
@@ -200,7 +206,7 @@ fn is_closed(closed: &Result<Book, BookClose>) -> bool {
 }
 
 /// Tries to close a book; if that fails, closes its twin.
-fn closed(alloc: Global, made: BookAndShares, twin: BookAndShares) -> Told {
+fn closed(alloc: Global, made: BookAndShares, twin: BookAndShares) -> Reported {
     let (book, shares) = made;
     let (other, others) = twin;
     mark(alloc);
@@ -216,7 +222,7 @@ fn closed(alloc: Global, made: BookAndShares, twin: BookAndShares) -> Told {
     }
 }
 
-pub(crate) fn close_told<R: Wait>(rt: &R, alloc: Global) -> Option<Told> {
+pub(crate) fn close_reported<R: Wait>(rt: &R, alloc: Global) -> Option<Reported> {
     let made = filled(rt, alloc)?;
     let twin = filled(rt, alloc)?;
     Some(closed(alloc, made, twin))

@@ -2,7 +2,7 @@
 use cqf_admission::{Admission, Refused};
 use cqf_desk::{CloseFault, Desk, History, Seat};
 use cqf_refused_values::{
-    PATH, SEVEN, Told, X, granted, line_with, mark, once, trial, twice, writes,
+    PATH, Reported, SEVEN, X, granted, line_with, mark, once, trial, twice, writes,
 };
 use cqf_test_fixtures::{Asked, request};
 use cqf_topology::Request;
@@ -45,7 +45,7 @@ fn is_new(alloc: Global, made: Result<DeskAndSeats, Memory>) -> bool {
 }
 
 /// Tries to make a desk over an admission; if that fails, makes it over its twin.
-fn made(alloc: Global, admission: Admission, twin: Admission) -> Told {
+fn made(alloc: Global, admission: Admission, twin: Admission) -> Reported {
     mark(alloc);
     let first = Desk::new(alloc, admission, 2);
     mark(alloc);
@@ -57,7 +57,7 @@ fn made(alloc: Global, admission: Admission, twin: Admission) -> Told {
     twice(true, is_new(alloc, Desk::new(alloc, twin, 2)))
 }
 
-pub(crate) fn new_told(alloc: Global) -> Option<Told> {
+pub(crate) fn new_reported(alloc: Global) -> Option<Reported> {
     let admission = line_with(alloc, &[X])?;
     let twin = line_with(alloc, &[X])?;
     Some(made(alloc, admission, twin))
@@ -76,15 +76,15 @@ const OF_EIGHT: &str = "0 admit n0 accepted 0 0\n0 admit n1 accepted 1 0\n0 admi
 pub(crate) fn closed_with(
     alloc: Global,
     made: DeskAndSeats,
-    told: Told,
+    reported: Reported,
     opening: usize,
     text: &str,
-) -> Told {
+) -> Reported {
     let (desk, seats) = made;
     let is_closed = is_history(alloc, &desk.close(seats), opening, text);
-    match told {
-        Told::Row => once(is_closed),
-        Told::Memory => twice(is_closed, true),
+    match reported {
+        Reported::Row => once(is_closed),
+        Reported::Memory => twice(is_closed, true),
         other => other,
     }
 }
@@ -96,7 +96,7 @@ fn admitted<R: Wait>(
     desk: &Desk,
     seat: &mut Seat,
     wanted: &Request,
-) -> Told {
+) -> Reported {
     trial!(
         alloc,
         desk.admit(rt, seat, wanted),
@@ -106,15 +106,15 @@ fn admitted<R: Wait>(
     )
 }
 
-pub(crate) fn admit_told<R: Wait>(rt: &R, alloc: Global) -> Option<Told> {
+pub(crate) fn admit_reported<R: Wait>(rt: &R, alloc: Global) -> Option<Reported> {
     let wanted = request(alloc, &Y).ok()?;
     let (desk, mut seats) = desk_with(alloc, SEVEN)?;
-    let told = admitted(rt, alloc, &desk, seats.first_mut()?, &wanted);
-    Some(closed_with(alloc, (desk, seats), told, 7, OF_EIGHT))
+    let reported = admitted(rt, alloc, &desk, seats.first_mut()?, &wanted);
+    Some(closed_with(alloc, (desk, seats), reported, 7, OF_EIGHT))
 }
 
 /// Tries to withdraw a stream by a seat.
-fn withdrawn<R: Wait>(rt: &R, alloc: Global, desk: &Desk, seat: &mut Seat) -> Told {
+fn withdrawn<R: Wait>(rt: &R, alloc: Global, desk: &Desk, seat: &mut Seat) -> Reported {
     trial!(
         alloc,
         desk.withdraw(rt, seat, "x"),
@@ -124,9 +124,9 @@ fn withdrawn<R: Wait>(rt: &R, alloc: Global, desk: &Desk, seat: &mut Seat) -> To
     )
 }
 
-pub(crate) fn withdraw_told<R: Wait>(rt: &R, alloc: Global) -> Option<Told> {
+pub(crate) fn withdraw_reported<R: Wait>(rt: &R, alloc: Global) -> Option<Reported> {
     let text = "0 admit x accepted 0 0\n0 withdraw x accepted 0 0\n";
     let (desk, mut seats) = desk_with(alloc, &[X])?;
-    let told = withdrawn(rt, alloc, &desk, seats.first_mut()?);
-    Some(closed_with(alloc, (desk, seats), told, 1, text))
+    let reported = withdrawn(rt, alloc, &desk, seats.first_mut()?);
+    Some(closed_with(alloc, (desk, seats), reported, 1, text))
 }

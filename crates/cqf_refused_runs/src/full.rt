@@ -1,7 +1,7 @@
 //! Desks whose history has no more room. A refusal for that reason comes before one for lack of memory.
 use cqf_admission::{Admission, Refused, SealFault};
 use cqf_desk::{Desk, Seat};
-use cqf_refused_values::{MOST_ENTRIES, Told, domain_of, fills, looked_at};
+use cqf_refused_values::{MOST_ENTRIES, Reported, domain_of, fills, looked_at};
 use cqf_test_fixtures::{admission_of, one_link};
 use std::alloc::Global;
 use std::sync::Wait;
@@ -22,7 +22,7 @@ fn spends(admission: &mut Admission) -> bool {
 }
 
 /// Makes one call more at a desk.
-fn called<R: Wait>(rt: &R, alloc: Global, desk: &Desk, seats: &mut [Seat]) -> Option<Told> {
+fn called<R: Wait>(rt: &R, alloc: Global, desk: &Desk, seats: &mut [Seat]) -> Option<Reported> {
     let seat = seats.first_mut()?;
     Some(looked_at!(
         alloc,
@@ -30,7 +30,7 @@ fn called<R: Wait>(rt: &R, alloc: Global, desk: &Desk, seats: &mut [Seat]) -> Op
     ))
 }
 
-pub(crate) fn full_told<R: Wait>(rt: &R, alloc: Global) -> Option<Told> {
+pub(crate) fn full_reported<R: Wait>(rt: &R, alloc: Global) -> Option<Reported> {
     let mut admission = new_admission(alloc)?;
     if !fills(&mut admission) {
         return None;
@@ -40,7 +40,7 @@ pub(crate) fn full_told<R: Wait>(rt: &R, alloc: Global) -> Option<Told> {
 }
 
 /// Makes one Seal more at a desk.
-fn sealed<R: Wait>(rt: &R, alloc: Global, desk: &Desk, seats: &mut [Seat]) -> Option<Told> {
+fn sealed<R: Wait>(rt: &R, alloc: Global, desk: &Desk, seats: &mut [Seat]) -> Option<Reported> {
     let seat = seats.first_mut()?;
     Some(looked_at!(
         alloc,
@@ -48,7 +48,7 @@ fn sealed<R: Wait>(rt: &R, alloc: Global, desk: &Desk, seats: &mut [Seat]) -> Op
     ))
 }
 
-pub(crate) fn spent_told<R: Wait>(rt: &R, alloc: Global) -> Option<Told> {
+pub(crate) fn spent_reported<R: Wait>(rt: &R, alloc: Global) -> Option<Reported> {
     let mut admission = new_admission(alloc)?;
     if !spends(&mut admission) {
         return None;

@@ -2,7 +2,7 @@
 //! runs on threads. Only the program that makes them uses this crate.
 //!
 //! A call is made between two marks, and repeated if it was refused for lack of memory. The expected result is given
-//! with each, worked out by hand. [`told_of`] makes the trial with a name, and [`NAMES`] are the names of all of them.
+//! with each, worked out by hand. [`reported_of`] makes the trial with a name, and [`NAMES`] are the names of all of them.
 #![tactic(auto)]
 
 mod conducting;
@@ -19,4 +19,4 @@ mod wires;
 mod worlds;
 mod written;
 
-pub use runs::{NAMES, told_of};
+pub use runs::{NAMES, reported_of};

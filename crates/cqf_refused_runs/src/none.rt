@@ -1,7 +1,7 @@
 //! Observations of pages and books, which allocate no memory.
 use crate::pages::{is_page, page_of};
 use cqf_book::{CycleBook, Pages, Share, Totals};
-use cqf_refused_values::{Told, looked_at};
+use cqf_refused_values::{Reported, looked_at};
 use cqf_units::Cycle;
 use std::alloc::Global;
 use std::sync::Wait;
@@ -25,11 +25,11 @@ fn is_seen(pages: &Pages) -> bool {
 }
 
 /// Observes pages.
-fn pages_seen(alloc: Global, pages: &Pages) -> Told {
+fn pages_seen(alloc: Global, pages: &Pages) -> Reported {
     looked_at!(alloc, is_seen(pages))
 }
 
-pub(crate) fn pages_told(alloc: Global) -> Option<Told> {
+pub(crate) fn pages_reported(alloc: Global) -> Option<Reported> {
     let mut pages = Pages::new(alloc, 3, 5).ok()?;
     if pages.post(page_of(alloc, 1).ok()?).is_err() {
         return None;
@@ -43,7 +43,7 @@ fn book_seen<R: Wait>(
     alloc: Global,
     book: &CycleBook,
     shares: &mut [Share],
-) -> Option<Told> {
+) -> Option<Reported> {
     let share = shares.get_mut(1)?;
     if book.post(rt, share, page_of(alloc, 1).ok()?).is_err() {
         return None;
@@ -54,7 +54,7 @@ fn book_seen<R: Wait>(
     ))
 }
 
-pub(crate) fn book_told<R: Wait>(rt: &R, alloc: Global) -> Option<Told> {
+pub(crate) fn book_reported<R: Wait>(rt: &R, alloc: Global) -> Option<Reported> {
     let pages = Pages::new(alloc, 3, 5).ok()?;
     let (book, mut shares) = CycleBook::new(alloc, pages).ok()?;
     book_seen(rt, alloc, &book, shares.as_mut_slice())

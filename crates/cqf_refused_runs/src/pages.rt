@@ -1,7 +1,7 @@
 //! Pages of three bridges and five cycles.
 use cqf_book::{Page, PageFault, Pages, Totals};
 use cqf_model::{Dropped, Reason, Started};
-use cqf_refused_values::{Told, mark, once, trial, twice};
+use cqf_refused_values::{Reported, mark, once, trial, twice};
 use cqf_units::{Cycle, Memory, Nanos};
 use std::alloc::Global;
 
@@ -80,7 +80,7 @@ fn are_new(made: &Result<Pages, Memory>) -> bool {
     }
 }
 
-pub(crate) fn new_told(alloc: Global) -> Option<Told> {
+pub(crate) fn new_reported(alloc: Global) -> Option<Reported> {
     Some(trial!(
         alloc,
         Pages::new(alloc, 3, 5),
@@ -91,14 +91,14 @@ pub(crate) fn new_told(alloc: Global) -> Option<Told> {
 }
 
 /// Posts again the page that was returned.
-fn posted_again(pages: &mut Pages, page: Page) -> Told {
+fn posted_again(pages: &mut Pages, page: Page) -> Reported {
     let stands = is_page(&page, 1) && has_posted(pages, false);
     let is_ok = pages.post(page).is_ok();
     twice(stands, is_ok && has_posted(pages, true))
 }
 
 /// Tries to post a page.
-fn posted(alloc: Global, pages: &mut Pages, page: Page) -> Told {
+fn posted(alloc: Global, pages: &mut Pages, page: Page) -> Reported {
     mark(alloc);
     let first = pages.post(page);
     mark(alloc);
@@ -109,7 +109,7 @@ fn posted(alloc: Global, pages: &mut Pages, page: Page) -> Told {
     }
 }
 
-pub(crate) fn post_told(alloc: Global) -> Option<Told> {
+pub(crate) fn post_reported(alloc: Global) -> Option<Reported> {
     let mut pages = Pages::new(alloc, 3, 5).ok()?;
     let page = page_of(alloc, 1).ok()?;
     Some(posted(alloc, &mut pages, page))

@@ -1,7 +1,7 @@
 //! Pipes.
 ghost use Rattle.std.specs.Prelude.{◌≡◌, length};
 
-use cqf_refused_values::{Told, looked_at, mark, once, twice};
+use cqf_refused_values::{Reported, looked_at, mark, once, twice};
 use cqf_worker_loops::{PipeIn, PipeOut, pipe};
 use std::alloc::Global;
 use std::sync::Wait;
@@ -40,7 +40,7 @@ fn is_made<R: Wait>(rt: &R, alloc: Global) -> bool {
     }
 }
 
-pub(crate) fn pipe_told<R: Wait>(rt: &R, alloc: Global) -> Option<Told> {
+pub(crate) fn pipe_reported<R: Wait>(rt: &R, alloc: Global) -> Option<Reported> {
     mark(alloc);
     let first = pipe::<u32>(alloc);
     mark(alloc);
@@ -50,7 +50,7 @@ pub(crate) fn pipe_told<R: Wait>(rt: &R, alloc: Global) -> Option<Told> {
     }
 }
 
-pub(crate) fn none_told<R: Wait>(rt: &R, alloc: Global) -> Option<Told> {
+pub(crate) fn none_reported<R: Wait>(rt: &R, alloc: Global) -> Option<Reported> {
     match pipe::<u32>(alloc) {
         Ok((into, out)) => Some(looked_at!(alloc, is_used(rt, into, out))),
         Err(_) => None,

@@ -6,7 +6,7 @@ use cqf_admission::Table;
 use cqf_compile::Plan;
 use cqf_model::{Background, Book, Offer, Reason, Started};
 use cqf_plain::{RunFault, run};
-use cqf_refused_values::{Told, X, plan_of, tables_with, trial};
+use cqf_refused_values::{Reported, X, plan_of, tables_with, trial};
 use cqf_test_fixtures::{
     Asked, Backing, Offering, are_background, are_begun, are_dropped, are_offers, background_of,
     line, offers_of,
@@ -107,7 +107,7 @@ fn is_made(made: &Result<Book, RunFault>, which: Which) -> bool {
 }
 
 /// Makes a run, and repeats it if it is refused for lack of memory.
-fn ran(alloc: Global, given: &Given, which: Which) -> Told {
+fn ran(alloc: Global, given: &Given, which: Which) -> Reported {
     trial!(
         alloc,
         run_of(alloc, given),
@@ -125,7 +125,7 @@ pub(crate) fn along(alloc: Global) -> Option<Given> {
     make_given(alloc, line(), &[X], 5, OFFERS, &[(0, 1, 0, 1522)])
 }
 
-pub(crate) fn run_told(alloc: Global) -> Option<Told> {
+pub(crate) fn run_reported(alloc: Global) -> Option<Reported> {
     let given = along(alloc)?;
     Some(ran(alloc, &given, Which::Along))
 }
@@ -170,7 +170,7 @@ fn is_of_many(made: &Result<Book, RunFault>) -> bool {
 /// Their offers.
 const OF_MANY: &[Offering] = &[(0, 0, "x", 64); MANY];
 
-pub(crate) fn many_told(alloc: Global) -> Option<Told> {
+pub(crate) fn many_reported(alloc: Global) -> Option<Reported> {
     let given = make_given(alloc, line(), &[X], 5, OF_MANY, &[])?;
     Some(ran(alloc, &given, Which::OfMany))
 }

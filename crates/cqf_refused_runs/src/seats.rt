@@ -2,7 +2,7 @@
 use crate::desks::{DeskAndSeats, closed_with, desk_with, is_history};
 use cqf_admission::{SealFault, Table};
 use cqf_desk::{CloseFault, Desk, Seat};
-use cqf_refused_values::{Told, X, looked_at, mark, once, trial, twice};
+use cqf_refused_values::{Reported, X, looked_at, mark, once, trial, twice};
 use cqf_units::Cycle;
 use std::alloc::Global;
 use std::sync::Wait;
@@ -32,23 +32,29 @@ fn stands(seat: &Seat, standing: Standing) -> bool {
 type Sealing = (Standing, Standing);
 
 /// Closes a cycle, and repeats that if memory was lacking. The history isn't checked here.
-fn sealed<R: Wait>(rt: &R, alloc: Global, desk: &Desk, seat: &mut Seat, sealing: Sealing) -> Told {
-    let (before, behind) = sealing;
+fn sealed<R: Wait>(
+    rt: &R,
+    alloc: Global,
+    desk: &Desk,
+    seat: &mut Seat,
+    sealing: Sealing,
+) -> Reported {
+    let (before, following) = sealing;
     trial!(
         alloc,
         desk.seal(rt, seat),
         Err(SealFault::Memory),
         stands(seat, before),
-        |answer| answer == Ok(()) && stands(seat, behind)
+        |answer| answer == Ok(()) && stands(seat, following)
     )
 }
 
-pub(crate) fn seal_told<R: Wait>(rt: &R, alloc: Global) -> Option<Told> {
+pub(crate) fn seal_reported<R: Wait>(rt: &R, alloc: Global) -> Option<Reported> {
     let sealing = (None, Some((0, 1)));
     let text = "0 admit x accepted 0 0\n1 seal\n";
     let (desk, mut seats) = desk_with(alloc, &[X])?;
-    let told = sealed(rt, alloc, &desk, seats.get_mut(1)?, sealing);
-    Some(closed_with(alloc, (desk, seats), told, 1, text))
+    let reported = sealed(rt, alloc, &desk, seats.get_mut(1)?, sealing);
+    Some(closed_with(alloc, (desk, seats), reported, 1, text))
 }
 
 /// Whether the second seat can seal a cycle, the first one withdraw `x`, and the second one seal another cycle, and then
@@ -82,15 +88,15 @@ const WORKED: &str = "0 admit x accepted 0 0\n1 seal\n0 withdraw x accepted 0 1\
 const LATER: &str = "0 admit x accepted 0 0\n1 seal\n0 withdraw x accepted 0 1\n1 seal\n\
     0 withdraw x refused AlreadyWithdrawn\n1 seal\n";
 
-pub(crate) fn later_told<R: Wait>(rt: &R, alloc: Global) -> Option<Told> {
+pub(crate) fn later_reported<R: Wait>(rt: &R, alloc: Global) -> Option<Reported> {
     let sealing = (Some((1, 1)), Some((2, 1)));
     let (desk, mut seats) = worked(rt, alloc)?;
-    let told = sealed(rt, alloc, &desk, seats.get_mut(1)?, sealing);
-    Some(closed_with(alloc, (desk, seats), told, 1, LATER))
+    let reported = sealed(rt, alloc, &desk, seats.get_mut(1)?, sealing);
+    Some(closed_with(alloc, (desk, seats), reported, 1, LATER))
 }
 
 /// Closes a desk whose second seat followed the history, which allocates no memory.
-pub(crate) fn followed_told<R: Wait>(rt: &R, alloc: Global) -> Option<Told> {
+pub(crate) fn followed_reported<R: Wait>(rt: &R, alloc: Global) -> Option<Reported> {
     let (desk, seats) = worked(rt, alloc)?;
     mark(alloc);
     let closed = desk.close(seats);
@@ -138,7 +144,7 @@ fn with_strange_seat<R: Wait>(rt: &R, alloc: Global) -> Option<DeskAndSeats> {
 const IN_VAIN: &str = "0 admit x accepted 0 0\n0 withdraw y refused NotHeld\n1 seal\n";
 
 /// Tries to close a desk; if that fails, closes its twin.
-fn closed(alloc: Global, made: DeskAndSeats, twin: DeskAndSeats) -> Told {
+fn closed(alloc: Global, made: DeskAndSeats, twin: DeskAndSeats) -> Reported {
     let (desk, seats) = made;
     let (other, others) = twin;
     mark(alloc);
@@ -156,7 +162,7 @@ fn closed(alloc: Global, made: DeskAndSeats, twin: DeskAndSeats) -> Told {
     }
 }
 
-pub(crate) fn close_told<R: Wait>(rt: &R, alloc: Global) -> Option<Told> {
+pub(crate) fn close_reported<R: Wait>(rt: &R, alloc: Global) -> Option<Reported> {
     let made = with_strange_seat(rt, alloc)?;
     let twin = with_strange_seat(rt, alloc)?;
     Some(closed(alloc, made, twin))
@@ -171,7 +177,7 @@ fn has_table(seat: &Seat) -> bool {
 }
 
 /// Seals by a seat, and then observes it, which allocates no memory.
-fn seat_seen<R: Wait>(rt: &R, alloc: Global, desk: &Desk, seats: &mut [Seat]) -> Option<Told> {
+fn seat_seen<R: Wait>(rt: &R, alloc: Global, desk: &Desk, seats: &mut [Seat]) -> Option<Reported> {
     let seat = seats.get_mut(1)?;
     if desk.seal(rt, seat).is_err() {
         return None;
@@ -179,7 +185,7 @@ fn seat_seen<R: Wait>(rt: &R, alloc: Global, desk: &Desk, seats: &mut [Seat]) ->
     Some(looked_at!(alloc, has_table(seat) && seat.number() == 1))
 }
 
-pub(crate) fn seat_told<R: Wait>(rt: &R, alloc: Global) -> Option<Told> {
+pub(crate) fn seat_reported<R: Wait>(rt: &R, alloc: Global) -> Option<Reported> {
     let (desk, mut seats) = desk_with(alloc, &[X])?;
     seat_seen(rt, alloc, &desk, seats.as_mut_slice())
 }

@@ -4,7 +4,7 @@ ghost use Rattle.cqf_worker.specs.Wires.{AreWired, Wiring, pipe_of_tables, table
 
 use cqf_bridge::Agenda;
 use cqf_model::Offer;
-use cqf_refused_values::{Told, domain_of, mark, once, trial, twice};
+use cqf_refused_values::{Reported, domain_of, mark, once, trial, twice};
 use cqf_test_fixtures::{are_offers, line, offers_of};
 use cqf_topology::Domain;
 use cqf_trace::BridgeTrace;
@@ -28,7 +28,7 @@ fn is_agenda(made: &Result<Agenda, Memory>) -> bool {
 }
 
 /// Tries to make the first bridge's agenda.
-fn agenda_made(alloc: Global, domain: &Domain, offers: &[Offer]) -> Option<Told> {
+fn agenda_made(alloc: Global, domain: &Domain, offers: &[Offer]) -> Option<Reported> {
     if offers.len() > 1_000_000 {
         return None;
     }
@@ -41,7 +41,7 @@ fn agenda_made(alloc: Global, domain: &Domain, offers: &[Offer]) -> Option<Told>
     ))
 }
 
-pub(crate) fn agenda_told(alloc: Global) -> Option<Told> {
+pub(crate) fn agenda_reported(alloc: Global) -> Option<Reported> {
     let offers = offers_of(alloc, &[(0, 1, "x", 64), (125_000, 0, "x", 64)]).ok()?;
     let domain = domain_of(alloc, line())?;
     agenda_made(alloc, &domain, offers.as_slice())
@@ -56,7 +56,7 @@ fn is_laid(laid: &Result<Laid, Memory>) -> bool {
 }
 
 /// Tries to make workers, and repeats that if it fails.
-fn laid(alloc: Global, domain: &Domain, offers: &[Offer]) -> Option<Told> {
+fn laid(alloc: Global, domain: &Domain, offers: &[Offer]) -> Option<Reported> {
     if offers.len() > 1_000_000 || !are_offers(domain, offers) {
         return None;
     }
@@ -69,7 +69,7 @@ fn laid(alloc: Global, domain: &Domain, offers: &[Offer]) -> Option<Told> {
     ))
 }
 
-pub(crate) fn lay_told(alloc: Global) -> Option<Told> {
+pub(crate) fn lay_reported(alloc: Global) -> Option<Reported> {
     let offers = offers_of(alloc, &[(0, 0, "x", 64)]).ok()?;
     let domain = domain_of(alloc, line())?;
     laid(alloc, &domain, offers.as_slice())
@@ -98,7 +98,7 @@ fn is_shut(closed: &Result<Vec<BridgeTrace>, ClosingFault>) -> bool {
 }
 
 /// Tries to close the pipes of workers; if that fails, closes those of their twins.
-fn shut(alloc: Global, laid: Laid, twin: Laid) -> Told
+fn shut(alloc: Global, laid: Laid, twin: Laid) -> Reported
     requires wired { (wiring : Wiring) × AreWired wiring laid.workers.items }
     requires tables { map pipe_of_tables laid.tables.items ≡ map tables_pipe laid.workers.items }
     requires wired_again { (wiring : Wiring) × AreWired wiring twin.workers.items }
@@ -125,13 +125,13 @@ fn shut(alloc: Global, laid: Laid, twin: Laid) -> Told
 }
 
 /// Tries the same for a domain.
-fn shut_of(alloc: Global, domain: &Domain) -> Option<Told> {
+fn shut_of(alloc: Global, domain: &Domain) -> Option<Reported> {
     let laid = workers_of(alloc, domain)?;
     let twin = workers_of(alloc, domain)?;
     Some(shut(alloc, laid, twin))
 }
 
-pub(crate) fn shut_told(alloc: Global) -> Option<Told> {
+pub(crate) fn shut_reported(alloc: Global) -> Option<Reported> {
     let domain = domain_of(alloc, line())?;
     shut_of(alloc, &domain)
 }

@@ -6,7 +6,7 @@ use cqf_admission::Command;
 use cqf_book::Pages;
 use cqf_compile::Plan;
 use cqf_model::Offer;
-use cqf_refused_values::{Told, X, looked_at, mark, once, plan_of, twice, writes};
+use cqf_refused_values::{Reported, X, looked_at, mark, once, plan_of, twice, writes};
 use cqf_test_fixtures::{admission_of, are_offers, line, offers_of, request};
 use cqf_units::{Cycle, Memory};
 use cqf_world::{Applied, Event, World};
@@ -137,26 +137,37 @@ struct Trial {
     parts: &'static [&'static [Act]],
     act: Act,
     before: Standing,
-    behind: Standing,
+    following: Standing,
 }
 
 /// Tries the event. If that fails, the world enables no event any more and is unchanged, and the event is tried in a
 /// twin.
-fn tried(alloc: Global, world: &mut World, twin: &mut World, event: Event, trial: &Trial) -> Told {
+fn tried(
+    alloc: Global,
+    world: &mut World,
+    twin: &mut World,
+    event: Event,
+    trial: &Trial,
+) -> Reported {
     mark(alloc);
     let first = world.apply(event);
     mark(alloc);
     if first.is_ok() {
         let is_done = first == Ok(Applied::Done);
-        return once(is_done && stands(alloc, world, &trial.behind));
+        return once(is_done && stands(alloc, world, &trial.following));
     }
     let is_left = none_happens(alloc, world, ALL) && stands(alloc, world, &trial.before);
     let is_done = comes_to(alloc, twin, trial.act, Applied::Done);
-    twice(is_left, is_done && stands(alloc, twin, &trial.behind))
+    twice(is_left, is_done && stands(alloc, twin, &trial.following))
 }
 
 /// Tries the event after those before it.
-fn tried_behind(alloc: Global, world: &mut World, twin: &mut World, trial: &Trial) -> Option<Told> {
+fn tried_after(
+    alloc: Global,
+    world: &mut World,
+    twin: &mut World,
+    trial: &Trial,
+) -> Option<Reported> {
     if !all_parts_happen(alloc, world, trial.parts) || !all_parts_happen(alloc, twin, trial.parts) {
         return None;
     }
@@ -165,14 +176,14 @@ fn tried_behind(alloc: Global, world: &mut World, twin: &mut World, trial: &Tria
 }
 
 /// Tries the same in a world of a plan.
-fn tried_over(alloc: Global, plan: &Plan, offers: &[Offer], trial: &Trial) -> Option<Told> {
+fn tried_over(alloc: Global, plan: &Plan, offers: &[Offer], trial: &Trial) -> Option<Reported> {
     let mut world = world_of(alloc, plan, offers)?;
     let mut twin = world_of(alloc, plan, offers)?;
-    tried_behind(alloc, &mut world, &mut twin, trial)
+    tried_after(alloc, &mut world, &mut twin, trial)
 }
 
 /// Tries the same over the line. A frame is offered at the first bridge, and one at the second, which drops it.
-fn told(alloc: Global, trial: &Trial) -> Option<Told> {
+fn reported(alloc: Global, trial: &Trial) -> Option<Reported> {
     let offers = offers_of(alloc, &[(0, 0, "x", 64), (125_000, 1, "x", 64)]).ok()?;
     let plan = plan_of(alloc, line())?;
     tried_over(alloc, &plan, offers.as_slice(), trial)
@@ -199,27 +210,27 @@ const CLOSED: Standing = Standing {
 /// The calls.
 const CALLS: &[Act] = &[Act::Admit, Act::Seal, Act::Seal, Act::Seal];
 
-pub(crate) fn request_told(alloc: Global) -> Option<Told> {
+pub(crate) fn request_reported(alloc: Global) -> Option<Reported> {
     let trial = Trial {
         parts: &[],
         act: Act::Admit,
         before: NOTHING,
-        behind: GRANTED,
+        following: GRANTED,
     };
-    told(alloc, &trial)
+    reported(alloc, &trial)
 }
 
-pub(crate) fn withdrawal_told(alloc: Global) -> Option<Told> {
+pub(crate) fn withdrawal_reported(alloc: Global) -> Option<Reported> {
     let trial = Trial {
         parts: &[&[Act::Admit]],
         act: Act::Withdraw,
         before: GRANTED,
-        behind: Standing {
+        following: Standing {
             history: "0 admit x accepted 0 0\n0 withdraw x accepted 0 0\n",
             ..NOTHING
         },
     };
-    told(alloc, &trial)
+    reported(alloc, &trial)
 }
 
 /// A cycle was closed with it.
@@ -228,24 +239,24 @@ const SEALED: Standing = Standing {
     ..NOTHING
 };
 
-pub(crate) fn seal_told(alloc: Global) -> Option<Told> {
+pub(crate) fn seal_reported(alloc: Global) -> Option<Reported> {
     let trial = Trial {
         parts: &[&[Act::Admit]],
         act: Act::Seal,
         before: GRANTED,
-        behind: SEALED,
+        following: SEALED,
     };
-    told(alloc, &trial)
+    reported(alloc, &trial)
 }
 
-pub(crate) fn give_told(alloc: Global) -> Option<Told> {
+pub(crate) fn give_reported(alloc: Global) -> Option<Reported> {
     let trial = Trial {
         parts: &[CALLS],
         act: Act::Give(0),
         before: CLOSED,
-        behind: CLOSED,
+        following: CLOSED,
     };
-    told(alloc, &trial)
+    reported(alloc, &trial)
 }
 
 /// The first bridge goes through cycle 0, and receives the table of cycle 1.
@@ -254,14 +265,14 @@ const FIRST_GOES: &[Act] = &[Act::Give(0), Act::Step(0), Act::Post(0), Act::Give
 /// Its page has no start.
 const FIRST_POSTED: Standing = Standing { pages: 1, ..CLOSED };
 
-pub(crate) fn step_told(alloc: Global) -> Option<Told> {
+pub(crate) fn step_reported(alloc: Global) -> Option<Reported> {
     let trial = Trial {
         parts: &[CALLS, FIRST_GOES],
         act: Act::Step(0),
         before: FIRST_POSTED,
-        behind: FIRST_POSTED,
+        following: FIRST_POSTED,
     };
-    told(alloc, &trial)
+    reported(alloc, &trial)
 }
 
 /// The second one goes through it, with what the first one sent, and sends cycle 1.
@@ -277,14 +288,14 @@ const SECOND_GOES: &[Act] = &[
 /// Neither page has a start.
 const BOTH_POSTED: Standing = Standing { pages: 2, ..CLOSED };
 
-pub(crate) fn take_told(alloc: Global) -> Option<Told> {
+pub(crate) fn take_reported(alloc: Global) -> Option<Reported> {
     let trial = Trial {
         parts: &[CALLS, FIRST_GOES, &[Act::Step(0)], SECOND_GOES],
         act: Act::Take(0),
         before: BOTH_POSTED,
-        behind: BOTH_POSTED,
+        following: BOTH_POSTED,
     };
-    told(alloc, &trial)
+    reported(alloc, &trial)
 }
 
 /// The first bridge's page of cycle 1 has a start.
@@ -294,7 +305,7 @@ const ONE_START: Standing = Standing {
     ..CLOSED
 };
 
-pub(crate) fn post_told(alloc: Global) -> Option<Told> {
+pub(crate) fn post_reported(alloc: Global) -> Option<Reported> {
     let trial = Trial {
         parts: &[
             CALLS,
@@ -305,12 +316,12 @@ pub(crate) fn post_told(alloc: Global) -> Option<Told> {
         ],
         act: Act::Post(1),
         before: ONE_START,
-        behind: Standing {
+        following: Standing {
             pages: 4,
             ..ONE_START
         },
     };
-    told(alloc, &trial)
+    reported(alloc, &trial)
 }
 
 /// Whether a new world goes through the calls.
@@ -332,7 +343,7 @@ fn is_new(alloc: Global, made: Result<World<'_>, Memory>) -> bool {
 }
 
 /// Tries to make a world of an admission; if that fails, makes it of its twin.
-fn made(alloc: Global, plan: &Plan, offers: &[Offer]) -> Option<Told>
+fn made(alloc: Global, plan: &Plan, offers: &[Offer]) -> Option<Reported>
     requires offers { AreOffers plan.now offers.now }
     requires few_offers { length offers.now ≤ 1000000 }
 {
@@ -349,21 +360,21 @@ fn made(alloc: Global, plan: &Plan, offers: &[Offer]) -> Option<Told>
 }
 
 /// Tries the same if these may be its offers.
-fn made_with(alloc: Global, plan: &Plan, offers: &[Offer]) -> Option<Told> {
+fn made_with(alloc: Global, plan: &Plan, offers: &[Offer]) -> Option<Reported> {
     if offers.len() > 1_000_000 || !are_offers(plan.domain(), offers) {
         return None;
     }
     made(alloc, plan, offers)
 }
 
-pub(crate) fn new_told(alloc: Global) -> Option<Told> {
+pub(crate) fn new_reported(alloc: Global) -> Option<Reported> {
     let offers = offers_of(alloc, &[(0, 0, "x", 64), (125_000, 1, "x", 64)]).ok()?;
     let plan = plan_of(alloc, line())?;
     made_with(alloc, &plan, offers.as_slice())
 }
 
 /// Tries an event that isn't enabled, and observes the world.
-fn left(alloc: Global, world: &mut World) -> Option<Told> {
+fn left(alloc: Global, world: &mut World) -> Option<Reported> {
     let event = event_of(alloc, Act::Step(0)).ok()?;
     Some(looked_at!(
         alloc,
@@ -374,7 +385,7 @@ fn left(alloc: Global, world: &mut World) -> Option<Told> {
 }
 
 /// Tries the same in a world of a plan.
-fn left_over(alloc: Global, plan: &Plan) -> Option<Told> {
+fn left_over(alloc: Global, plan: &Plan) -> Option<Reported> {
     let mut world = world_of(alloc, plan, &[])?;
     if all_happen(alloc, &mut world, &[Act::Admit]) {
         left(alloc, &mut world)
@@ -383,7 +394,7 @@ fn left_over(alloc: Global, plan: &Plan) -> Option<Told> {
     }
 }
 
-pub(crate) fn not_enabled_told(alloc: Global) -> Option<Told> {
+pub(crate) fn not_enabled_reported(alloc: Global) -> Option<Reported> {
     let plan = plan_of(alloc, line())?;
     left_over(alloc, &plan)
 }

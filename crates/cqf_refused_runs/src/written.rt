@@ -6,7 +6,7 @@ use crate::plain::{Given, along, make_given, may_run};
 use cqf_admission::{Admission, Entry};
 use cqf_model::{Book, Offer, Start};
 use cqf_plain::run;
-use cqf_refused_values::{Told, X, domain_of, is_text, tables_of, trial};
+use cqf_refused_values::{Reported, X, domain_of, is_text, tables_of, trial};
 use cqf_report::{books_are_in_order, write_book, write_history, write_links, write_starts};
 use cqf_test_fixtures::{Asked, admission_of, line, one_link, request};
 use cqf_topology::Domain;
@@ -42,7 +42,7 @@ const BOOK: &str = "what,cycle,where,frame,octets,detail\n\
     background,0,b>c,1,1522,0\ndrop,0,b,2,64,other-bridge\n";
 
 /// Tries to write a book.
-fn book_written(alloc: Global, domain: &Domain, book: &Book) -> Told {
+fn book_written(alloc: Global, domain: &Domain, book: &Book) -> Reported {
     trial!(
         alloc,
         write_book(alloc, domain, book),
@@ -52,7 +52,7 @@ fn book_written(alloc: Global, domain: &Domain, book: &Book) -> Told {
     )
 }
 
-pub(crate) fn book_told(alloc: Global) -> Option<Told> {
+pub(crate) fn book_reported(alloc: Global) -> Option<Reported> {
     let given = along(alloc)?;
     let book = book_of(alloc, &given, 5)?;
     Some(book_written(alloc, given.plan.domain(), &book))
@@ -63,7 +63,7 @@ const HISTORY: &str =
     "0 admit x accepted 0 0\n1 seal\n0 admit x refused NameHeld\n0 withdraw x accepted 0 1\n";
 
 /// Tries to write a history.
-fn history_written(alloc: Global, entries: &[Entry]) -> Told {
+fn history_written(alloc: Global, entries: &[Entry]) -> Reported {
     trial!(
         alloc,
         write_history(alloc, entries),
@@ -86,7 +86,7 @@ fn goes_on(alloc: Global, admission: &mut Admission) -> bool {
 }
 
 /// Tries to write the history of an admission over a domain.
-fn history_of(alloc: Global, domain: &Domain) -> Option<Told> {
+fn history_of(alloc: Global, domain: &Domain) -> Option<Reported> {
     let mut admission = admission_of(alloc, domain, &[X])?;
     if goes_on(alloc, &mut admission) {
         Some(history_written(alloc, admission.history()))
@@ -95,7 +95,7 @@ fn history_of(alloc: Global, domain: &Domain) -> Option<Told> {
     }
 }
 
-pub(crate) fn history_told(alloc: Global) -> Option<Told> {
+pub(crate) fn history_reported(alloc: Global) -> Option<Reported> {
     let domain = domain_of(alloc, line())?;
     history_of(alloc, &domain)
 }
@@ -108,7 +108,7 @@ const START: Start = Start {
     frame: 1,
 };
 
-pub(crate) fn starts_told(alloc: Global) -> Option<Told> {
+pub(crate) fn starts_reported(alloc: Global) -> Option<Reported> {
     let text = "class,frame,start,end\n6,1,125000,125576\n";
     Some(trial!(
         alloc,
@@ -126,7 +126,7 @@ fn links_written(
     domain: &Domain,
     book: &Book,
     text: &str,
-) -> Told
+) -> Reported
     requires { AreSumsInOrder book.now.starts.items }
 {
     let count = book.starts.len();
@@ -146,12 +146,12 @@ fn links_of(
     given: &Given,
     cycles: u32,
     text: &str,
-) -> Option<Told> {
+) -> Option<Reported> {
     let book = book_of(alloc, given, cycles)?;
     Some(links_written(rt, alloc, given.plan.domain(), &book, text))
 }
 
-pub(crate) fn links_told(rt: &(impl Threads + Sync), alloc: Global) -> Option<Told> {
+pub(crate) fn links_reported(rt: &(impl Threads + Sync), alloc: Global) -> Option<Reported> {
     let text = "link,frames,octets,most\na>b,1,64,64\nb>c,1,64,64\nc>s,1,64,64\n";
     let given = along(alloc)?;
     links_of(rt, alloc, &given, 5, text)
@@ -202,7 +202,7 @@ fn given_many(alloc: Global) -> Option<Given> {
     Some(many)
 }
 
-pub(crate) fn many_links_told(rt: &(impl Threads + Sync), alloc: Global) -> Option<Told> {
+pub(crate) fn many_links_reported(rt: &(impl Threads + Sync), alloc: Global) -> Option<Reported> {
     let text = "link,frames,octets,most\na>s,2136,136704,11392\n";
     let many = given_many(alloc)?;
     links_of(rt, alloc, &many, 13, text)

@@ -1,5 +1,5 @@
 //! Calls of admissions over the line.
-use crate::{SEVEN, Told, X, domain_of, granted, line_with, trial, writes};
+use crate::{Reported, SEVEN, X, domain_of, granted, line_with, trial, writes};
 use cqf_admission::{Admission, Receipt, Refused, SealFault, Table};
 use cqf_test_fixtures::{Asked, line, request};
 use cqf_topology::{Domain, Request};
@@ -71,7 +71,7 @@ fn is_new(alloc: Global, made: &Result<Admission, Memory>) -> bool {
 }
 
 /// Tries to make an admission for a domain.
-fn made(alloc: Global, domain: &Domain) -> Told {
+fn made(alloc: Global, domain: &Domain) -> Reported {
     trial!(
         alloc,
         Admission::new(alloc, domain),
@@ -81,7 +81,7 @@ fn made(alloc: Global, domain: &Domain) -> Told {
     )
 }
 
-pub(crate) fn new_told(alloc: Global) -> Option<Told> {
+pub(crate) fn new_reported(alloc: Global) -> Option<Reported> {
     let domain = domain_of(alloc, line())?;
     Some(made(alloc, &domain))
 }
@@ -91,7 +91,7 @@ pub(crate) fn new_told(alloc: Global) -> Option<Told> {
 struct Call {
     answer: Result<Receipt, Refused>,
     before: &'static Standing,
-    behind: &'static Standing,
+    following: &'static Standing,
 }
 
 /// Whether an answer is the expected one, and the admission is in the state after the call.
@@ -101,11 +101,11 @@ fn is_answered(
     answer: Result<Receipt, Refused>,
     call: &Call,
 ) -> bool {
-    answer == call.answer && stands(alloc, admission, call.behind)
+    answer == call.answer && stands(alloc, admission, call.following)
 }
 
 /// Tries to admit a stream.
-fn admitted(alloc: Global, admission: &mut Admission, wanted: &Request, call: &Call) -> Told {
+fn admitted(alloc: Global, admission: &mut Admission, wanted: &Request, call: &Call) -> Reported {
     trial!(
         alloc,
         admission.admit(0, wanted),
@@ -116,30 +116,30 @@ fn admitted(alloc: Global, admission: &mut Admission, wanted: &Request, call: &C
 }
 
 /// Tries to admit a stream while others are held.
-fn asked_for(alloc: Global, streams: &[Asked], asked: &Asked, call: &Call) -> Option<Told> {
+fn asked_for(alloc: Global, streams: &[Asked], asked: &Asked, call: &Call) -> Option<Reported> {
     let wanted = request(alloc, asked).ok()?;
     let mut admission = line_with(alloc, streams)?;
     Some(admitted(alloc, &mut admission, &wanted, call))
 }
 
-pub(crate) fn admit_told(alloc: Global) -> Option<Told> {
+pub(crate) fn admit_reported(alloc: Global) -> Option<Reported> {
     let (seventh, six) = SEVEN.split_last()?;
     let call = Call {
         answer: granted(6, 0),
         before: &OF_SIX,
-        behind: &OF_SEVEN,
+        following: &OF_SEVEN,
     };
     asked_for(alloc, six, seventh, &call)
 }
 
-pub(crate) fn short_told(alloc: Global) -> Option<Told> {
+pub(crate) fn short_reported(alloc: Global) -> Option<Reported> {
     let call = Call {
         answer: Err(Refused::BudgetShort {
             link: 0,
             left: 1280,
         }),
         before: &OF_SEVEN,
-        behind: &WITH_SHORT,
+        following: &WITH_SHORT,
     };
     asked_for(alloc, SEVEN, &X, &call)
 }
@@ -158,7 +158,7 @@ const WITHOUT_X: Standing = Standing {
 };
 
 /// Tries to withdraw a stream.
-fn withdrawn(alloc: Global, admission: &mut Admission, call: &Call) -> Told {
+fn withdrawn(alloc: Global, admission: &mut Admission, call: &Call) -> Reported {
     trial!(
         alloc,
         admission.withdraw(0, "x"),
@@ -168,11 +168,11 @@ fn withdrawn(alloc: Global, admission: &mut Admission, call: &Call) -> Told {
     )
 }
 
-pub(crate) fn withdraw_told(alloc: Global) -> Option<Told> {
+pub(crate) fn withdraw_reported(alloc: Global) -> Option<Reported> {
     let call = Call {
         answer: granted(0, 0),
         before: &OF_X,
-        behind: &WITHOUT_X,
+        following: &WITHOUT_X,
     };
     let mut admission = line_with(alloc, &[X])?;
     Some(withdrawn(alloc, &mut admission, &call))
@@ -203,7 +203,7 @@ fn is_sealed(alloc: Global, admission: &Admission, given: &Result<Table, SealFau
 }
 
 /// Tries to close a cycle.
-fn sealed(alloc: Global, admission: &mut Admission) -> Told {
+fn sealed(alloc: Global, admission: &mut Admission) -> Reported {
     trial!(
         alloc,
         admission.seal(1),
@@ -213,7 +213,7 @@ fn sealed(alloc: Global, admission: &mut Admission) -> Told {
     )
 }
 
-pub(crate) fn seal_told(alloc: Global) -> Option<Told> {
+pub(crate) fn seal_reported(alloc: Global) -> Option<Reported> {
     let mut admission = line_with(alloc, &[X])?;
     Some(sealed(alloc, &mut admission))
 }

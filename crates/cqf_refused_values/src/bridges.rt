@@ -4,7 +4,7 @@ ghost use Rattle.cqf_model.specs.Run.{AreOffers};
 ghost use Rattle.cqf_laws_cycle.specs.Gathered.{offered_for};
 
 use crate::domains::is_line;
-use crate::{Told, X, mark, once, plan_of, tables_with, trial, twice};
+use crate::{Reported, X, mark, once, plan_of, tables_with, trial, twice};
 use cqf_admission::Table;
 use cqf_bridge::{Batch, Bridge, BridgeFault, offers_of};
 use cqf_compile::Plan;
@@ -33,8 +33,8 @@ pub(crate) fn is_batch(batch: &Batch, cycle: Cycle, link: u16, frames: &[Sent]) 
     if batch.cycle() != cycle || batch.link() != link || batch.len() != frames.len() {
         return false;
     }
-    for place in 0..frames.len() {
-        if batch.get(place) != frames[place] {
+    for index in 0..frames.len() {
+        if batch.get(index) != frames[index] {
             return false;
         }
     }
@@ -65,7 +65,7 @@ pub(crate) fn sends(
 }
 
 /// Tries to make the second bridge of a plan.
-fn made(alloc: Global, plan: &Plan) -> Told
+fn made(alloc: Global, plan: &Plan) -> Reported
     requires { 1 < length plan.now.bridges }
 {
     trial!(
@@ -78,7 +78,7 @@ fn made(alloc: Global, plan: &Plan) -> Told
 }
 
 /// Tries the same if there is a second bridge.
-fn made_of(alloc: Global, plan: &Plan) -> Option<Told> {
+fn made_of(alloc: Global, plan: &Plan) -> Option<Reported> {
     if plan.domain().bridges() == 3 {
         Some(made(alloc, plan))
     } else {
@@ -86,7 +86,7 @@ fn made_of(alloc: Global, plan: &Plan) -> Option<Told> {
     }
 }
 
-pub(crate) fn new_told(alloc: Global) -> Option<Told> {
+pub(crate) fn new_reported(alloc: Global) -> Option<Reported> {
     let plan = plan_of(alloc, line())?;
     made_of(alloc, &plan)
 }
@@ -171,7 +171,7 @@ fn bridge_of(alloc: Global, ready: &Ready, number: u16) -> Option<Bridge> {
 }
 
 /// Returns the first bridge after cycle 0.
-pub(crate) fn first_behind(alloc: Global, ready: &Ready) -> Option<Bridge> {
+pub(crate) fn first_after(alloc: Global, ready: &Ready) -> Option<Bridge> {
     let mut bridge = bridge_of(alloc, ready, 0)?;
     if goes_through(
         alloc,
@@ -201,7 +201,7 @@ fn is_spent(alloc: Global, bridge: &mut Bridge) -> bool {
 }
 
 /// Tries to let the first bridge send cycle 1. If that fails the bridge is spent, and its twin sends it.
-fn sent(alloc: Global, bridge: &mut Bridge, twin: &mut Bridge) -> Told {
+fn sent(alloc: Global, bridge: &mut Bridge, twin: &mut Bridge) -> Reported {
     let mut batches = Vec::new(alloc);
     mark(alloc);
     let first = bridge.send(alloc, Cycle(1), &[], &mut batches);
@@ -217,13 +217,13 @@ fn sent(alloc: Global, bridge: &mut Bridge, twin: &mut Bridge) -> Told {
 pub(crate) const ONE: &[Offering] = &[(0, 0, "x", 64)];
 
 /// Returns two bridges that have gone through cycle 0.
-fn two_behind(alloc: Global, ready: &Ready) -> Option<(Bridge, Bridge)> {
-    Some((first_behind(alloc, ready)?, first_behind(alloc, ready)?))
+fn two_after(alloc: Global, ready: &Ready) -> Option<(Bridge, Bridge)> {
+    Some((first_after(alloc, ready)?, first_after(alloc, ready)?))
 }
 
-pub(crate) fn send_told(alloc: Global) -> Option<Told> {
+pub(crate) fn send_reported(alloc: Global) -> Option<Reported> {
     let ready = make_ready(alloc, &[X], ONE)?;
-    let (mut bridge, mut twin) = two_behind(alloc, &ready)?;
+    let (mut bridge, mut twin) = two_after(alloc, &ready)?;
     Some(sent(alloc, &mut bridge, &mut twin))
 }
 
@@ -238,7 +238,7 @@ fn empty_batches(alloc: Global, ready: &Ready) -> Option<Vec<Batch>> {
 }
 
 /// Returns the second bridge after it has sent cycle 1.
-pub(crate) fn second_behind(alloc: Global, ready: &Ready) -> Option<Bridge> {
+pub(crate) fn second_after(alloc: Global, ready: &Ready) -> Option<Bridge> {
     let mut bridge = bridge_of(alloc, ready, 1)?;
     let batches = empty_batches(alloc, ready)?;
     let goes = sends(alloc, &mut bridge, Cycle(0), 1, &[])
@@ -256,7 +256,7 @@ pub(crate) fn second_behind(alloc: Global, ready: &Ready) -> Option<Bridge> {
 
 /// Returns what the first bridge sends in cycle 1.
 pub(crate) fn full_batches(alloc: Global, ready: &Ready) -> Option<Vec<Batch>> {
-    let mut bridge = first_behind(alloc, ready)?;
+    let mut bridge = first_after(alloc, ready)?;
     let mut batches = Vec::new(alloc);
     match bridge.send(alloc, Cycle(1), &[], &mut batches) {
         Ok(()) => Some(batches),
@@ -273,7 +273,7 @@ const LATER: Sent = Sent {
 };
 
 /// Returns the frame of the next stream, which leaves it after another one: 84 octets on the wire take 672 ns.
-fn behind(sent: &Sent) -> Sent {
+fn following(sent: &Sent) -> Sent {
     Sent {
         start: Nanos(sent.start.0.saturating_add(672)),
         frame: sent.frame.saturating_add(1),
@@ -288,11 +288,11 @@ fn is_later(batch: &Batch, count: usize) -> bool {
         return false;
     }
     let mut sent = LATER;
-    for place in 0..count {
-        if batch.get(place) != sent {
+    for index in 0..count {
+        if batch.get(index) != sent {
             return false;
         }
-        sent = behind(&sent);
+        sent = following(&sent);
     }
     true
 }
@@ -339,7 +339,7 @@ fn received(
     bridge: &mut Bridge,
     twin: &mut Bridge,
     handed: &Handed<'_>,
-) -> Option<Told> {
+) -> Option<Reported> {
     let Some(own) = own_of(alloc, bridge, Cycle(1), handed.offers) else {
         return None;
     };
@@ -364,11 +364,11 @@ fn received(
 
 /// Returns two second bridges.
 fn two_seconds(alloc: Global, ready: &Ready) -> Option<(Bridge, Bridge)> {
-    Some((second_behind(alloc, ready)?, second_behind(alloc, ready)?))
+    Some((second_after(alloc, ready)?, second_after(alloc, ready)?))
 }
 
 /// Tries to let the second bridge of what was prepared receive cycle 1.
-fn received_of(alloc: Global, ready: &Ready, drops: &[Fell], later: usize) -> Option<Told> {
+fn received_of(alloc: Global, ready: &Ready, drops: &[Fell], later: usize) -> Option<Reported> {
     let (mut bridge, mut twin) = two_seconds(alloc, ready)?;
     let batches = full_batches(alloc, ready)?;
     let handed = Handed {
@@ -389,12 +389,12 @@ pub(crate) fn received_with(
     offering: &[Offering],
     drops: &[Fell],
     later: usize,
-) -> Option<Told> {
+) -> Option<Reported> {
     let ready = make_ready(alloc, streams, offering)?;
     received_of(alloc, &ready, drops, later)
 }
 
-pub(crate) fn receive_told(alloc: Global) -> Option<Told> {
+pub(crate) fn receive_reported(alloc: Global) -> Option<Reported> {
     let offering = [(0, 0, "x", 64), (125_000, 1, "x", 64)];
     let drops = [(1, 1, 2, 64, Reason::OtherBridge)];
     received_with(alloc, &[X], &offering, &drops, 1)

@@ -1,7 +1,7 @@
 //! Copies, and what results when they are used. The original is unchanged.
 use crate::admissions::{Standing, stands};
 use crate::domains::{is_line, is_request};
-use crate::{PATH, Told, X, domain_of, granted, line_with, tables_of, trial};
+use crate::{PATH, Reported, X, domain_of, granted, line_with, tables_of, trial};
 use cqf_admission::{Admission, Refused, Table};
 use cqf_test_fixtures::{Asked, line, request};
 use cqf_topology::{Domain, Request};
@@ -25,7 +25,7 @@ fn is_domain(alloc: Global, copy: &Result<Domain, Memory>) -> bool {
 }
 
 /// Tries to copy a domain.
-fn domain_copied(alloc: Global, domain: &Domain) -> Told {
+fn domain_copied(alloc: Global, domain: &Domain) -> Reported {
     trial!(
         alloc,
         domain.try_copy(alloc),
@@ -35,7 +35,7 @@ fn domain_copied(alloc: Global, domain: &Domain) -> Told {
     )
 }
 
-pub(crate) fn domain_told(alloc: Global) -> Option<Told> {
+pub(crate) fn domain_reported(alloc: Global) -> Option<Reported> {
     let domain = domain_of(alloc, line())?;
     Some(domain_copied(alloc, &domain))
 }
@@ -62,7 +62,7 @@ fn is_granted(alloc: Global, wanted: &Request) -> bool {
 }
 
 /// Tries to copy a request.
-fn request_copied(alloc: Global, wanted: &Request) -> Told {
+fn request_copied(alloc: Global, wanted: &Request) -> Reported {
     trial!(
         alloc,
         wanted.try_copy(alloc),
@@ -72,7 +72,7 @@ fn request_copied(alloc: Global, wanted: &Request) -> Told {
     )
 }
 
-pub(crate) fn request_told(alloc: Global) -> Option<Told> {
+pub(crate) fn request_reported(alloc: Global) -> Option<Reported> {
     let wanted = request(alloc, &X).ok()?;
     Some(request_copied(alloc, &wanted))
 }
@@ -95,7 +95,7 @@ fn is_table_copied(copy: &Result<Table, Memory>) -> bool {
 }
 
 /// Tries to copy a table.
-fn table_copied(alloc: Global, table: &Table) -> Told {
+fn table_copied(alloc: Global, table: &Table) -> Reported {
     trial!(
         alloc,
         table.try_copy(alloc),
@@ -105,7 +105,7 @@ fn table_copied(alloc: Global, table: &Table) -> Told {
     )
 }
 
-pub(crate) fn table_told(alloc: Global) -> Option<Told> {
+pub(crate) fn table_reported(alloc: Global) -> Option<Reported> {
     let mut admission = line_with(alloc, &[X])?;
     let tables = tables_of(alloc, &mut admission, 1)?;
     let table = tables.first()?;
@@ -159,7 +159,7 @@ fn is_admission(
 }
 
 /// Tries to copy an admission.
-fn admission_copied(alloc: Global, admission: &Admission, wanted: &Request) -> Told {
+fn admission_copied(alloc: Global, admission: &Admission, wanted: &Request) -> Reported {
     trial!(
         alloc,
         admission.try_copy(alloc),
@@ -180,7 +180,7 @@ fn held_on(alloc: Global) -> Option<Admission> {
     Some(admission)
 }
 
-pub(crate) fn admission_told(alloc: Global) -> Option<Told> {
+pub(crate) fn admission_reported(alloc: Global) -> Option<Reported> {
     let wanted = request(alloc, &NEW).ok()?;
     let admission = held_on(alloc)?;
     Some(admission_copied(alloc, &admission, &wanted))

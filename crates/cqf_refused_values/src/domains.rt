@@ -1,5 +1,5 @@
 //! Reading of domains and streams.
-use crate::{Told, X, trial};
+use crate::{Reported, X, trial};
 use cqf_test_fixtures::{Asked, line};
 use cqf_topology::{Domain, DomainFault, Link, Node, Request, StreamsFault, read_streams};
 use cqf_units::Rate;
@@ -52,7 +52,7 @@ fn is_read(read: &Result<Domain, DomainFault>) -> bool {
     }
 }
 
-pub(crate) fn read_told(alloc: Global) -> Option<Told> {
+pub(crate) fn read_reported(alloc: Global) -> Option<Reported> {
     let text = line().as_bytes();
     Some(trial!(
         alloc,
@@ -70,18 +70,18 @@ const TWICE: &str = "cycle = 125000\nguard = 5000\nbridges = [\"a\", \"b\"]\nsta
     \n[[links]]\nfrom = \"a\"\nto = \"b\"\nrate = 10\ndelay = 9\n";
 
 /// Whether a reader reported the link that occurs twice.
-fn is_told(read: &Result<Domain, DomainFault>) -> bool {
+fn is_reported(read: &Result<Domain, DomainFault>) -> bool {
     matches!(read, Err(DomainFault::LinkTwice(2)))
 }
 
-pub(crate) fn twice_told(alloc: Global) -> Option<Told> {
+pub(crate) fn twice_reported(alloc: Global) -> Option<Reported> {
     let text = TWICE.as_bytes();
     Some(trial!(
         alloc,
         Domain::read(alloc, text),
         Err(DomainFault::Memory),
         true,
-        |answer| is_told(&answer)
+        |answer| is_reported(&answer)
     ))
 }
 
@@ -119,7 +119,7 @@ fn is_stream(read: &Result<Vec<Request>, StreamsFault>, asked: &Asked) -> bool {
 }
 
 /// Tries to read the text of a stream.
-fn streams_read(alloc: Global, text: &[u8], asked: &Asked) -> Told {
+fn streams_read(alloc: Global, text: &[u8], asked: &Asked) -> Reported {
     trial!(
         alloc,
         read_streams(alloc, text),
@@ -129,7 +129,7 @@ fn streams_read(alloc: Global, text: &[u8], asked: &Asked) -> Told {
     )
 }
 
-pub(crate) fn streams_told(alloc: Global) -> Option<Told> {
+pub(crate) fn streams_reported(alloc: Global) -> Option<Reported> {
     let text = "[[streams]]\nname = \"x\"\noctets = 1500\npath = [\"a\", \"b\", \"c\", \"s\"]\n";
     Some(streams_read(alloc, text.as_bytes(), &X))
 }
@@ -137,7 +137,7 @@ pub(crate) fn streams_told(alloc: Global) -> Option<Told> {
 /// A stream with two branches.
 const FORKED: Asked = ("x", 1500, &[&["a", "b", "c", "s"], &["a", "b", "t"]]);
 
-pub(crate) fn branches_told(alloc: Global) -> Option<Told> {
+pub(crate) fn branches_reported(alloc: Global) -> Option<Reported> {
     let text =
         "[[streams]]\nname = \"x\"\noctets = 1500\npaths = [[\"a\", \"b\", \"c\", \"s\"], [\"a\", \"b\", \"t\"]]\n";
     Some(streams_read(alloc, text.as_bytes(), &FORKED))

@@ -1,5 +1,5 @@
 //! Writing of gate lists.
-use crate::{Told, is_text, trial};
+use crate::{Reported, is_text, trial};
 use cqf_gates::{StreamEntry, StreamList, TxList, write_stream, write_tx};
 use std::alloc::Global;
 
@@ -29,7 +29,7 @@ const GATE: &[StreamEntry] = &[
 
 const GATE_TEXT: &str = "open 6 125000 1500\nopen 7 125000 1500\n";
 
-pub(crate) fn write_tx_told(alloc: Global) -> Option<Told> {
+pub(crate) fn write_tx_reported(alloc: Global) -> Option<Reported> {
     let list = TxList::new(LIST).ok()?;
     Some(trial!(
         alloc,
@@ -40,7 +40,7 @@ pub(crate) fn write_tx_told(alloc: Global) -> Option<Told> {
     ))
 }
 
-pub(crate) fn write_stream_told(alloc: Global) -> Option<Told> {
+pub(crate) fn write_stream_reported(alloc: Global) -> Option<Reported> {
     let list = StreamList::new(GATE).ok()?;
     Some(trial!(
         alloc,

@@ -4,13 +4,13 @@
 //! A call is made between two marks, and repeated if it was refused for lack of memory. The expected result is given
 //! with each call, worked out by hand.
 //!
-//! - [`told_of`] makes the trial with a name, and [`NAMES`] are the names of all of them.
+//! - [`reported_of`] makes the trial with a name, and [`NAMES`] are the names of all of them.
 //! - [`mark`] is called before and after a call, so that a program that refuses allocations knows when the call begins
 //!   and ends.
-//! - [`Told`] is the result of a trial: [`once`] if the call was answered, and [`twice`] if it was refused for lack of
+//! - [`Reported`] is the result of a trial: [`once`] if the call was answered, and [`twice`] if it was refused for lack of
 //!   memory and repeated. `trial!` makes the calls and returns the right one of the two; `looked_at!` is for calls that
 //!   allocate no memory.
-//! - `names_of!` and `told_by!` find the trials of a list by their names.
+//! - `names_of!` and `reported_by!` find the trials of a list by their names.
 //! - [`domain_of`], [`plan_of`], [`line_with`] and [`tables_with`] prepare what calls need.
 #![tactic(auto)]
 
@@ -26,9 +26,9 @@ mod numbers;
 mod plans;
 mod ports;
 mod ready;
+mod reported;
 mod spent;
 mod texts;
-mod told;
 mod values;
 
 pub use marks::mark;
@@ -36,5 +36,5 @@ pub use ready::{
     MOST_ENTRIES, PATH, SEVEN, X, domain_of, fills, granted, is_text, line_with, plan_of,
     tables_of, tables_with, writes,
 };
-pub use told::{Told, once, twice};
-pub use values::{NAMES, told_of};
+pub use reported::{Reported, once, twice};
+pub use values::{NAMES, reported_of};

@@ -1,6 +1,6 @@
 //! Cases that are large enough to allocate what a small one doesn't.
 use crate::bridges::received_with;
-use crate::{PATH, Told, X, line_with, tables_of, trial};
+use crate::{PATH, Reported, X, line_with, tables_of, trial};
 use cqf_admission::{Admission, SealFault, Table};
 use cqf_bridge::StreamGates;
 use cqf_gates::Passed;
@@ -83,7 +83,7 @@ fn stands(alloc: Global, admission: &Admission, history: &[u8]) -> bool {
 }
 
 /// Tries to close a cycle.
-fn sealed(alloc: Global, admission: &mut Admission, history: &[u8]) -> Told {
+fn sealed(alloc: Global, admission: &mut Admission, history: &[u8]) -> Reported {
     trial!(
         alloc,
         admission.seal(1),
@@ -93,7 +93,7 @@ fn sealed(alloc: Global, admission: &mut Admission, history: &[u8]) -> Told {
     )
 }
 
-pub(crate) fn seal_told(alloc: Global) -> Option<Told> {
+pub(crate) fn seal_reported(alloc: Global) -> Option<Reported> {
     let mut admission = line_with(alloc, STREAMS)?;
     let text = write_history(alloc, admission.history()).ok()?;
     Some(sealed(alloc, &mut admission, text.as_slice()))
@@ -101,7 +101,7 @@ pub(crate) fn seal_told(alloc: Global) -> Option<Told> {
 
 /// A frame at the first bridge, and 21 at the second one that come before it and are all dropped: they aren't gathered
 /// in order.
-pub(crate) fn receive_told(alloc: Global) -> Option<Told> {
+pub(crate) fn receive_reported(alloc: Global) -> Option<Reported> {
     let mut offering: [Offering; 22] = [(125_000, 1, "x", 64); 22];
     offering[0] = (0, 0, "x", 64);
     let mut drops: [Fell; 21] = [(1, 1, 2, 64, Reason::OtherBridge); 21];
@@ -114,7 +114,7 @@ pub(crate) fn receive_told(alloc: Global) -> Option<Told> {
 }
 
 /// A frame of each of 17 streams at the first bridge: of this many gates a bridge also keeps the numbers.
-pub(crate) fn receive_each_told(alloc: Global) -> Option<Told> {
+pub(crate) fn receive_each_reported(alloc: Global) -> Option<Reported> {
     let mut offering: [Offering; 17] = [(0, 0, "", 64); 17];
     for (offered, asked) in offering.iter_mut().zip(STREAMS) {
         offered.2 = asked.0;
@@ -123,7 +123,7 @@ pub(crate) fn receive_each_told(alloc: Global) -> Option<Told> {
 }
 
 /// The first frame of a stream passes at a new gate, and uses its reservation.
-fn passed(alloc: Global, domain: &Domain, table: &Table) -> Option<Told> {
+fn passed(alloc: Global, domain: &Domain, table: &Table) -> Option<Reported> {
     let row = table.row_of(0)?;
     let mut gates = StreamGates::new(alloc);
     Some(trial!(
@@ -135,7 +135,7 @@ fn passed(alloc: Global, domain: &Domain, table: &Table) -> Option<Told> {
     ))
 }
 
-pub(crate) fn pass_told(alloc: Global) -> Option<Told> {
+pub(crate) fn pass_reported(alloc: Global) -> Option<Reported> {
     let mut admission = line_with(alloc, &[X])?;
     let tables = tables_of(alloc, &mut admission, 1)?;
     let table = tables.first()?;

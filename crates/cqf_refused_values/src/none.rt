@@ -2,7 +2,8 @@
 use crate::domains::is_line;
 use crate::gates::LIST;
 use crate::{
-    MOST_ENTRIES, Told, X, domain_of, fills, line_with, looked_at, mark, once, plan_of, tables_of,
+    MOST_ENTRIES, Reported, X, domain_of, fills, line_with, looked_at, mark, once, plan_of,
+    tables_of,
 };
 use cqf_admission::{Admission, Refused, Reply, Table};
 use cqf_compile::{Plan, gate_of};
@@ -50,7 +51,7 @@ fn is_read() -> bool {
     }
 }
 
-pub(crate) fn gates_told(alloc: Global) -> Option<Told> {
+pub(crate) fn gates_reported(alloc: Global) -> Option<Reported> {
     Some(looked_at!(alloc, is_read() && is_stream_list()))
 }
 
@@ -59,7 +60,7 @@ fn is_port(port: &Port) -> bool {
     port.now() == Nanos(0) && port.waiting(6) == 0 && port.next_start() == None
 }
 
-pub(crate) fn port_told(alloc: Global) -> Option<Told> {
+pub(crate) fn port_reported(alloc: Global) -> Option<Reported> {
     let list = TxList::new(LIST).ok()?;
     Some(looked_at!(alloc, is_port(&Port::new(alloc, list, Rate::Mb1000))))
 }
@@ -84,7 +85,7 @@ fn port_at_500(alloc: Global) -> Option<Port> {
 }
 
 /// Advancing to an instant that isn't after its own changes nothing.
-fn stays(alloc: Global, port: &mut Port) -> Told {
+fn stays(alloc: Global, port: &mut Port) -> Reported {
     let mut starts = Vec::new(alloc);
     looked_at!(
         alloc,
@@ -95,12 +96,12 @@ fn stays(alloc: Global, port: &mut Port) -> Told {
     )
 }
 
-pub(crate) fn stay_told(alloc: Global) -> Option<Told> {
+pub(crate) fn stay_reported(alloc: Global) -> Option<Reported> {
     let mut port = port_at_500(alloc)?;
     Some(stays(alloc, &mut port))
 }
 
-pub(crate) fn domain_told(alloc: Global) -> Option<Told> {
+pub(crate) fn domain_reported(alloc: Global) -> Option<Reported> {
     let domain = domain_of(alloc, line())?;
     Some(looked_at!(alloc, is_line(&domain) && has_names(&domain)))
 }
@@ -127,12 +128,12 @@ fn is_table(table: &Table, name: &Name) -> bool {
 }
 
 /// Observes a table.
-fn table_seen(alloc: Global, table: &Table) -> Option<Told> {
+fn table_seen(alloc: Global, table: &Table) -> Option<Reported> {
     let name = Name::new(b"x")?;
     Some(looked_at!(alloc, is_table(table, &name)))
 }
 
-pub(crate) fn table_told(alloc: Global) -> Option<Told> {
+pub(crate) fn table_reported(alloc: Global) -> Option<Reported> {
     let mut admission = line_with(alloc, &[X])?;
     let tables = tables_of(alloc, &mut admission, 1)?;
     let table = tables.first()?;
@@ -150,14 +151,14 @@ fn is_plan(plan: &Plan, table: &Table) -> bool {
 }
 
 /// Observes a plan.
-fn plan_seen(alloc: Global, plan: &Plan) -> Option<Told> {
+fn plan_seen(alloc: Global, plan: &Plan) -> Option<Reported> {
     let mut admission = admission_of(alloc, plan.domain(), &[X])?;
     let tables = tables_of(alloc, &mut admission, 1)?;
     let table = tables.first()?;
     Some(looked_at!(alloc, is_plan(plan, table)))
 }
 
-pub(crate) fn plan_told(alloc: Global) -> Option<Told> {
+pub(crate) fn plan_reported(alloc: Global) -> Option<Reported> {
     let plan = plan_of(alloc, line())?;
     plan_seen(alloc, &plan)
 }
@@ -170,7 +171,7 @@ fn is_admission(admission: &Admission) -> bool {
         && admission.held_on(1).0 == 1960
 }
 
-pub(crate) fn admission_told(alloc: Global) -> Option<Told> {
+pub(crate) fn admission_reported(alloc: Global) -> Option<Reported> {
     let admission = line_with(alloc, &[X])?;
     Some(looked_at!(alloc, is_admission(&admission)))
 }
@@ -184,7 +185,7 @@ fn is_full(admission: &Admission) -> bool {
 }
 
 /// Makes calls for which the history has no room.
-fn refused(alloc: Global, admission: &mut Admission, wanted: &Request) -> Option<Told> {
+fn refused(alloc: Global, admission: &mut Admission, wanted: &Request) -> Option<Reported> {
     if !fills(admission) {
         return None;
     }
@@ -197,22 +198,22 @@ fn refused(alloc: Global, admission: &mut Admission, wanted: &Request) -> Option
 }
 
 /// The same over the domain of a text.
-fn refused_over(alloc: Global, text: &str) -> Option<Told> {
+fn refused_over(alloc: Global, text: &str) -> Option<Reported> {
     let wanted = request(alloc, &X).ok()?;
     let domain = domain_of(alloc, text)?;
     refused_by(alloc, &domain, &wanted)
 }
 
 /// The same, for an admission of this domain.
-fn refused_by(alloc: Global, domain: &Domain, wanted: &Request) -> Option<Told> {
+fn refused_by(alloc: Global, domain: &Domain, wanted: &Request) -> Option<Reported> {
     let mut admission = admission_of(alloc, domain, &[])?;
     refused(alloc, &mut admission, wanted)
 }
 
-pub(crate) fn full_told(alloc: Global) -> Option<Told> {
+pub(crate) fn full_reported(alloc: Global) -> Option<Reported> {
     refused_over(alloc, one_link())
 }
 
-pub(crate) fn full_line_told(alloc: Global) -> Option<Told> {
+pub(crate) fn full_line_reported(alloc: Global) -> Option<Reported> {
     refused_over(alloc, line())
 }

@@ -1,5 +1,5 @@
 //! Quantities and lanes, whose calls allocate no memory.
-use crate::{Told, looked_at};
+use crate::{Reported, looked_at};
 use cqf_lanes::{
     eligible, eligible_plain, highest, highest_plain, octet_sum, octet_sum_plain, open_run,
     open_run_plain,
@@ -19,7 +19,7 @@ fn is_name() -> bool {
 
 /// Whether costs, budgets and cycles are those of a cycle of 125,000 ns.
 fn are_reserved() -> bool {
-    cost(Octets(1500)) == Octets(1960)
+    cost(Octets(0), Octets(1500)) == Octets(1960)
         && budget(Nanos(125_000), Nanos(5_000), Rate::Mb1000) == Octets(15_000)
         && cycle_of(Nanos(250_000), Nanos(125_000)) == Cycle(2)
 }
@@ -33,7 +33,7 @@ fn are_timed() -> bool {
         && idle_from(Nanos(0), frame, Rate::Mb1000) == Nanos(672)
 }
 
-pub(crate) fn units_told(alloc: Global) -> Option<Told> {
+pub(crate) fn units_reported(alloc: Global) -> Option<Reported> {
     Some(looked_at!(alloc, is_name() && are_reserved() && are_timed()))
 }
 
@@ -55,6 +55,6 @@ fn are_chosen() -> bool {
         && highest_plain(0x41) == Some(6)
 }
 
-pub(crate) fn lanes_told(alloc: Global) -> Option<Told> {
+pub(crate) fn lanes_reported(alloc: Global) -> Option<Reported> {
     Some(looked_at!(alloc, are_summed() && are_chosen()))
 }

@@ -1,10 +1,10 @@
 //! Compiling of plans, and writing of configurations.
 ghost use Rattle.std.specs.Prelude.{IfSome};
 ghost use Rattle.cqf_admission.specs.Tables.{AreAlongLinks};
-ghost use Rattle.cqf_admission.specs.Turns.{AreOfGoodPaces};
+ghost use Rattle.cqf_admission.specs.ActiveCycles.{AreOfGoodPaces};
 
 use crate::gates::LIST;
-use crate::{Told, domain_of, is_text, plan_of, trial};
+use crate::{Reported, domain_of, is_text, plan_of, trial};
 use cqf_admission::{Admission, Table};
 use cqf_compile::{Plan, compile, write_config};
 use cqf_test_fixtures::{Asked, admission_of, one_link};
@@ -24,7 +24,7 @@ fn is_plan(made: &Result<Plan, Memory>) -> bool {
 }
 
 /// Tries to compile the domain.
-fn compiled(alloc: Global, domain: &Domain) -> Told {
+fn compiled(alloc: Global, domain: &Domain) -> Reported {
     trial!(
         alloc,
         compile(alloc, domain),
@@ -34,7 +34,7 @@ fn compiled(alloc: Global, domain: &Domain) -> Told {
     )
 }
 
-pub(crate) fn compile_told(alloc: Global) -> Option<Told> {
+pub(crate) fn compile_reported(alloc: Global) -> Option<Reported> {
     let domain = domain_of(alloc, one_link())?;
     Some(compiled(alloc, &domain))
 }
@@ -65,7 +65,7 @@ fn sealed(admission: &mut Admission) -> Option<Table>
 }
 
 /// Tries to write the configuration.
-fn written(alloc: Global, plan: &Plan, table: &Table) -> Told
+fn written(alloc: Global, plan: &Plan, table: &Table) -> Reported
     requires along { AreAlongLinks plan.now table.now.rows }
     requires paced { AreOfGoodPaces table.now.rows }
 {
@@ -79,7 +79,7 @@ fn written(alloc: Global, plan: &Plan, table: &Table) -> Told
 }
 
 /// Tries the same for a plan.
-fn config_of(alloc: Global, plan: &Plan) -> Option<Told> {
+fn config_of(alloc: Global, plan: &Plan) -> Option<Reported> {
     match first_table(alloc, plan) {
         Some(table) => {
             let _rows = table.rows();
@@ -89,7 +89,7 @@ fn config_of(alloc: Global, plan: &Plan) -> Option<Told> {
     }
 }
 
-pub(crate) fn config_told(alloc: Global) -> Option<Told> {
+pub(crate) fn config_reported(alloc: Global) -> Option<Reported> {
     let plan = plan_of(alloc, one_link())?;
     config_of(alloc, &plan)
 }

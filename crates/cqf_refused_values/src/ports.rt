@@ -1,7 +1,7 @@
 //! A port with two entries: the first opens class 7 and the second class 6, for 1,000 ns each.
 ghost use Rattle.std.specs.Prelude.{◌<◌};
 
-use crate::{Told, trial};
+use crate::{Reported, trial};
 use cqf_gates::TxList;
 use cqf_port::{Arrival, Port, PortFault, Start};
 use cqf_units::{Nanos, Rate};
@@ -57,7 +57,7 @@ fn has_waiting(port: &Port, frames: usize) -> bool {
 }
 
 /// Tries to offer the frame to a port at which this number already waits.
-fn offered(alloc: Global, port: &mut Port, before: usize) -> Told
+fn offered(alloc: Global, port: &mut Port, before: usize) -> Reported
     requires { before < 5 }
 {
     trial!(
@@ -69,13 +69,13 @@ fn offered(alloc: Global, port: &mut Port, before: usize) -> Told
     )
 }
 
-pub(crate) fn offer_told(alloc: Global) -> Option<Told> {
+pub(crate) fn offer_reported(alloc: Global) -> Option<Reported> {
     let mut port = port_at_500(alloc)?;
     Some(offered(alloc, &mut port, 0))
 }
 
 /// The fifth frame needs room that four don't.
-pub(crate) fn offer_behind_told(alloc: Global) -> Option<Told> {
+pub(crate) fn offer_after_reported(alloc: Global) -> Option<Reported> {
     let mut port = port_with(alloc, 4)?;
     Some(offered(alloc, &mut port, 4))
 }
@@ -86,7 +86,7 @@ fn has_started(port: &Port, starts: &[Start]) -> bool {
 }
 
 /// Tries to advance a port at which the frame waits.
-fn advanced(alloc: Global, port: &mut Port) -> Told {
+fn advanced(alloc: Global, port: &mut Port) -> Reported {
     let mut starts = Vec::new(alloc);
     trial!(
         alloc,
@@ -97,7 +97,7 @@ fn advanced(alloc: Global, port: &mut Port) -> Told {
     )
 }
 
-pub(crate) fn advance_told(alloc: Global) -> Option<Told> {
+pub(crate) fn advance_reported(alloc: Global) -> Option<Reported> {
     let mut port = port_with(alloc, 1)?;
     Some(advanced(alloc, &mut port))
 }

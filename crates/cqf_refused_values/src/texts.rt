@@ -1,5 +1,5 @@
 //! Reading of tables and scripts.
-use crate::{Told, X, domain_of, trial};
+use crate::{Reported, X, domain_of, trial};
 use cqf_admission::{Call, ScriptFault, read_script};
 use cqf_model::{Arrival, Background, Offer};
 use cqf_report::{OfferFault, TableFault, read_arrivals, read_background, read_offers};
@@ -22,7 +22,7 @@ fn is_arrival(read: &Result<Vec<Arrival>, TableFault>) -> bool {
     }
 }
 
-pub(crate) fn arrivals_told(alloc: Global) -> Option<Told> {
+pub(crate) fn arrivals_reported(alloc: Global) -> Option<Reported> {
     let text = b"at,class,octets,frame\n10,6,64,1\n".as_slice();
     Some(trial!(
         alloc,
@@ -58,7 +58,7 @@ fn are_offers(read: &Result<Vec<Offer>, OfferFault>) -> bool {
 }
 
 /// Tries to read the offers for a domain.
-fn offers_read(alloc: Global, domain: &Domain) -> Told {
+fn offers_read(alloc: Global, domain: &Domain) -> Reported {
     let text =
         b"at,bridge,stream,octets\n0,a,x,64\n0,b,x,64\n125000,a,x,64\n500000,a,x,64\n".as_slice();
     trial!(
@@ -70,7 +70,7 @@ fn offers_read(alloc: Global, domain: &Domain) -> Told {
     )
 }
 
-pub(crate) fn offers_told(alloc: Global) -> Option<Told> {
+pub(crate) fn offers_reported(alloc: Global) -> Option<Reported> {
     let domain = domain_of(alloc, line())?;
     Some(offers_read(alloc, &domain))
 }
@@ -90,7 +90,7 @@ fn is_background(read: &Result<Vec<Background>, OfferFault>) -> bool {
 }
 
 /// Tries to read the background frame for a domain.
-fn background_read(alloc: Global, domain: &Domain) -> Told {
+fn background_read(alloc: Global, domain: &Domain) -> Reported {
     let text = b"at,from,to,class,octets\n120000,a,s,0,1522\n".as_slice();
     trial!(
         alloc,
@@ -101,7 +101,7 @@ fn background_read(alloc: Global, domain: &Domain) -> Told {
     )
 }
 
-pub(crate) fn background_told(alloc: Global) -> Option<Told> {
+pub(crate) fn background_reported(alloc: Global) -> Option<Reported> {
     let domain = domain_of(alloc, one_link())?;
     Some(background_read(alloc, &domain))
 }
@@ -136,7 +136,7 @@ fn are_calls(read: &Result<Vec<(u16, Call)>, ScriptFault>) -> bool {
 }
 
 /// Tries to read the script with these requests.
-fn script_read(alloc: Global, requests: &[Request]) -> Told {
+fn script_read(alloc: Global, requests: &[Request]) -> Reported {
     let text = b"0 admit x\nseal\n0 withdraw x\n".as_slice();
     trial!(
         alloc,
@@ -147,7 +147,7 @@ fn script_read(alloc: Global, requests: &[Request]) -> Told {
     )
 }
 
-pub(crate) fn script_told(alloc: Global) -> Option<Told> {
+pub(crate) fn script_reported(alloc: Global) -> Option<Reported> {
     let wanted = request(alloc, &X).ok()?;
     Some(script_read(alloc, &[wanted]))
 }

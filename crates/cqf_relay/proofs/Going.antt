@@ -32,7 +32,7 @@ use Rattle.cqf_trace.specs.Traces.{mark_of_sent}
 use Rattle.cqf_relay.specs.declared.edge.Edge.{Edge}
 use Rattle.cqf_relay.specs.declared.inlet.Inlet.{Inlet}
 use Rattle.cqf_relay.specs.declared.leads.By.{By}
-use Rattle.cqf_relay.specs.declared.leads.By.TheVariants as way
+use Rattle.cqf_relay.specs.declared.leads.By.TheVariants as ingress
 use Rattle.cqf_relay.specs.declared.leads.Leads.{Leads}
 use Rattle.cqf_relay.specs.declared.log.ArrivedFrame.{ArrivedFrame}
 use Rattle.cqf_relay.specs.declared.log.SourceLog.{SourceLog}
@@ -47,10 +47,10 @@ use Rattle.cqf_relay.specs.Leading.{by_at, by_row, leads, same_by}
 use Rattle.cqf_relay.specs.Logs.{is_in}
 use Rattle.cqf_relay.specs.Offering.{came_of_going}
 use Rattle.cqf_relay.specs.Queues.{AreByCycle, goes_from, queue_of, queued, queued_by, that_go}
-use Rattle.cqf_relay.specs.Sending.{IsSameLink, IsTidy, SendsCycles, SendsMore, SendsOneCycle, base_with, came_of, most_behind, most_of, moving_on, sends_of, waits_for, with_after}
+use Rattle.cqf_relay.specs.Sending.{IsSameLink, IsTidy, SendsCycles, SendsMore, SendsOneCycle, base_with, came_of, most_after, most_of, moving_on, sends_of, waits_for, with_after}
 use Rattle.cqf_relay.specs.Standing.{Come, GoesOnAlone, GoesOnBy, HasGoneOnBy, HaveSentMore, IsEdgeOf, IsInletOf, IsOutletOf, KnowsRows}
 use Rattle.cqf_relay.specs.Standing.{IsSameButLinks, IsWithin, LetsGo, MayReach, SendsOn, StandsSo, StaysAs, all_rows, comes_by, comes_to, covered_in, link_in, link_out}
-use Rattle.cqf_relay.specs.Standing.{links_from, links_into, that_go_on, told_by, wire_on, wire_out}
+use Rattle.cqf_relay.specs.Standing.{links_from, links_into, reported_by, that_go_on, wire_on, wire_out}
 use Rattle.cqf_relay.proofs.Tidy.{tidy_sends}
 
 -- what a link sent in a cycle stays the same when one more cycle is appended
@@ -58,8 +58,8 @@ pub batch_before : (sends : List (List Sent)) (sents : List Sent) (cycle : ℕ) 
 batch_before sends sents cycle less = get_or_append_left sends (sents ∷ []) [] cycle less
 
 -- and the appended cycle has what was sent in it
-pub batch_behind : (sends : List (List Sent)) (sents : List Sent) (cycle : ℕ) → cycle ≡ length sends → batch_at (sends ++ sents ∷ []) cycle ≡ sents
-batch_behind sends sents cycle e = get_or_push sends sents [] cycle (sym e)
+pub batch_after : (sends : List (List Sent)) (sents : List Sent) (cycle : ℕ) → cycle ≡ length sends → batch_at (sends ++ sents ∷ []) cycle ≡ sents
+batch_after sends sents cycle e = get_or_push sends sents [] cycle (sym e)
 
 -- within 256 cycles of the first one, the cycle count of a frame on its way is exact
 pub moving_same : (d : Domain) (l first cycle : ℕ) (sent : Sent) → cycle < first + 256 →
@@ -76,122 +76,122 @@ all_moving_same d l first cycle (x ∷ xs) near =
     map_same (moving_on (wire_on d l) first cycle) (moving_in d l first cycle) (x ∷ xs) (λ sent c. moving_same d l first cycle sent (near (λ e. cc)))
 
 -- what is on its way with one cycle more
-pub moving_more : (d : Domain) (l base told : ℕ) (sends : List (List Sent)) (sents : List Sent) → told ≤ length sends →
-    moving_between d l (sends ++ sents ∷ []) base told (length sends + 1)
-    ≡ moving_between d l sends base told (length sends) ++ map (moving_in d l base (length sends)) sents
-moving_more d l base told sends sents far =
+pub moving_more : (d : Domain) (l base reported : ℕ) (sends : List (List Sent)) (sents : List Sent) → reported ≤ length sends →
+    moving_between d l (sends ++ sents ∷ []) base reported (length sends + 1)
+    ≡ moving_between d l sends base reported (length sends) ++ map (moving_in d l base (length sends)) sents
+moving_more d l base reported sends sents far =
     let of_cycle = λ (list : List (List Sent)) (c : ℕ). map (moving_in d l base c) (batch_at list c) in
-    let count : length sends + 1 - told ≡ suc (length sends - told) = omega arith in
-    let last : told + (length sends - told) ≡ length sends = omega arith in
-    ap (each_below (λ (k : ℕ). of_cycle (sends ++ sents ∷ []) (told + k))) count
+    let count : length sends + 1 - reported ≡ suc (length sends - reported) = omega arith in
+    let last : reported + (length sends - reported) ≡ length sends = omega arith in
+    ap (each_below (λ (k : ℕ). of_cycle (sends ++ sents ∷ []) (reported + k))) count
     ∙ ap₂ (λ (xs ys : List Moving). xs ++ ys)
-    (same_below (λ (k : ℕ). of_cycle (sends ++ sents ∷ []) (told + k)) (λ (k : ℕ). of_cycle sends (told + k)) (length sends - told)
-    (λ k less. ap (map (moving_in d l base (told + k))) (batch_before sends sents (told + k) (omega (arith, less)))))
-    (ap (of_cycle (sends ++ sents ∷ [])) last ∙ ap (map (moving_in d l base (length sends))) (batch_behind sends sents (length sends) refl))
+    (same_below (λ (k : ℕ). of_cycle (sends ++ sents ∷ []) (reported + k)) (λ (k : ℕ). of_cycle sends (reported + k)) (length sends - reported)
+    (λ k less. ap (map (moving_in d l base (reported + k))) (batch_before sends sents (reported + k) (omega (arith, less)))))
+    (ap (of_cycle (sends ++ sents ∷ [])) last ∙ ap (map (moving_in d l base (length sends))) (batch_after sends sents (length sends) refl))
 
 -- if nothing is on its way, nothing was sent
-pub none_moving : (d : Domain) (l base told : ℕ) (sends : List (List Sent)) (upto : ℕ) → moving_between d l sends base told upto ≡ [] → (cycle : ℕ) →
-    told ≤ cycle → cycle < upto → batch_at sends cycle ≡ []
-none_moving d l base told sends upto none cycle from below = by_batch (batch_at sends cycle) refl
+pub none_moving : (d : Domain) (l base reported : ℕ) (sends : List (List Sent)) (upto : ℕ) → moving_between d l sends base reported upto ≡ [] → (cycle : ℕ) →
+    reported ≤ cycle → cycle < upto → batch_at sends cycle ≡ []
+none_moving d l base reported sends upto none cycle from below = by_batch (batch_at sends cycle) refl
   where
     -- a frame that was sent would be on its way
     by_batch : (batch : List Sent) → batch_at sends cycle ≡ batch → batch_at sends cycle ≡ []
     by_batch [] is = is
     by_batch (x ∷ xs) is =
         let moving = moving_in d l base cycle x in
-        let at : told + (cycle - told) ≡ cycle = omega (arith, from) in
-        let inside : cycle - told < upto - told = omega (arith, from, below) in
+        let at : reported + (cycle - reported) ≡ cycle = omega (arith, from) in
+        let inside : cycle - reported < upto - reported = omega (arith, from, below) in
         let sent : Contains (batch_at sends cycle) x = subst (λ (b : List Sent). Contains b x) (sym is) (contains_here x xs) in
         let there : Contains (map (moving_in d l base cycle) (batch_at sends cycle)) moving =
         contains_map (moving_in d l base cycle) (batch_at sends cycle) x sent in
-        let here : Contains (map (moving_in d l base (told + (cycle - told))) (batch_at sends (told + (cycle - told)))) moving =
+        let here : Contains (map (moving_in d l base (reported + (cycle - reported))) (batch_at sends (reported + (cycle - reported)))) moving =
         subst (λ (c : ℕ). Contains (map (moving_in d l base c) (batch_at sends c)) moving) (sym at) there in
-        let all : Contains (moving_between d l sends base told upto) moving =
-        contains_below (λ k. map (moving_in d l base (told + k)) (batch_at sends (told + k))) (upto - told) (cycle - told) moving inside here in
+        let all : Contains (moving_between d l sends base reported upto) moving =
+        contains_below (λ k. map (moving_in d l base (reported + k)) (batch_at sends (reported + k))) (upto - reported) (cycle - reported) moving inside here in
         absurd (contains_none moving (subst (λ (ms : List Moving). Contains ms moving) none all))
 
 -- and if nothing was sent, nothing is on its way
-pub moving_none : (d : Domain) (l base told : ℕ) (sends : List (List Sent)) (upto : ℕ) →
-    ((cycle : ℕ) → told ≤ cycle → cycle < upto → batch_at sends cycle ≡ []) → moving_between d l sends base told upto ≡ []
-moving_none d l base told sends upto none =
-    none_below (λ k. map (moving_in d l base (told + k)) (batch_at sends (told + k))) (upto - told)
-    (λ k less. ap (map (moving_in d l base (told + k))) (none (told + k) (omega arith) (omega (arith, less))))
+pub moving_none : (d : Domain) (l base reported : ℕ) (sends : List (List Sent)) (upto : ℕ) →
+    ((cycle : ℕ) → reported ≤ cycle → cycle < upto → batch_at sends cycle ≡ []) → moving_between d l sends base reported upto ≡ []
+moving_none d l base reported sends upto none =
+    none_below (λ k. map (moving_in d l base (reported + k)) (batch_at sends (reported + k))) (upto - reported)
+    (λ k less. ap (map (moving_in d l base (reported + k))) (none (reported + k) (omega arith) (omega (arith, less))))
 
 -- what is on its way was sent in some cycle
-pub some_moving : (d : Domain) (l base told : ℕ) (sends : List (List Sent)) (upto : ℕ) (moving : Moving) →
-    Contains (moving_between d l sends base told upto) moving →
-    (cycle : ℕ) × (told ≤ cycle) × (cycle < upto) × (batch_at sends cycle ≡ [] → ⊥)
-some_moving d l base told sends upto moving c =
-    let w = contains_from_below (λ k. map (moving_in d l base (told + k)) (batch_at sends (told + k))) (upto - told) moving c in
-    let s = contains_from_map (moving_in d l base (told + w.0)) (batch_at sends (told + w.0)) moving w.2 in
-    (told + w.0, omega arith, omega (arith, w.1), λ e. contains_none s.0 (subst (λ (b : List Sent). Contains b s.0) e s.1))
+pub some_moving : (d : Domain) (l base reported : ℕ) (sends : List (List Sent)) (upto : ℕ) (moving : Moving) →
+    Contains (moving_between d l sends base reported upto) moving →
+    (cycle : ℕ) × (reported ≤ cycle) × (cycle < upto) × (batch_at sends cycle ≡ [] → ⊥)
+some_moving d l base reported sends upto moving c =
+    let w = contains_from_below (λ k. map (moving_in d l base (reported + k)) (batch_at sends (reported + k))) (upto - reported) moving c in
+    let s = contains_from_map (moving_in d l base (reported + w.0)) (batch_at sends (reported + w.0)) moving w.2 in
+    (reported + w.0, omega arith, omega (arith, w.1), λ e. contains_none s.0 (subst (λ (b : List Sent). Contains b s.0) e s.1))
 
 -- what a link has sent up to its last cycle and hasn't handed on is pending, within 256 cycles
-pub record IsPending (d : Domain) (l : ℕ) (sends : List (List Sent)) (told sent base : ℕ) (frames : List Moving) : Type 0 where
-  pub is : frames ≡ moving_between d l sends base told sent
-  pub near : (cycle : ℕ) → told ≤ cycle → cycle < sent → (batch_at sends cycle ≡ [] → ⊥) → (base ≤ cycle) × (cycle < base + 256)
+pub record IsPending (d : Domain) (l : ℕ) (sends : List (List Sent)) (reported sent base : ℕ) (frames : List Moving) : Type 0 where
+  pub is : frames ≡ moving_between d l sends base reported sent
+  pub near : (cycle : ℕ) → reported ≤ cycle → cycle < sent → (batch_at sends cycle ≡ [] → ⊥) → (base ≤ cycle) × (cycle < base + 256)
 
-module _ (d : Domain) (l told : ℕ) (sends : List (List Sent)) (sents : List Sent) (far : told ≤ length sends) where
+module _ (d : Domain) (l reported : ℕ) (sends : List (List Sent)) (sents : List Sent) (far : reported ≤ length sends) where
   -- this holds with one more cycle if the first counted cycle is near this one too
-  pending_by : (base : ℕ) (frames after : List Moving) → IsPending d l sends told (length sends) base frames →
+  pending_by : (base : ℕ) (frames after : List Moving) → IsPending d l sends reported (length sends) base frames →
       ((sents ≡ [] → ⊥) → (base ≤ length sends) × (length sends < base + 256)) →
       after ≡ frames ++ map (moving_on (wire_on d l) base (length sends)) sents →
-      IsPending d l (sends ++ sents ∷ []) told (length sends + 1) base after
+      IsPending d l (sends ++ sents ∷ []) reported (length sends + 1) base after
   pending_by base frames after p here more = record {
     is = more
         ∙ ap₂ (λ (xs ys : List Moving). xs ++ ys) p.is (all_moving_same d l base (length sends) sents (λ some. (here some).1))
-        ∙ sym (moving_more d l base told sends sents far);
+        ∙ sym (moving_more d l base reported sends sents far);
     near = λ cycle from below some. elim (cases_lt cycle (length sends)) [
       | inl less ↦ p.near cycle from less (λ e. some (batch_before sends sents cycle less ∙ e))
       | inr last ↦
           let same : cycle ≡ length sends = omega (arith, below, last) in
-          let at = here (λ e. some (batch_behind sends sents cycle same ∙ e)) in
+          let at = here (λ e. some (batch_after sends sents cycle same ∙ e)) in
           (omega (arith, at.0, same), omega (arith, at.1, same))
     ];
   }
 
   -- if nothing is pending, it holds from any cycle on
-  pending_none : (base other : ℕ) → IsPending d l sends told (length sends) base [] → IsPending d l sends told (length sends) other []
+  pending_none : (base other : ℕ) → IsPending d l sends reported (length sends) base [] → IsPending d l sends reported (length sends) other []
   pending_none base other p =
-      let none = none_moving d l base told sends (length sends) (sym p.is) in
+      let none = none_moving d l base reported sends (length sends) (sym p.is) in
       record {
-        is = sym (moving_none d l other told sends (length sends) none);
+        is = sym (moving_none d l other reported sends (length sends) none);
         near = λ cycle from below some. absurd (some (none cycle from below));
       }
 
   -- if something is pending, the first counted cycle is one of those that were sent
-  pending_some : (base : ℕ) (x : Moving) (xs : List Moving) → IsPending d l sends told (length sends) base (x ∷ xs) → base ≤ length sends
+  pending_some : (base : ℕ) (x : Moving) (xs : List Moving) → IsPending d l sends reported (length sends) base (x ∷ xs) → base ≤ length sends
   pending_some base x xs p =
-      let c : Contains (moving_between d l sends base told (length sends)) x = subst (λ (ms : List Moving). Contains ms x) p.is (contains_here x xs) in
-      let w = some_moving d l base told sends (length sends) x c in
+      let c : Contains (moving_between d l sends base reported (length sends)) x = subst (λ (ms : List Moving). Contains ms x) p.is (contains_here x xs) in
+      let w = some_moving d l base reported sends (length sends) x c in
       omega (arith, (p.near w.0 w.1 w.2 w.3).0, w.2)
 
 -- what is pending, with one more cycle that isn't too far
-pub pending_more : (d : Domain) (l told : ℕ) (sends : List (List Sent)) (sents : List Sent) (base base_then : ℕ) (frames after : List Moving) →
-    told ≤ length sends → IsPending d l sends told (length sends) base frames → length sends < most_behind frames (length sends) base →
+pub pending_more : (d : Domain) (l reported : ℕ) (sends : List (List Sent)) (sents : List Sent) (base base_then : ℕ) (frames after : List Moving) →
+    reported ≤ length sends → IsPending d l sends reported (length sends) base frames → length sends < most_after frames (length sends) base →
     base_then ≡ base_with frames base (length sends) sents → after ≡ frames ++ map (moving_on (wire_on d l) base_then (length sends)) sents →
-    IsPending d l (sends ++ sents ∷ []) told (length sends + 1) base_then after
-pending_more d l told sends [] base base_then frames after far p most counts more =
-    pending_by d l told sends [] far base_then frames after
-    (subst (λ (b : ℕ). IsPending d l sends told (length sends) b frames) (sym counts) p) (λ some. absurd (some refl)) more
-pending_more d l told sends (s ∷ ss) base base_then [] after far p most counts more =
-    pending_by d l told sends (s ∷ ss) far base_then [] after
-    (pending_none d l told sends (s ∷ ss) far base base_then p) (λ some. (omega (arith, counts), omega (arith, counts))) more
-pending_more d l told sends (s ∷ ss) base base_then (x ∷ xs) after far p most counts more =
-    pending_by d l told sends (s ∷ ss) far base_then (x ∷ xs) after
-    (subst (λ (b : ℕ). IsPending d l sends told (length sends) b (x ∷ xs)) (sym counts) p)
-    (λ some. (omega (arith, counts, pending_some d l told sends (s ∷ ss) far base x xs p), omega (arith, counts, most))) more
+    IsPending d l (sends ++ sents ∷ []) reported (length sends + 1) base_then after
+pending_more d l reported sends [] base base_then frames after far p most counts more =
+    pending_by d l reported sends [] far base_then frames after
+    (subst (λ (b : ℕ). IsPending d l sends reported (length sends) b frames) (sym counts) p) (λ some. absurd (some refl)) more
+pending_more d l reported sends (s ∷ ss) base base_then [] after far p most counts more =
+    pending_by d l reported sends (s ∷ ss) far base_then [] after
+    (pending_none d l reported sends (s ∷ ss) far base base_then p) (λ some. (omega (arith, counts), omega (arith, counts))) more
+pending_more d l reported sends (s ∷ ss) base base_then (x ∷ xs) after far p most counts more =
+    pending_by d l reported sends (s ∷ ss) far base_then (x ∷ xs) after
+    (subst (λ (b : ℕ). IsPending d l sends reported (length sends) b (x ∷ xs)) (sym counts) p)
+    (λ some. (omega (arith, counts, pending_some d l reported sends (s ∷ ss) far base x xs p), omega (arith, counts, most))) more
 
 -- with one more cycle a link may send at least as far
 pub most_more : (frames : List Moving) (base sent : ℕ) (sents : List Sent) (as_moving : Sent → Moving) →
-    most_behind frames sent base ≤ most_behind (frames ++ map as_moving sents) (sent + 1) (base_with frames base sent sents)
+    most_after frames sent base ≤ most_after (frames ++ map as_moving sents) (sent + 1) (base_with frames base sent sents)
 most_more [] base sent [] as_moving = omega arith
 most_more [] base sent (s ∷ ss) as_moving = omega arith
 most_more (x ∷ xs) base sent [] as_moving = omega arith
 most_more (x ∷ xs) base sent (s ∷ ss) as_moving = omega arith
 
 -- and also if it hands on nothing
-pub most_later : (frames : List Moving) (base sent : ℕ) → most_behind frames sent base ≤ most_behind frames (sent + 1) base
+pub most_later : (frames : List Moving) (base sent : ℕ) → most_after frames sent base ≤ most_after frames (sent + 1) base
 most_later [] base sent = omega arith
 most_later (x ∷ xs) base sent = omega arith
 
@@ -236,7 +236,7 @@ module _ (d : Domain) (bridge : ℕ) (come : Come) (least : ℕ) (inlets : List 
   abbrev brought_to : ℕ → ℕ → ℕ → List Queued
   brought_to l cycle m =
       if leads (all_rows come.tables) m l
-      then that_go_on (all_rows come.tables) l (way.Link m) m (filter (is_in cycle) (come.brought m))
+      then that_go_on (all_rows come.tables) l (ingress.Link m) m (filter (is_in cycle) (come.brought m))
       else []
 
   module _ (l cycle : ℕ) (known : Leads) (knows : KnowsRows l come.tables known) (kept : least ≤ cycle) where
@@ -245,7 +245,7 @@ module _ (d : Domain) (bridge : ℕ) (come : Come) (least : ℕ) (inlets : List 
     brought_by_inlet inlet c =
         let is = All-contains (IsInletOf come least) inlets inlet are_inlets c in
         ap₂ (λ (b : Bool) (xs : List Queued). cond b xs []) (knows.needs inlet.link)
-        (goes_as_rows_say known.rows.items (all_rows come.tables) l (way.Link inlet.link) inlet.link cycle inlet.log.frames.items
+        (goes_as_rows_say known.rows.items (all_rows come.tables) l (ingress.Link inlet.link) inlet.link cycle inlet.log.frames.items
         (filter (is_in cycle) (come.brought inlet.link)) knows.rows (is.holds cycle kept))
 
     -- what all inlets brought
@@ -258,13 +258,13 @@ module _ (d : Domain) (bridge : ℕ) (come : Come) (least : ℕ) (inlets : List 
         ∙ made_of_kept (λ (m : ℕ). enters d m bridge) of_link (length d.links)
         ∙ same_below (λ (m : ℕ). if enters d m bridge then of_link m else []) (comes_by d bridge come (all_rows come.tables) l cycle) (length d.links)
         (λ m less. if_both (enters d m bridge) (leads (all_rows come.tables) m l)
-        (that_go_on (all_rows come.tables) l (way.Link m) m (filter (is_in cycle) (come.brought m))))
+        (that_go_on (all_rows come.tables) l (ingress.Link m) m (filter (is_in cycle) (come.brought m))))
 
     -- and the edge: all that arrived in the cycle and goes on by the link
     pub queue_is : queue_of known inlets edge.log cycle ≡ comes_to d bridge come (all_rows come.tables) l cycle
     queue_is =
         ap₂ (λ (xs ys : List Queued). xs ++ ys) brought_by_inlets
-        (goes_as_rows_say known.rows.items (all_rows come.tables) l way.Edge 4096 cycle edge.log.frames.items
+        (goes_as_rows_say known.rows.items (all_rows come.tables) l ingress.Edge 4096 cycle edge.log.frames.items
         (map (came_of_going d cycle) (covered_in d bridge come cycle)) knows.rows (is_edge.holds cycle kept))
 
   -- all that arrived is in order of cycle
@@ -332,7 +332,7 @@ module _ (d : Domain) (bridge : ℕ) (come : Come) (least : ℕ) (inlets : List 
       gone_further : HasGoneOnBy d bridge come before.trace.link (sends ++ sents ∷ [])
       gone_further = record {
         first = elim (cases_eq (length sends) 0) [
-          | inl none ↦ batch_behind sends sents 0 (sym none) ∙ first_empty (is.as_far ∙ none)
+          | inl none ↦ batch_after sends sents 0 (sym none) ∙ first_empty (is.as_far ∙ none)
           | inr some ↦ batch_before sends sents 0 (omega (arith, some)) ∙ is.gone.first
         ];
         next = λ cycle below. elim (cases_lt (cycle + 1) (length sends)) [
@@ -340,31 +340,31 @@ module _ (d : Domain) (bridge : ℕ) (come : Come) (least : ℕ) (inlets : List 
               (is.gone.next cycle inside)
           | inr last ↦
               let at : cycle + 1 ≡ length sends = omega (arith, last, below, length_push sends sents) in
-              subst (GoesOnBy d bridge come before.trace.link cycle) (sym (batch_behind sends sents (cycle + 1) at))
+              subst (GoesOnBy d bridge come before.trace.link cycle) (sym (batch_after sends sents (cycle + 1) at))
               (one_further cycle (is.as_far ∙ sym at))
         ];
       }
 
       -- what is pending for it afterwards
       pends_further : until ≤ most_of before → before.wire.onward ≡ true →
-          IsPending d before.trace.link (sends ++ sents ∷ []) before.told (length sends + 1) after.pending.base after.pending.frames.items
+          IsPending d before.trace.link (sends ++ sents ∷ []) before.reported (length sends + 1) after.pending.base after.pending.frames.items
       pends_further most onward =
           let frames = before.pending.frames.items in
           let base = before.pending.base in
           let near : before.sent < most_of before = omega (arith, less, most) in
-          let pending : IsPending d before.trace.link sends before.told before.sent base frames =
+          let pending : IsPending d before.trace.link sends before.reported before.sent base frames =
           record { is = is.pends onward; near = is.counts onward } in
-          pending_more d before.trace.link before.told sends sents base after.pending.base frames after.pending.frames.items
+          pending_more d before.trace.link before.reported sends sents base after.pending.base frames after.pending.frames.items
           (omega (arith, is.handed, is.as_far))
-          (subst (λ (n : ℕ). IsPending d before.trace.link sends before.told n base frames) is.as_far pending)
-          (subst (λ (n : ℕ). n < most_behind frames n base) is.as_far near)
+          (subst (λ (n : ℕ). IsPending d before.trace.link sends before.reported n base frames) is.as_far pending)
+          (subst (λ (n : ℕ). n < most_after frames n base) is.as_far near)
           (subst (λ (n : ℕ). after.pending.base ≡ base_with frames base n sents) is.as_far (goes.adds.base onward))
           (goes.adds.pends onward
           ∙ ap₂ (λ (wire : Wire) (n : ℕ). frames ++ map (moving_on wire after.pending.base n) sents) is.wire is.as_far)
 
       -- it still has what is pending if it hands on
       pends_as_it_is : until ≤ most_of before → after.wire.onward ≡ true →
-          IsPending d after.trace.link (sends ++ sents ∷ []) after.told after.sent after.pending.base after.pending.frames.items
+          IsPending d after.trace.link (sends ++ sents ∷ []) after.reported after.sent after.pending.base after.pending.frames.items
       pends_as_it_is most onward =
           let same = goes.adds.same in
           let list = sends ++ sents ∷ [] in
@@ -372,9 +372,9 @@ module _ (d : Domain) (bridge : ℕ) (come : Come) (least : ℕ) (inlets : List 
           let frames = after.pending.frames.items in
           let onward_before = ap (λ (wire : Wire). wire.onward) (sym same.wire) ∙ onward in
           let as_far : length sends + 1 ≡ after.sent = omega (arith, goes.as_far, is.as_far) in
-          subst (λ (k : ℕ). IsPending d k list after.told after.sent base frames) (sym same.link)
-          (subst (λ (n : ℕ). IsPending d before.trace.link list n after.sent base frames) (sym goes.adds.told)
-          (subst (λ (n : ℕ). IsPending d before.trace.link list before.told n base frames) as_far (pends_further most onward_before)))
+          subst (λ (k : ℕ). IsPending d k list after.reported after.sent base frames) (sym same.link)
+          (subst (λ (n : ℕ). IsPending d before.trace.link list n after.sent base frames) (sym goes.adds.reported)
+          (subst (λ (n : ℕ). IsPending d before.trace.link list before.reported n base frames) as_far (pends_further most onward_before)))
 
       -- the link's state holds with the additional cycle
       pub outlet_more : until ≤ most_of before → IsOutletOf d bridge come (sends ++ sents ∷ []) after
@@ -387,7 +387,7 @@ module _ (d : Domain) (bridge : ℕ) (come : Come) (least : ℕ) (inlets : List 
             knows = subst (λ (k : ℕ). KnowsRows k come.tables after.leads) (sym same.link)
                 (subst (KnowsRows before.trace.link come.tables) (sym same.leads) is.knows);
             as_far = omega (arith, goes.as_far, is.as_far, length_push sends sents);
-            handed = omega (arith, goes.adds.told, goes.as_far, is.handed);
+            handed = omega (arith, goes.adds.reported, goes.as_far, is.handed);
             pends = λ onward. (pends_as_it_is most onward).is;
             counts = λ onward. (pends_as_it_is most onward).near;
             marked = goes.adds.marked
@@ -407,20 +407,20 @@ module _ (d : Domain) (bridge : ℕ) (come : Come) (least : ℕ) (inlets : List 
           elim (cases_Bool before.wire.onward) [
             | inl onward ↦
                 let as_moving = moving_on before.wire after.pending.base before.sent in
-                let now : most_of after ≡ most_behind (frames ++ map as_moving sents) (before.sent + 1) (base_with frames base before.sent sents) =
-                ap₂ (λ (ms : List Moving) (b : ℕ). most_behind ms after.sent b) (goes.adds.pends onward) (goes.adds.base onward)
-                ∙ ap (λ (n : ℕ). most_behind (frames ++ map as_moving sents) n (base_with frames base before.sent sents)) goes.as_far in
+                let now : most_of after ≡ most_after (frames ++ map as_moving sents) (before.sent + 1) (base_with frames base before.sent sents) =
+                ap₂ (λ (ms : List Moving) (b : ℕ). most_after ms after.sent b) (goes.adds.pends onward) (goes.adds.base onward)
+                ∙ ap (λ (n : ℕ). most_after (frames ++ map as_moving sents) n (base_with frames base before.sent sents)) goes.as_far in
                 omega (arith, most, now, most_more frames base before.sent sents as_moving)
             | inr ends ↦
-                let now : most_of after ≡ most_behind frames (before.sent + 1) base =
-                ap₂ (λ (p : Pending) (n : ℕ). most_behind p.frames.items n p.base) (goes.adds.ends ends) goes.as_far in
+                let now : most_of after ≡ most_after frames (before.sent + 1) base =
+                ap₂ (λ (p : Pending) (n : ℕ). most_after p.frames.items n p.base) (goes.adds.ends ends) goes.as_far in
                 omega (arith, most, now, most_later frames base before.sent)
           ]
 
     -- what was sent in one more cycle follows what was sent after the first cycles
-    sent_behind : (sends rest : List (List Sent)) (last : List Sent) (outlet : Outlet) → IsOutletOf d bridge come ((sends ++ rest) ++ last ∷ []) outlet →
+    sent_after : (sends rest : List (List Sent)) (last : List Sent) (outlet : Outlet) → IsOutletOf d bridge come ((sends ++ rest) ++ last ∷ []) outlet →
         IsOutletOf d bridge come (sends ++ (rest ++ last ∷ [])) outlet
-    sent_behind sends rest last outlet is =
+    sent_after sends rest last outlet is =
         subst (λ (all : List (List Sent)). IsOutletOf d bridge come all outlet) (append_assoc sends rest (last ∷ [])) is
 
     -- the state of a link that goes on by this many cycles holds with what it sends in them
@@ -447,7 +447,7 @@ module _ (d : Domain) (bridge : ℕ) (come : Come) (least : ℕ) (inlets : List 
         let last = sents list between after so_far.is goes.2 less early_then come_then in
         record {
           rest = so_far.rest ++ last ∷ [];
-          is = sent_behind sends so_far.rest last after more;
+          is = sent_after sends so_far.rest last after more;
           most = most_further list between after so_far.is goes.2 less early_then come_then so_far.most;
           as_far = omega (arith, so_far.as_far, goes.2.as_far);
           leads = goes.2.adds.same.leads ∙ so_far.leads;
@@ -455,11 +455,11 @@ module _ (d : Domain) (bridge : ℕ) (come : Come) (least : ℕ) (inlets : List 
         }
 
 -- replacing an element at an index doesn't change a map if the image of the element stays the same
-map_set_same : {X Y : Type 0} (f : X → Y) (xs : List X) (place : ℕ) (x y : X) → slice_get xs place ≡ Some x → f y ≡ f x → map f (set xs place y) ≡ map f xs
-map_set_same f [] place x y at same = refl
+map_set_same : {X Y : Type 0} (f : X → Y) (xs : List X) (index : ℕ) (x y : X) → slice_get xs index ≡ Some x → f y ≡ f x → map f (set xs index y) ≡ map f xs
+map_set_same f [] index x y at same = refl
 map_set_same {X} {Y} f (z ∷ xs) zero x y at same =
     let e : z ≡ x = cc in ap (λ (w : Y). w ∷ map f xs) (same ∙ ap f (sym e))
-map_set_same {X} {Y} f (z ∷ xs) (suc place) x y at same = ap (λ (ws : List Y). f z ∷ ws) (map_set_same f xs place x y at same)
+map_set_same {X} {Y} f (z ∷ xs) (suc index) x y at same = ap (λ (ws : List Y). f z ∷ ws) (map_set_same f xs index x y at same)
 
 -- if elements ascend by their numbers, different indices have different numbers
 apart_by_number : {X : Type 0} (f : X → ℕ) (xs : List X) (i j : ℕ) (d : X) → AllPairs (λ (a b : ℕ). a < b) (map f xs) → i < length xs → j < length xs →
@@ -477,19 +477,19 @@ apart_by_number f xs i j d ascend i_inside j_inside apart same =
     ]
 
 -- if one element of a list in order of number is replaced, a property of the others holds if it holds of all with other numbers
-all_but_one : {X : Type 0} (P Q : X → Type 0) (f : X → ℕ) (xs : List X) (place : ℕ) (x y : X) → AllPairs (λ (a b : ℕ). a < b) (map f xs) →
-    slice_get xs place ≡ Some x → All P xs → ((z : X) → (f z ≡ f x → ⊥) → P z → Q z) → Q y → All Q (set xs place y)
-all_but_one P Q f xs place x y ascend at all others new k d inside =
-    let place_inside = slice_get_within xs place x at in
-    let k_inside : k < length xs = omega (arith, inside, length-set xs place y) in
-    elim (cases_eq k place) [
+all_but_one : {X : Type 0} (P Q : X → Type 0) (f : X → ℕ) (xs : List X) (index : ℕ) (x y : X) → AllPairs (λ (a b : ℕ). a < b) (map f xs) →
+    slice_get xs index ≡ Some x → All P xs → ((z : X) → (f z ≡ f x → ⊥) → P z → Q z) → Q y → All Q (set xs index y)
+all_but_one P Q f xs index x y ascend at all others new k d inside =
+    let index_inside = slice_get_within xs index x at in
+    let k_inside : k < length xs = omega (arith, inside, length-set xs index y) in
+    elim (cases_eq k index) [
       | inl e ↦
-          let is : get_or (set xs place y) k d ≡ y = ap (λ (i : ℕ). get_or (set xs place y) i d) e ∙ get_or-set_same xs place y d place_inside in
+          let is : get_or (set xs index y) k d ≡ y = ap (λ (i : ℕ). get_or (set xs index y) i d) e ∙ get_or-set_same xs index y d index_inside in
           subst Q (sym is) new
       | inr differ ↦
-          subst Q (sym (get_or-set_other xs place k y d differ))
-          (others (get_or xs k d) (λ same. apart_by_number f xs k place d ascend k_inside place_inside differ
-          (same ∙ ap f (sym (get_or_from_slice_get xs place x d at)))) (all k d k_inside))
+          subst Q (sym (get_or-set_other xs index k y d differ))
+          (others (get_or xs k d) (λ same. apart_by_number f xs k index d ascend k_inside index_inside differ
+          (same ∙ ap f (sym (get_or_from_slice_get xs index x d at)))) (all k d k_inside))
     ]
 
 -- what all links have sent, if one has sent more
@@ -504,13 +504,13 @@ one_has_sent_more sends l rest k = elim (cases_Bool (k == l)) [
 ]
 
 -- and having sent more is transitive
-pub more_behind_more : (sends between more : Sendings) → HaveSentMore sends between → HaveSentMore between more → HaveSentMore sends more
-more_behind_more sends between more first second l =
+pub more_after_more : (sends between more : Sendings) → HaveSentMore sends between → HaveSentMore between more → HaveSentMore sends more
+more_after_more sends between more first second l =
     let a = first l in
     let b = second l in
     (a.0 ++ b.0, b.1 ∙ ap (λ (list : List (List Sent)). list ++ b.0) a.1 ∙ append_assoc (sends l) a.0 b.0)
 
-module _ (place : ℕ) (before after : Relay) (goes : SendsOn place before after) (d : Domain) (come : Come) (sends : Sendings)
+module _ (index : ℕ) (before after : Relay) (goes : SendsOn index before after) (d : Domain) (come : Come) (sends : Sendings)
     (stands : StandsSo d come sends before) where
   -- the link that goes on, by number
   abbrev link : ℕ
@@ -519,7 +519,7 @@ module _ (place : ℕ) (before after : Relay) (goes : SendsOn place before after
   -- its state before
   stood : IsOutletOf d before.number come (sends link) goes.outlet
   stood = All-contains (λ (outlet : Outlet). IsOutletOf d before.number come (sends outlet.trace.link) outlet) before.outlets.items goes.outlet
-      stands.outlets (contains_at before.outlets.items place goes.outlet goes.was)
+      stands.outlets (contains_at before.outlets.items index goes.outlet goes.was)
 
   -- how far it has gone on
   gone_far : HasGone d before.number come goes.until (sends link) (goes.until - goes.outlet.sent) goes.outlet goes.gone
@@ -528,7 +528,7 @@ module _ (place : ℕ) (before after : Relay) (goes : SendsOn place before after
       (omega (arith, goes.might.tables, stands.tables_taken)) (goes.until - goes.outlet.sent) (sends link) goes.outlet goes.gone stood goes.sends
       (omega arith)
       (All-contains (λ (outlet : Outlet). stands.least ≤ outlet.sent - 1) before.outlets.items goes.outlet stands.early
-      (contains_at before.outlets.items place goes.outlet goes.was))
+      (contains_at before.outlets.items index goes.outlet goes.was))
       (goes.might.needed goes.outlet goes.was) (goes.might.most goes.outlet goes.was)
 
   -- what all have sent afterwards
@@ -540,10 +540,10 @@ module _ (place : ℕ) (before after : Relay) (goes : SendsOn place before after
   ascend = subst (AllPairs (λ (a b : ℕ). a < b)) (sym stands.from) (numbers_ascend (λ (l : ℕ). leaves d l before.number) (length d.links))
 
   -- the state of each link holds with what it has sent afterwards
-  outlets_then : All (λ (outlet : Outlet). IsOutletOf d before.number come (then_sent outlet.trace.link) outlet) (set before.outlets.items place goes.gone)
+  outlets_then : All (λ (outlet : Outlet). IsOutletOf d before.number come (then_sent outlet.trace.link) outlet) (set before.outlets.items index goes.gone)
   outlets_then =
       let so = λ (all : Sendings) (outlet : Outlet). IsOutletOf d before.number come (all outlet.trace.link) outlet in
-      all_but_one (so sends) (so then_sent) link_out before.outlets.items place goes.outlet goes.gone ascend goes.was stands.outlets
+      all_but_one (so sends) (so then_sent) link_out before.outlets.items index goes.outlet goes.gone ascend goes.was stands.outlets
       (λ outlet other is. subst (λ (list : List (List Sent)). IsOutletOf d before.number come list outlet)
       (sym (cond-false (outlet.trace.link == link) (sends outlet.trace.link ++ gone_far.rest) (sends outlet.trace.link)
       (ne_eqb outlet.trace.link link other))) is)
@@ -560,27 +560,27 @@ module _ (place : ℕ) (before after : Relay) (goes : SendsOn place before after
     offers_taken = stands.offers_taken;
     into = ap (λ (list : Vec Inlet Global). map link_in list.items) goes.same.inlets ∙ stands.into ∙ ap (links_into d) (sym goes.same.number);
     from = ap (map link_out) goes.is
-        ∙ map_set_same link_out before.outlets.items place goes.outlet goes.gone goes.was gone_far.link
+        ∙ map_set_same link_out before.outlets.items index goes.outlet goes.gone goes.was gone_far.link
         ∙ stands.from
         ∙ ap (links_from d) (sym goes.same.number);
     rows = record {
       below = λ row c. omega (arith, stands.rows.below row c, goes.same.known);
       last = subst (λ (n : ℕ). (n ≡ 0) ⊎ ((row : Row) × Contains (all_rows come.tables) row × (row.no + 1 ≡ n))) (sym goes.same.known) stands.rows.last;
       room = subst (λ (list : List Outlet). All (λ (outlet : Outlet). length outlet.leads.rows.items ≤ after.known) list) (sym goes.is)
-          (subst (λ (n : ℕ). All (λ (outlet : Outlet). length outlet.leads.rows.items ≤ n) (set before.outlets.items place goes.gone)) (sym goes.same.known)
-          (All-set (λ (outlet : Outlet). length outlet.leads.rows.items ≤ before.known) before.outlets.items place goes.gone
+          (subst (λ (n : ℕ). All (λ (outlet : Outlet). length outlet.leads.rows.items ≤ n) (set before.outlets.items index goes.gone)) (sym goes.same.known)
+          (All-set (λ (outlet : Outlet). length outlet.leads.rows.items ≤ before.known) before.outlets.items index goes.gone
           (subst (λ (known : Leads). length known.rows.items ≤ before.known) (sym gone_far.leads)
           (All-contains (λ (outlet : Outlet). length outlet.leads.rows.items ≤ before.known) before.outlets.items goes.outlet stands.rows.room
-          (contains_at before.outlets.items place goes.outlet goes.was))) stands.rows.room));
+          (contains_at before.outlets.items index goes.outlet goes.was))) stands.rows.room));
     };
     least = stands.least;
     early = subst (All (λ (outlet : Outlet). stands.least ≤ outlet.sent - 1)) (sym goes.is)
-        (All-set (λ (outlet : Outlet). stands.least ≤ outlet.sent - 1) before.outlets.items place goes.gone
+        (All-set (λ (outlet : Outlet). stands.least ≤ outlet.sent - 1) before.outlets.items index goes.gone
         (omega (
           arith,
           gone_far.as_far,
           All-contains (λ (outlet : Outlet). stands.least ≤ outlet.sent - 1) before.outlets.items goes.outlet stands.early
-              (contains_at before.outlets.items place goes.outlet goes.was),
+              (contains_at before.outlets.items index goes.outlet goes.was),
         )) stands.early);
     inlets = subst (λ (list : Vec Inlet Global). All (IsInletOf come stands.least) list.items) (sym goes.same.inlets) stands.inlets;
     edge = subst (λ (n : ℕ). IsEdgeOf d n come stands.least after.edge) (sym goes.same.number)
@@ -638,8 +638,8 @@ sends_within until cycles inlets edge before after early within goes =
     omega (arith, sent_count (until - before.sent) inlets edge before after goes, within, early)
 
 -- a bridge stays the same when one of its links goes on
-pub sends_on_stays : (place : ℕ) (before after : Relay) → SendsOn place before after → StaysAs before after
-sends_on_stays place before after goes =
+pub sends_on_stays : (index : ℕ) (before after : Relay) → SendsOn index before after → StaysAs before after
+sends_on_stays index before after goes =
     let outlets = before.outlets.items in
     let log = before.edge.log in
     let same = same_link_sends (goes.until - goes.outlet.sent) before.inlets.items log goes.outlet goes.gone goes.sends in
@@ -648,58 +648,58 @@ sends_on_stays place before after goes =
       number = goes.same.number;
       cycles = goes.same.cycles;
       links_in = ap (λ (list : Vec Inlet Global). map link_in list.items) goes.same.inlets;
-      links_out = ap (map link_out) goes.is ∙ map_set_same link_out outlets place goes.outlet goes.gone goes.was same.link;
-      wires = ap (map wire_out) goes.is ∙ map_set_same wire_out outlets place goes.outlet goes.gone goes.was same.wire;
+      links_out = ap (map link_out) goes.is ∙ map_set_same link_out outlets index goes.outlet goes.gone goes.was same.link;
+      wires = ap (map wire_out) goes.is ∙ map_set_same wire_out outlets index goes.outlet goes.gone goes.was same.wire;
       tidy = λ tidy.
-          let was = All-contains IsTidy outlets goes.outlet tidy (contains_at outlets place goes.outlet goes.was) in
+          let was = All-contains IsTidy outlets goes.outlet tidy (contains_at outlets index goes.outlet goes.was) in
           let gone = tidy_sends goes.until before.inlets.items log goes.outlet goes.gone was goes.sends in
-          subst (All IsTidy) (sym goes.is) (All-set IsTidy outlets place goes.gone gone tidy);
+          subst (All IsTidy) (sym goes.is) (All-set IsTidy outlets index goes.gone gone tidy);
       within = λ within.
-          let was = All-contains (IsWithin before.cycles) outlets goes.outlet within (contains_at outlets place goes.outlet goes.was) in
+          let was = All-contains (IsWithin before.cycles) outlets goes.outlet within (contains_at outlets index goes.outlet goes.was) in
           let gone = sends_within goes.until before.cycles before.inlets.items log goes.outlet goes.gone goes.might.cycles was goes.sends in
-          subst (All (IsWithin before.cycles)) (sym goes.is) (All-set (IsWithin before.cycles) outlets place goes.gone gone within);
+          subst (All (IsWithin before.cycles)) (sym goes.is) (All-set (IsWithin before.cycles) outlets index goes.gone gone within);
     }
 
 -- and this hands on nothing
-told_sends : (count : ℕ) (inlets : List Inlet) (edge : SourceLog) (before after : Outlet) → SendsMore count inlets edge before after → after.told ≡ before.told
-told_sends zero inlets edge before after goes = ap (λ (outlet : Outlet). outlet.told) goes
-told_sends (suc count) inlets edge before after goes = goes.2.adds.told ∙ told_sends count inlets edge before goes.0 goes.1
+reported_sends : (count : ℕ) (inlets : List Inlet) (edge : SourceLog) (before after : Outlet) → SendsMore count inlets edge before after → after.reported ≡ before.reported
+reported_sends zero inlets edge before after goes = ap (λ (outlet : Outlet). outlet.reported) goes
+reported_sends (suc count) inlets edge before after goes = goes.2.adds.reported ∙ reported_sends count inlets edge before goes.0 goes.1
 
 -- nor do its other links hand on anything
-told_stays : (place : ℕ) (before after : Relay) → SendsOn place before after → told_by after ≡ told_by before
-told_stays place before after goes =
-    ap (map (λ (outlet : Outlet). outlet.told)) goes.is
-    ∙ map_set_same (λ (outlet : Outlet). outlet.told) before.outlets.items place goes.outlet goes.gone goes.was
-    (told_sends (goes.until - goes.outlet.sent) before.inlets.items before.edge.log goes.outlet goes.gone goes.sends)
+reported_stays : (index : ℕ) (before after : Relay) → SendsOn index before after → reported_by after ≡ reported_by before
+reported_stays index before after goes =
+    ap (map (λ (outlet : Outlet). outlet.reported)) goes.is
+    ∙ map_set_same (λ (outlet : Outlet). outlet.reported) before.outlets.items index goes.outlet goes.gone goes.was
+    (reported_sends (goes.until - goes.outlet.sent) before.inlets.items before.edge.log goes.outlet goes.gone goes.sends)
 
 -- at first none of a bridge's links has gone on
 pub none_goes_on : (before : Relay) → GoesOnAlone before before
 none_goes_on before = record {
   same = record { domain = refl; number = refl; cycles = refl; links_in = refl; links_out = refl; wires = refl; tidy = λ tidy. tidy; within = λ within. within };
-  told_same = refl;
+  reported_same = refl;
   tables_same = refl;
   drops_same = refl;
   stands = λ d come sends stands may. (sends, stands, λ l. ([], sym (append-nil (sends l))));
 }
 
 -- then one more link has
-pub one_goes_on : (place : ℕ) (first between after : Relay) → GoesOnAlone first between → SendsOn place between after → GoesOnAlone first after
-one_goes_on place first between after so_far goes = record {
-  same = stays_further first between after so_far.same (sends_on_stays place between after goes);
-  told_same = told_stays place between after goes ∙ so_far.told_same;
+pub one_goes_on : (index : ℕ) (first between after : Relay) → GoesOnAlone first between → SendsOn index between after → GoesOnAlone first after
+one_goes_on index first between after so_far goes = record {
+  same = stays_further first between after so_far.same (sends_on_stays index between after goes);
+  reported_same = reported_stays index between after goes ∙ so_far.reported_same;
   tables_same = goes.same.tables ∙ so_far.tables_same;
   drops_same = ap (λ (edge : Edge). edge.drops) goes.same.edge ∙ so_far.drops_same;
   stands = λ d come sends stands may.
       let a = so_far.stands d come sends stands may in
-      let b = stands_with_more place between after goes d come a.0 a.1 in
-      (b.0, b.1, more_behind_more sends a.0 b.0 a.2 b.2);
+      let b = stands_with_more index between after goes d come a.0 a.1 in
+      (b.0, b.1, more_after_more sends a.0 b.0 a.2 b.2);
 }
 
 -- and in the end what no link needs is removed
 pub all_have_gone_on : (first between after : Relay) → GoesOnAlone first between → LetsGo between after → GoesOnAlone first after
 all_have_gone_on first between after so_far lets = record {
   same = stays_further first between after so_far.same lets.same;
-  told_same = ap (λ (outlets : Vec Outlet Global). map (λ (outlet : Outlet). outlet.told) outlets.items) lets.outlets_same ∙ so_far.told_same;
+  reported_same = ap (λ (outlets : Vec Outlet Global). map (λ (outlet : Outlet). outlet.reported) outlets.items) lets.outlets_same ∙ so_far.reported_same;
   tables_same = lets.tables_same ∙ so_far.tables_same;
   drops_same = lets.drops_same ∙ so_far.drops_same;
   stands = λ d come sends stands may. let a = so_far.stands d come sends stands may in (a.0, lets.stands d come a.0 a.1, a.2);
@@ -711,17 +711,17 @@ as_many_outlets before after same =
     sym (length-map after.outlets.items link_out) ∙ ap length same.links_out ∙ length-map before.outlets.items link_out
 
 -- what a link needs has arrived up to a cycle, for the inlets so far
-pub record HasComeSoFar (place upto : ℕ) (relay : Relay) (seen : List Inlet) : Type 0 where
+pub record HasComeSoFar (index upto : ℕ) (relay : Relay) (seen : List Inlet) : Type 0 where
   pub tables : upto ≤ relay.tables
-  pub needed : (outlet : Outlet) → slice_get relay.outlets.items place ≡ Some outlet →
+  pub needed : (outlet : Outlet) → slice_get relay.outlets.items index ≡ Some outlet →
       All (λ (inlet : Inlet). list_any (λ it. it == inlet.link) outlet.leads.needs.items ≡ true → upto ≤ inlet.upto) seen
 
 -- one more inlet has brought a cycle that isn't later, or isn't needed
-pub has_come_more : (place have next : ℕ) (relay : Relay) (inlets : List Inlet) (k : ℕ) (inlet : Inlet) →
-    HasComeSoFar place have relay (take k inlets) → k < length inlets → inlet ≡ get_or inlets k inlet → next ≤ have →
-    ((outlet : Outlet) → slice_get relay.outlets.items place ≡ Some outlet → list_any (λ it. it == inlet.link) outlet.leads.needs.items ≡ true →
-    next ≤ inlet.upto) → HasComeSoFar place next relay (take (k + 1) inlets)
-has_come_more place have next relay inlets k inlet so_far inside is earlier here = record {
+pub has_come_more : (index have next : ℕ) (relay : Relay) (inlets : List Inlet) (k : ℕ) (inlet : Inlet) →
+    HasComeSoFar index have relay (take k inlets) → k < length inlets → inlet ≡ get_or inlets k inlet → next ≤ have →
+    ((outlet : Outlet) → slice_get relay.outlets.items index ≡ Some outlet → list_any (λ it. it == inlet.link) outlet.leads.needs.items ≡ true →
+    next ≤ inlet.upto) → HasComeSoFar index next relay (take (k + 1) inlets)
+has_come_more index have next relay inlets k inlet so_far inside is earlier here = record {
   tables = omega (arith, so_far.tables, earlier);
   needed = λ outlet at.
       let needs = λ (upto : ℕ) (it : Inlet). list_any (λ m. m == it.link) outlet.leads.needs.items ≡ true → upto ≤ it.upto in
@@ -731,31 +731,31 @@ has_come_more place have next relay inlets k inlet so_far inside is earlier here
 }
 
 -- the link at an index is the one that was read there
-pub link_read : (outlets : List Outlet) (place : ℕ) (read outlet : Outlet) → read ≡ get_or outlets place read → slice_get outlets place ≡ Some outlet →
+pub link_read : (outlets : List Outlet) (index : ℕ) (read outlet : Outlet) → read ≡ get_or outlets index read → slice_get outlets index ≡ Some outlet →
     read ≡ outlet
-link_read outlets place read outlet is at = is ∙ get_or_from_slice_get outlets place outlet read at
+link_read outlets index read outlet is at = is ∙ get_or_from_slice_get outlets index outlet read at
 
 -- a link that the link at an index said it doesn't need isn't needed
-pub not_needed : (outlets : List Outlet) (place : ℕ) (read outlet : Outlet) (said : Bool) (m : ℕ) → read ≡ get_or outlets place read →
-    said ≡ list_any (λ it. it == m) read.leads.needs.items → said ≡ false → slice_get outlets place ≡ Some outlet →
+pub not_needed : (outlets : List Outlet) (index : ℕ) (read outlet : Outlet) (said : Bool) (m : ℕ) → read ≡ get_or outlets index read →
+    said ≡ list_any (λ it. it == m) read.leads.needs.items → said ≡ false → slice_get outlets index ≡ Some outlet →
     list_any (λ it. it == m) outlet.leads.needs.items ≡ true → ⊥
-not_needed outlets place read outlet said m is says denied at needs =
+not_needed outlets index read outlet said m is says denied at needs =
     true≢false (sym needs
-    ∙ ap (λ (o : Outlet). list_any (λ it. it == m) o.leads.needs.items) (sym (link_read outlets place read outlet is at))
+    ∙ ap (λ (o : Outlet). list_any (λ it. it == m) o.leads.needs.items) (sym (link_read outlets index read outlet is at))
     ∙ sym says
     ∙ denied)
 
 -- a link that was read at its index and has sent this far has gone on
-pub sends_on_from : (place until : ℕ) (before after : Relay) (read gone : Outlet) (inlets : List Inlet) → IsSameButLinks before after →
-    MayReach place until before → place < length before.outlets.items → read ≡ get_or before.outlets.items place read →
-    after.outlets.items ≡ slice_set before.outlets.items place gone → inlets ≡ before.inlets.items →
-    SendsCycles until inlets before.edge.log read gone → SendsOn place before after
-sends_on_from place until before after read gone inlets same might inside is put all cycles = record {
+pub sends_on_from : (index until : ℕ) (before after : Relay) (read gone : Outlet) (inlets : List Inlet) → IsSameButLinks before after →
+    MayReach index until before → index < length before.outlets.items → read ≡ get_or before.outlets.items index read →
+    after.outlets.items ≡ slice_set before.outlets.items index gone → inlets ≡ before.inlets.items →
+    SendsCycles until inlets before.edge.log read gone → SendsOn index before after
+sends_on_from index until before after read gone inlets same might inside is put all cycles = record {
   same = same;
   until = until;
   might = might;
   outlet = read;
-  was = slice_get_read before.outlets.items (length before.outlets.items) place read refl inside is;
+  was = slice_get_read before.outlets.items (length before.outlets.items) index read refl inside is;
   gone = gone;
   is = put;
   sends = subst (λ (list : List Inlet). SendsCycles until list before.edge.log read gone) all cycles;

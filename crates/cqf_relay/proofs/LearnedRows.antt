@@ -16,22 +16,22 @@ use Rattle.cqf_model.specs.declared.topology.Row.{Row}
 use Rattle.cqf_relay.specs.declared.outlet.Outlet.{Outlet}
 use Rattle.cqf_relay.specs.declared.relay.Relay.{Relay}
 use Rattle.cqf_relay.specs.Sending.{LearnsOf}
-use Rattle.cqf_relay.specs.Standing.{LearnEach, LearnOnEach, LearnsRows, known_behind, new_rows}
+use Rattle.cqf_relay.specs.Standing.{LearnEach, LearnOnEach, LearnsRows, known_after, new_rows}
 use Rattle.cqf_relay.proofs.Learning.{known_push, learn_push}
 
 -- the links before an index have learned a row, and the others are unchanged
 pub record LearnedBelow (row : Row) (n : ℕ) (before now : List Outlet) : Type 0 where
   pub count : length now ≡ length before
-  pub done : (place : ℕ) (outlet learned : Outlet) → place < n → slice_get before place ≡ Some outlet → slice_get now place ≡ Some learned →
+  pub done : (index : ℕ) (outlet learned : Outlet) → index < n → slice_get before index ≡ Some outlet → slice_get now index ≡ Some learned →
       LearnsOf row outlet learned
-  pub rest : (place : ℕ) → n ≤ place → slice_get now place ≡ slice_get before place
+  pub rest : (index : ℕ) → n ≤ index → slice_get now index ≡ slice_get before index
 
 -- at first none has
 pub none_learned : (row : Row) (outlets : List Outlet) → LearnedBelow row 0 outlets outlets
 none_learned row outlets = record {
   count = refl;
-  done = λ place outlet learned early was is. absurd (omega (arith, early));
-  rest = λ place _. refl;
+  done = λ index outlet learned early was is. absurd (omega (arith, early));
+  rest = λ index _. refl;
 }
 
 -- then one more
@@ -39,7 +39,7 @@ pub one_learned : (row : Row) (n : ℕ) (before now : List Outlet) (outlet learn
     LearnsOf row outlet learned → LearnedBelow row n before now → LearnedBelow row (n + 1) before (set now n learned)
 one_learned row n before now outlet learned within at learns below = record {
   count = length-set now n learned ∙ below.count;
-  done = λ place old new early was is. elim (cases_eq place n) [
+  done = λ index old new early was is. elim (cases_eq index n) [
     | inl same ↦
         let there : slice_get before n ≡ Some old = subst (λ (k : ℕ). slice_get before k ≡ Some old) same was in
         let first : outlet ≡ old = same_Some outlet old (sym at ∙ below.rest n (omega arith) ∙ there) in
@@ -47,10 +47,10 @@ one_learned row n before now outlet learned within at learns below = record {
         let last : learned ≡ new = same_Some learned new (sym put ∙ here) in
         subst (λ (one : Outlet). LearnsOf row one new) first (subst (λ (one : Outlet). LearnsOf row outlet one) last learns)
     | inr other ↦
-        below.done place old new (omega (arith, early, other)) was (sym (slice_get-set_other now n place learned other) ∙ is)
+        below.done index old new (omega (arith, early, other)) was (sym (slice_get-set_other now n index learned other) ∙ is)
   ];
-  rest = λ place late.
-      slice_get-set_other now n place learned (λ same. omega (arith, same, late)) ∙ below.rest place (omega (arith, late));
+  rest = λ index late.
+      slice_get-set_other now n index learned (λ same. omega (arith, same, late)) ∙ below.rest index (omega (arith, late));
 }
   where
     -- what was written is there
@@ -63,8 +63,8 @@ one_learned row n before now outlet learned within at learns below = record {
 pub all_learned : (row : Row) (n : ℕ) (before now : List Outlet) → length now ≤ n → LearnedBelow row n before now → LearnOnEach row before now
 all_learned row n before now over below = record {
   count = below.count;
-  each = λ place outlet learned was is.
-      below.done place outlet learned (omega (arith, over, slice_get_within now place learned is)) was is;
+  each = λ index outlet learned was is.
+      below.done index outlet learned (omega (arith, over, slice_get_within now index learned is)) was is;
 }
 
 -- a bridge has learned rows, one after the other
@@ -75,7 +75,7 @@ pub record LearnsThese (rows : List Row) (before after : Relay) : Type 0 where
   pub tables : after.tables ≡ before.tables
   pub inlets : after.inlets ≡ before.inlets
   pub edge : after.edge ≡ before.edge
-  pub known : after.known ≡ known_behind before.known rows
+  pub known : after.known ≡ known_after before.known rows
   pub learn : LearnEach rows before.outlets.items after.outlets.items
 
 -- if these are the new ones of a table, it has learned the table's rows
@@ -88,7 +88,7 @@ learned_new rows table before after new these = record {
   tables = these.tables;
   inlets = these.inlets;
   edge = these.edge;
-  known = these.known ∙ ap (known_behind before.known) new;
+  known = these.known ∙ ap (known_after before.known) new;
   learn = subst (λ (some : List Row). LearnEach some before.outlets.items after.outlets.items) new these.learn;
 }
 
@@ -163,7 +163,7 @@ module _ {X : Type 0} (value : X → Row) where
         tables = tables ∙ these.tables;
         inlets = inlets ∙ these.inlets;
         edge = edge ∙ these.edge;
-        known = known ∙ sym (known_push before.known (map value (take n xs)) (value x)) ∙ ap (known_behind before.known) (sym more);
+        known = known ∙ sym (known_push before.known (map value (take n xs)) (value x)) ∙ ap (known_after before.known) (sym more);
         learn = subst (λ (rows : List Row). LearnEach rows before.outlets.items after.outlets.items) (sym more)
             (learn_push (map value (take n xs)) (value x) before.outlets.items mid.outlets.items after.outlets.items these.learn one);
       }

@@ -13,22 +13,22 @@ use Rattle.cqf_lists.proofs.Pairs.{pairs_head, pairs_tail, pairs_weaker}
 use Rattle.cqf_model.specs.declared.topology.Hop.{Hop}
 use Rattle.cqf_model.specs.declared.topology.Row.{Row}
 use Rattle.cqf_model.specs.Domain.{Domain, end_of}
-use Rattle.cqf_model.specs.Table.{IsTree, goes_to, row_of, same_way}
+use Rattle.cqf_model.specs.Table.{IsTree, goes_to, row_of, same_ingress}
 use Rattle.cqf_relay.specs.declared.leads.By.{By}
 use Rattle.cqf_relay.specs.declared.leads.By.TheVariants.{Nothing, Edge, Link}
 use Rattle.cqf_relay.specs.declared.leads.Leads.{Leads}
 use Rattle.cqf_relay.specs.declared.outlet.Outlet.{Outlet}
-use Rattle.cqf_relay.specs.Leading.{LearnsRow, by_at, by_hops, by_way, is_link, is_some}
+use Rattle.cqf_relay.specs.Leading.{LearnsRow, by_at, by_hops, by_ingress, is_link, is_some}
 use Rattle.cqf_relay.specs.Queues.{AreLeads}
-use Rattle.cqf_relay.specs.Standing.{LearnEach, LearnOnEach, known_behind}
+use Rattle.cqf_relay.specs.Standing.{LearnEach, LearnOnEach, known_after}
 
 -- whether a hop is of a link and follows another
-abbrev is_behind : ℕ → ℕ → Hop → Bool
-is_behind l m hop = same_way hop.from (Some m) && (hop.link == l)
+abbrev is_after : ℕ → ℕ → Hop → Bool
+is_after l m hop = same_ingress hop.from (Some m) && (hop.link == l)
 
 -- how frames arrive at a link by a first hop of it, or by later ones
 by_first : (l m : ℕ) (from : Option ℕ) (b rest : Bool) (by : By) → (b ≡ true → rest ≡ false) → (b ≡ false → rest ≡ is_link by m) →
-    ((same_way from (Some m) && b) || rest) ≡ is_link (cond b (by_way from) by) m
+    ((same_ingress from (Some m) && b) || rest) ≡ is_link (cond b (by_ingress from) by) m
 by_first l m None true rest by first later = first refl
 by_first l m (Some k) true rest by first later = ap (λ (x : Bool). ((k == m) && true) || x) (first refl) ∙ alone (k == m)
   where
@@ -36,15 +36,15 @@ by_first l m (Some k) true rest by first later = ap (λ (x : Bool). ((k == m) &&
     alone : (x : Bool) → ((x && true) || false) ≡ x
     alone true = refl
     alone false = refl
-by_first l m from false rest by first later = ap (λ (x : Bool). x || rest) (and_right (same_way from (Some m)) false refl) ∙ later refl
+by_first l m from false rest by first later = ap (λ (x : Bool). x || rest) (and_right (same_ingress from (Some m)) false refl) ∙ later refl
 
 -- if each link occurs once, the first hop of a link says after which other link it comes
-by_hops_of : (l m : ℕ) (hops : List Hop) → AllPairs (λ (a b : Hop). a.link ≢ b.link) hops → list_any (is_behind l m) hops ≡ is_link (by_hops l hops) m
+by_hops_of : (l m : ℕ) (hops : List Hop) → AllPairs (λ (a b : Hop). a.link ≢ b.link) hops → list_any (is_after l m) hops ≡ is_link (by_hops l hops) m
 by_hops_of l m [] apart = refl
 by_hops_of l m (hop ∷ hops) apart =
-    by_first l m hop.from (hop.link == l) (list_any (is_behind l m) hops) (by_hops l hops)
-    (λ is. list_any_none (is_behind l m) hops (all_from_members (λ (other : Hop). is_behind l m other ≡ false) hops (λ other there.
-    and_right (same_way other.from (Some m)) (other.link == l)
+    by_first l m hop.from (hop.link == l) (list_any (is_after l m) hops) (by_hops l hops)
+    (λ is. list_any_none (is_after l m) hops (all_from_members (λ (other : Hop). is_after l m other ≡ false) hops (λ other there.
+    and_right (same_ingress other.from (Some m)) (other.link == l)
     (ne_eqb other.link l (λ e. pairs_head (λ (a b : Hop). a.link ≢ b.link) hop hops other apart there (eqb-true hop.link l is ∙ sym e))))))
     (λ other. by_hops_of l m hops (pairs_tail (λ (a b : Hop). a.link ≢ b.link) hop hops apart))
 
@@ -56,8 +56,8 @@ leads_row m l row = list_any (λ (next : ℕ). next == l) (goes_to row (Some m))
 pub leads_by_hops : (d : Domain) (l m : ℕ) (row : Row) → IsTree d row.tree.items → leads_row m l row ≡ is_link (by_hops l row.tree.items) m
 leads_by_hops d l m row tree =
     let hops = row.tree.items in
-    list_any-map (λ (next : ℕ). next == l) (λ (hop : Hop). hop.link) (filter (λ (hop : Hop). same_way hop.from (Some m)) hops)
-    ∙ list_any-filter (λ (hop : Hop). hop.link == l) (λ (hop : Hop). same_way hop.from (Some m)) hops
+    list_any-map (λ (next : ℕ). next == l) (λ (hop : Hop). hop.link) (filter (λ (hop : Hop). same_ingress hop.from (Some m)) hops)
+    ∙ list_any-filter (λ (hop : Hop). hop.link == l) (λ (hop : Hop). same_ingress hop.from (Some m)) hops
     ∙ by_hops_of l m hops (pairs_weaker (λ (a b : Hop). end_of d a.link ≢ end_of d b.link) (λ (a b : Hop). a.link ≢ b.link) hops
     (λ a b _ _ apart same. apart (ap (end_of d) same)) tree.reached_once)
 
@@ -102,8 +102,8 @@ at_learned rows number by k room =
             get_or_append_left (rows ++ pad) (by ∷ []) Nothing k (omega (arith, long, early)) ∙ padded rows (number - length rows) k
             ∙ sym (ap (λ (b : Bool). cond b by (by_at rows k)) (ne_eqb number k other))
         | inr late ↦
-            let behind : length (rows ++ pad ++ by ∷ []) ≤ k = omega (arith, length_push (rows ++ pad) by, long, late, other) in
-            get_or_past (rows ++ pad ++ by ∷ []) k Nothing behind ∙ sym (get_or_past rows k Nothing (omega (arith, room, late)))
+            let following : length (rows ++ pad ++ by ∷ []) ≤ k = omega (arith, length_push (rows ++ pad) by, long, late, other) in
+            get_or_past (rows ++ pad ++ by ∷ []) k Nothing following ∙ sym (get_or_past rows k Nothing (omega (arith, room, late)))
             ∙ sym (ap (λ (b : Bool). cond b by (by_at rows k)) (ne_eqb number k other))
       ]
     ]
@@ -115,20 +115,20 @@ LearnsAll l (row ∷ rows) before after =
     (between : Leads) × LearnsRow row.no (by_hops l row.tree.items) before between × LearnsAll l rows between after
 
 -- rows in order of number, after the first `known` numbers
-pub record ComeBehind (known : ℕ) (rows : List Row) : Type 0 where
+pub record ComeAfter (known : ℕ) (rows : List Row) : Type 0 where
   pub by_number : AllPairs (λ (row other : Row). row.no < other.no) rows
-  pub behind : (row : Row) → Contains rows row → known ≤ row.no
+  pub following : (row : Row) → Contains rows row → known ≤ row.no
 
 -- the others follow the first of them
-pub later_behind : (known : ℕ) (row : Row) (rows : List Row) → ComeBehind known (row ∷ rows) → ComeBehind (row.no + 1) rows
-later_behind known row rows come = record {
+pub later_after : (known : ℕ) (row : Row) (rows : List Row) → ComeAfter known (row ∷ rows) → ComeAfter (row.no + 1) rows
+later_after known row rows come = record {
   by_number = pairs_tail (λ (one other : Row). one.no < other.no) row rows come.by_number;
-  behind = λ other there. let after : row.no < other.no = pairs_head (λ (one other : Row). one.no < other.no) row rows other come.by_number there in
+  following = λ other there. let after : row.no < other.no = pairs_head (λ (one other : Row). one.no < other.no) row rows other come.by_number there in
       omega (arith, after);
 }
 
 -- no row with a lower number is found
-none_below : (known number : ℕ) (rows : List Row) → ComeBehind known rows → number < known → row_of rows number ≡ None
+none_below : (known number : ℕ) (rows : List Row) → ComeAfter known rows → number < known → row_of rows number ≡ None
 none_below known number rows come low = by (row_of rows number) refl
   where
     -- by what is found
@@ -137,7 +137,7 @@ none_below known number rows come low = by (row_of rows number) refl
     by (Some row) is =
         let there = find_member (λ (it : Row). it.no == number) rows row is in
         let same : row.no ≡ number = eqb-true row.no number there.1 in
-        let high : known ≤ row.no = come.behind row there.0 in
+        let high : known ≤ row.no = come.following row there.0 in
         absurd (omega (arith, same, high, low))
 
 -- what a row says of a link, if one is found, and else what was known
@@ -152,17 +152,17 @@ first_or_later l row true later by alone = ap (λ (found : Option Row). found_or
 first_or_later l row false later by alone = refl
 
 -- what is known of a number after rows are learned, in order, after the known ones
-pub rows_learned : (l known : ℕ) (rows : List Row) (before after : Leads) → LearnsAll l rows before after → ComeBehind known rows →
+pub rows_learned : (l known : ℕ) (rows : List Row) (before after : Leads) → LearnsAll l rows before after → ComeAfter known rows →
     length before.rows.items ≤ known → (number : ℕ) →
     by_at after.rows.items number ≡ found_or l (row_of rows number) (by_at before.rows.items number)
 rows_learned l known [] before after learn come room number = ap (λ (leads : Leads). by_at leads.rows.items number) learn
 rows_learned l known (row ∷ rows) before after learn come room number =
     let by = by_hops l row.tree.items in
     let between = learn.0 in
-    let least : known ≤ row.no = come.behind row (contains_here row rows) in
+    let least : known ≤ row.no = come.following row (contains_here row rows) in
     let fits : length before.rows.items ≤ row.no = omega (arith, least, room) in
     let long : length between.rows.items ≡ row.no + 1 = ap length learn.1.rows ∙ length_learned before.rows.items row.no by fits in
-    let rest = later_behind known row rows come in
+    let rest = later_after known row rows come in
     let at : by_at between.rows.items number ≡ cond (row.no == number) by (by_at before.rows.items number) =
     ap (λ (all : List By). by_at all number) learn.1.rows ∙ at_learned before.rows.items row.no by number fits in
     rows_learned l (row.no + 1) rows between after learn.2 rest (omega (arith, long)) number
@@ -171,16 +171,16 @@ rows_learned l known (row ∷ rows) before after learn come room number =
     (λ is. none_below (row.no + 1) number rows rest (omega (arith, eqb-true row.no number is)))
 
 -- there are no more of them than numbers
-pub room_learned : (l known : ℕ) (rows : List Row) (before after : Leads) → LearnsAll l rows before after → ComeBehind known rows →
-    length before.rows.items ≤ known → length after.rows.items ≤ known_behind known rows
+pub room_learned : (l known : ℕ) (rows : List Row) (before after : Leads) → LearnsAll l rows before after → ComeAfter known rows →
+    length before.rows.items ≤ known → length after.rows.items ≤ known_after known rows
 room_learned l known [] before after learn come room = subst (λ (leads : Leads). length leads.rows.items ≤ known) (sym learn) room
 room_learned l known (row ∷ rows) before after learn come room =
     let by = by_hops l row.tree.items in
     let between = learn.0 in
-    let least : known ≤ row.no = come.behind row (contains_here row rows) in
+    let least : known ≤ row.no = come.following row (contains_here row rows) in
     let fits : length before.rows.items ≤ row.no = omega (arith, least, room) in
     let long : length between.rows.items ≡ row.no + 1 = ap length learn.1.rows ∙ length_learned before.rows.items row.no by fits in
-    room_learned l (row.no + 1) rows between after learn.2 (later_behind known row rows come) (omega (arith, long))
+    room_learned l (row.no + 1) rows between after learn.2 (later_after known row rows come) (omega (arith, long))
 
 -- three tests, one of them passes
 either_of_three : (a b c : Bool) → ((a || b) || c) ≡ (a || (b || c))
@@ -203,7 +203,7 @@ needs_learned l m (row ∷ rows) before after learn =
     ∙ ap (λ (b : Bool). b || later) (learn.1.needs m)
     ∙ either_of_three (list_any (λ it. it == m) before.needs.items) (is_link (by_hops l row.tree.items) m) later
 
--- a way that isn't one is none
+-- an ingress that isn't one is none
 none_is_nothing : (by : By) → is_some by ≡ false → by ≡ Nothing
 none_is_nothing Nothing is = refl
 none_is_nothing Edge is = absurd (both_ways true is refl)
@@ -235,16 +235,16 @@ fits_with number by before after learn room fits = record {
     same_twice false = refl
 
 -- and with more rows
-pub fits_learned : (l known : ℕ) (rows : List Row) (before after : Leads) → LearnsAll l rows before after → ComeBehind known rows →
+pub fits_learned : (l known : ℕ) (rows : List Row) (before after : Leads) → LearnsAll l rows before after → ComeAfter known rows →
     length before.rows.items ≤ known → AreLeads before → AreLeads after
 fits_learned l known [] before after learn come room fits = subst AreLeads (sym learn) fits
 fits_learned l known (row ∷ rows) before after learn come room fits =
     let by = by_hops l row.tree.items in
     let between = learn.0 in
-    let least : known ≤ row.no = come.behind row (contains_here row rows) in
+    let least : known ≤ row.no = come.following row (contains_here row rows) in
     let small : length before.rows.items ≤ row.no = omega (arith, least, room) in
     let long : length between.rows.items ≡ row.no + 1 = ap length learn.1.rows ∙ length_learned before.rows.items row.no by small in
-    fits_learned l (row.no + 1) rows between after learn.2 (later_behind known row rows come) (omega (arith, long))
+    fits_learned l (row.no + 1) rows between after learn.2 (later_after known row rows come) (omega (arith, long))
     (fits_with row.no by before between learn.1 small fits)
 
 -- what stays of a link when it learns rows
@@ -252,7 +252,7 @@ pub record HasLearned (rows : List Row) (before after : Outlet) : Type 0 where
   pub leads : LearnsAll before.trace.link rows before.leads after.leads
   pub wire : after.wire ≡ before.wire
   pub sent : after.sent ≡ before.sent
-  pub told : after.told ≡ before.told
+  pub reported : after.reported ≡ before.reported
   pub pending : after.pending ≡ before.pending
   pub trace : after.trace ≡ before.trace
 
@@ -262,25 +262,25 @@ count_learned [] before after learn = ap length learn
 count_learned (row ∷ rows) before after learn = count_learned rows learn.0 after learn.2 ∙ learn.1.count
 
 -- the link at an index before
-pub record WasAt (rows : List Row) (before : List Outlet) (place : ℕ) (learned : Outlet) : Type 0 where
+pub record WasAt (rows : List Row) (before : List Outlet) (index : ℕ) (learned : Outlet) : Type 0 where
   pub outlet : Outlet
-  pub was : slice_get before place ≡ Some outlet
+  pub was : slice_get before index ≡ Some outlet
   pub has : HasLearned rows outlet learned
 
 -- each has learned the rows
-pub each_learned : (rows : List Row) (before after : List Outlet) → LearnEach rows before after → (place : ℕ) (learned : Outlet) →
-    slice_get after place ≡ Some learned → WasAt rows before place learned
-each_learned [] before after learn place learned is = record {
+pub each_learned : (rows : List Row) (before after : List Outlet) → LearnEach rows before after → (index : ℕ) (learned : Outlet) →
+    slice_get after index ≡ Some learned → WasAt rows before index learned
+each_learned [] before after learn index learned is = record {
   outlet = learned;
-  was = ap (λ (all : List Outlet). slice_get all place) (sym learn) ∙ is;
-  has = record { leads = refl; wire = refl; sent = refl; told = refl; pending = refl; trace = refl };
+  was = ap (λ (all : List Outlet). slice_get all index) (sym learn) ∙ is;
+  has = record { leads = refl; wire = refl; sent = refl; reported = refl; pending = refl; trace = refl };
 }
-each_learned (row ∷ rows) before after learn place learned is =
-    let mid = each_learned rows learn.0 after learn.2 place learned is in
-    let within : place < length learn.0 = slice_get_within learn.0 place mid.outlet mid.was in
-    let outlet = get_or before place mid.outlet in
-    let was = slice_get-get_or before place mid.outlet (omega (arith, within, learn.1.count)) in
-    let one = learn.1.each place outlet mid.outlet was mid.was in
+each_learned (row ∷ rows) before after learn index learned is =
+    let mid = each_learned rows learn.0 after learn.2 index learned is in
+    let within : index < length learn.0 = slice_get_within learn.0 index mid.outlet mid.was in
+    let outlet = get_or before index mid.outlet in
+    let was = slice_get-get_or before index mid.outlet (omega (arith, within, learn.1.count)) in
+    let one = learn.1.each index outlet mid.outlet was mid.was in
     record {
       outlet = outlet;
       was = was;
@@ -292,7 +292,7 @@ each_learned (row ∷ rows) before after learn place learned is =
         );
         wire = mid.has.wire ∙ one.wire;
         sent = mid.has.sent ∙ one.sent;
-        told = mid.has.told ∙ one.told;
+        reported = mid.has.reported ∙ one.reported;
         pending = mid.has.pending ∙ one.pending;
         trace = mid.has.trace ∙ one.trace;
       };
@@ -306,6 +306,6 @@ learn_push (first ∷ rows) row before between after learn one =
     (learn.0, learn.1, learn_push rows row learn.0 between after learn.2 one)
 
 -- and the last one's number says how many are known
-pub known_push : (known : ℕ) (rows : List Row) (row : Row) → known_behind known (rows ++ row ∷ []) ≡ row.no + 1
+pub known_push : (known : ℕ) (rows : List Row) (row : Row) → known_after known (rows ++ row ∷ []) ≡ row.no + 1
 known_push known [] row = refl
 known_push known (first ∷ rows) row = known_push (first.no + 1) rows row

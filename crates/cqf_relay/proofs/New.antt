@@ -145,11 +145,11 @@ new_outlet_stands d bridge outlet is = record {
   wire = is.new.wire ∙ sym (wire_of_link d outlet.trace.link is.link is.is_link);
   knows = knows_none outlet.trace.link outlet is.new.no_rows is.new.no_needs;
   as_far = is.new.sent;
-  handed = omega (arith, is.new.told, is.new.sent);
+  handed = omega (arith, is.new.reported, is.new.sent);
   pends = λ _.
-      let none : outlet.sent - outlet.told ≡ 0 = omega (arith, is.new.told, is.new.sent) in
+      let none : outlet.sent - outlet.reported ≡ 0 = omega (arith, is.new.reported, is.new.sent) in
       is.new.pending
-      ∙ sym (ap (each_below (λ k. map (moving_in d outlet.trace.link outlet.pending.base (outlet.told + k)) (batch_at [] (outlet.told + k)))) none);
+      ∙ sym (ap (each_below (λ k. map (moving_in d outlet.trace.link outlet.pending.base (outlet.reported + k)) (batch_at [] (outlet.reported + k)))) none);
   counts = λ _ cycle _ early _. absurd (omega (arith, early, is.new.sent));
   marked = is.new.starts;
   no_background = is.new.background;
@@ -160,7 +160,7 @@ new_outlet_stands d bridge outlet is = record {
 pub new_tidy : (d : Domain) (bridge : ℕ) (outlets : List Outlet) → AreNewOutlets d bridge outlets → All IsTidy outlets
 new_tidy d bridge outlets are = all_from_members IsTidy outlets (λ outlet there.
     let new = (All-contains (IsNewOutletOf d) outlets outlet are.new there).new in
-    nothing_tidy outlet (omega (arith, new.told, new.sent)) new.pending)
+    nothing_tidy outlet (omega (arith, new.reported, new.sent)) new.pending)
 
 -- a bridge that has done nothing
 pub new_stands : (d : Domain) (new : Relay) → arc_value new.domain ≡ d → new.tables ≡ 0 → AreNewInlets d new.number new.inlets.items →

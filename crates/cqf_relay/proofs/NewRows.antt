@@ -14,12 +14,12 @@ use Rattle.cqf_lists.proofs.Members.{any_member, contains_filter, contains_flat,
 use Rattle.cqf_model.specs.declared.topology.Hop.{Hop}
 use Rattle.cqf_model.specs.declared.topology.Row.{Row}
 use Rattle.cqf_model.specs.Domain.{Domain}
-use Rattle.cqf_model.specs.Table.{links_in, row_of, same_way, table_of}
+use Rattle.cqf_model.specs.Table.{links_in, row_of, same_ingress, table_of}
 use Rattle.cqf_relay.specs.declared.leads.By.TheVariants.{Nothing}
 use Rattle.cqf_relay.specs.declared.leads.Leads.{Leads}
 use Rattle.cqf_relay.specs.Leading.{by_hops, by_row, is_link, leads}
 use Rattle.cqf_relay.specs.Standing.{KnowsRows, MayBeTables, all_rows, new_rows, rows_of}
-use Rattle.cqf_relay.proofs.Learning.{ComeBehind, LearnsAll, fits_learned, found_or, leads_by_hops, leads_row, needs_learned, rows_learned}
+use Rattle.cqf_relay.proofs.Learning.{ComeAfter, LearnsAll, fits_learned, found_or, leads_by_hops, leads_row, needs_learned, rows_learned}
 
 -- the tables before the last one are unchanged
 pub table_before : (tables : List (List Row)) (table : List Row) (cycle : ℕ) → cycle < length tables →
@@ -118,19 +118,19 @@ module _ (d : Domain) (tables : List (List Row)) (table : List Row) (known : ℕ
         let most = some.0 in
         let is : most.no + 1 ≡ known = some.2 in
         let stood = stands_in tables most some.1 in
-        let behind : most.no < row.no = may.behind stood.cycle (length tables) most row stood.early
+        let following : most.no < row.no = may.following stood.cycle (length tables) most row stood.early
         (subst (λ (rows : List Row). Contains rows most) (sym (table_before tables table stood.cycle stood.early)) stood.there) (in_last row there)
         (none_earlier row.no none) in
-        absurd (omega (arith, is, behind, low))
+        absurd (omega (arith, is, following, low))
   ]
 
   -- the new ones follow the known ones by number
-  pub new_behind : ComeBehind known (new_rows known table)
-  new_behind = record {
+  pub new_after : ComeAfter known (new_rows known table)
+  new_after = record {
     by_number = AllPairs-filter (λ (row other : Row). row.no < other.no) (λ (it : Row). nat_le known it.no) table
         (subst (λ (rows : List Row). AllPairs (λ (row other : Row). row.no < other.no) rows) (table_last tables table)
         (may.by_number (length tables)));
-    behind = λ row there. leb-true known row.no (contains_from_filter (λ (it : Row). nat_le known it.no) table row there).1;
+    following = λ row there. leb-true known row.no (contains_from_filter (λ (it : Row). nat_le known it.no) table row there).1;
   }
 
   -- the row of a number, before and with the table
@@ -205,7 +205,7 @@ module _ (d : Domain) (tables : List (List Row)) (table : List Row) (known : ℕ
               (subst (λ (rows : List Row). Contains rows early) (sym (table_before tables table stood.cycle stood.early)) stood.there) (in_last row there)
               (eqb-true early.no row.no was.1) in
               let led : leads_row m l early ≡ true =
-              ap (λ (tree : List Hop). list_any (λ (next : ℕ). next == l) (links_in (filter (λ (hop : Hop). same_way hop.from (Some m)) tree))) same.tree
+              ap (λ (tree : List Hop). list_any (λ (next : ℕ). next == l) (links_in (filter (λ (hop : Hop). same_ingress hop.from (Some m)) tree))) same.tree
               ∙ does in
               both_ways (leads (all_rows tables) m l) none (member_any (leads_row m l) (all_rows tables) early was.0 led)
 
@@ -233,7 +233,7 @@ module _ (d : Domain) (tables : List (List Row)) (table : List Row) (known : ℕ
       LearnsAll l (new_rows known table) before after → KnowsRows l (tables ++ table ∷ []) after
   knows_with l before after knows room learn = record {
     rows = λ number.
-        rows_learned l known (new_rows known table) before after learn new_behind room number
+        rows_learned l known (new_rows known table) before after learn new_after room number
         ∙ ap (found_or l (row_of (new_rows known table) number)) (knows.rows number)
         ∙ row_with l number
         ∙ ap (by_row l) (sym (find-append (λ (row : Row). row.no == number) (all_rows tables) table))
@@ -243,5 +243,5 @@ module _ (d : Domain) (tables : List (List Row)) (table : List Row) (known : ℕ
         ∙ ap (λ (b : Bool). b || list_any (λ (row : Row). is_link (by_hops l row.tree.items) m) (new_rows known table)) (knows.needs m)
         ∙ leads_with l m
         ∙ ap (λ (rows : List Row). leads rows m l) (sym (all_rows_more tables table));
-    fits = fits_learned l known (new_rows known table) before after learn new_behind room knows.fits;
+    fits = fits_learned l known (new_rows known table) before after learn new_after room knows.fits;
   }

@@ -19,18 +19,18 @@ use Rattle.cqf_relay.specs.declared.queue.Queued.{Queued}
 use Rattle.cqf_relay.specs.declared.wire.Wire.{Wire}
 use Rattle.cqf_relay.specs.Queues.{AreByCycle, AreLeads, key_of_queued, queue_of}
 use Rattle.cqf_relay.specs.Sending.{Adds, Hands, IsSameLink, SendsCycles, SendsMore, SendsOne, SendsOneCycle, SendsQueue, base_with, came_of, has_room_on, moving_on}
-use Rattle.cqf_relay.specs.Sending.{offset_behind, sends_of, sent_at, time_on, waits_for}
+use Rattle.cqf_relay.specs.Sending.{next_offset, sends_of, sent_at, time_on, waits_for}
 
 -- the offset at which the next frame may start after some
 abbrev pub offset_after : Wire → ℕ → List ArrivedFrame → ℕ
 offset_after wire offset [] = offset
-offset_after wire offset (x ∷ xs) = offset_after wire (offset_behind wire offset x) xs
+offset_after wire offset (x ∷ xs) = offset_after wire (next_offset wire offset x) xs
 
 -- after two lists it is the offset after the second, starting after the first
 pub offset_after-append : (wire : Wire) (offset : ℕ) (xs ys : List ArrivedFrame) →
     offset_after wire offset (xs ++ ys) ≡ offset_after wire (offset_after wire offset xs) ys
 offset_after-append wire offset [] ys = refl
-offset_after-append wire offset (x ∷ xs) ys = offset_after-append wire (offset_behind wire offset x) xs ys
+offset_after-append wire offset (x ∷ xs) ys = offset_after-append wire (next_offset wire offset x) xs ys
 
 -- an optional first element of two lists end to end
 choice_append : {X : Type 0} (b : Bool) (x : X) (xs ys : List X) → cond b (x ∷ (xs ++ ys)) (xs ++ ys) ≡ cond b (x ∷ xs) xs ++ ys
@@ -43,7 +43,7 @@ pub sends_of-append : (wire : Wire) (cycle offset : ℕ) (xs ys : List ArrivedFr
 sends_of-append wire cycle offset [] ys = refl
 sends_of-append wire cycle offset (x ∷ xs) ys =
     let b = has_room_on wire offset x.octets in
-    let next = offset_behind wire offset x in
+    let next = next_offset wire offset x in
     ap (λ (rest : List Sent). cond b (sent_at wire cycle offset x ∷ rest) rest) (sends_of-append wire cycle next xs ys)
     ∙ choice_append b (sent_at wire cycle offset x) (sends_of wire cycle next xs) (sends_of wire cycle (offset_after wire next xs) ys)
 
@@ -63,7 +63,7 @@ same_link_again a b e one two = record {
 pub adds_nothing : (cycle : ℕ) (outlet : Outlet) → Adds cycle [] outlet outlet
 adds_nothing cycle outlet = record {
   same = same_link outlet;
-  told = refl;
+  reported = refl;
   marked = sym (append-nil outlet.trace.starts.items);
   base = λ onward. refl;
   pends = λ onward. sym (append-nil outlet.pending.frames.items);
@@ -112,7 +112,7 @@ module _ (cycle : ℕ) (s t : List Sent) (a b e : Outlet) (one : Adds cycle s a 
   pub adds_both : Adds cycle (s ++ t) a e
   adds_both = record {
     same = same_link_again a b e one.same two.same;
-    told = two.told ∙ one.told;
+    reported = two.reported ∙ one.reported;
     marked = two.marked
         ∙ ap (λ (xs : List Mark). xs ++ map mark_of_sent t) one.marked
         ∙ append_assoc a.trace.starts.items (map mark_of_sent s) (map mark_of_sent t)
@@ -128,12 +128,12 @@ module _ (cycle : ℕ) (s t : List Sent) (a b e : Outlet) (one : Adds cycle s a 
 pub record HasSent (cycle : ℕ) (queue : List Queued) (many offset : ℕ) (before now : Outlet) : Type 0 where
   pub adds : Adds cycle (sends_of before.wire cycle 0 (map came_of (take many queue))) before now
   pub as_far : now.sent ≡ before.sent
-  pub behind : offset ≡ offset_after before.wire 0 (map came_of (take many queue))
+  pub following : offset ≡ offset_after before.wire 0 (map came_of (take many queue))
   pub small : offset < 2 ^ 40
 
 -- at first none
 pub sent_none : (cycle : ℕ) (queue : List Queued) (before : Outlet) → HasSent cycle queue 0 0 before before
-sent_none cycle queue before = record { adds = adds_nothing cycle before; as_far = refl; behind = refl; small = omega arith }
+sent_none cycle queue before = record { adds = adds_nothing cycle before; as_far = refl; following = refl; small = omega arith }
 
 module _ (cycle : ℕ) (queue : List Queued) (many offset next : ℕ) (before now after : Outlet) (so : HasSent cycle queue many offset before now)
     (inside : many < length queue) (x : ArrivedFrame) where
@@ -149,15 +149,15 @@ module _ (cycle : ℕ) (queue : List Queued) (many offset next : ℕ) (before no
       ∙ map-append came_of (take many queue) (get_or queue many d ∷ [])
       ∙ ap (λ (y : ArrivedFrame). front ++ y ∷ []) (sym (is d)) in
       let adds : Adds cycle (sends_of before.wire cycle start (x ∷ [])) now after =
-      subst (λ (o : ℕ). Adds cycle (sends_of before.wire cycle o (x ∷ [])) now after) so.behind
+      subst (λ (o : ℕ). Adds cycle (sends_of before.wire cycle o (x ∷ [])) now after) so.following
       (subst (λ (w : Wire). Adds cycle (sends_of w cycle offset (x ∷ [])) now after) so.adds.same.wire one.adds) in
       let both = adds_both cycle (sends_of before.wire cycle 0 front) (sends_of before.wire cycle start (x ∷ [])) before now after so.adds adds in
       record {
         adds = subst (λ (xs : List Sent). Adds cycle xs before after)
             (sym (ap (sends_of before.wire cycle 0) more ∙ sends_of-append before.wire cycle 0 front (x ∷ []))) both;
         as_far = one.as_far ∙ so.as_far;
-        behind = one.next_is
-            ∙ ap₂ (λ (w : Wire) (o : ℕ). offset_behind w o x) so.adds.same.wire so.behind
+        following = one.next_is
+            ∙ ap₂ (λ (w : Wire) (o : ℕ). next_offset w o x) so.adds.same.wire so.following
             ∙ sym (ap (offset_after before.wire 0) more ∙ offset_after-append before.wire 0 front (x ∷ []));
         small = one.small;
       }
@@ -178,9 +178,9 @@ whole_in_time wire offset octets room =
     (leb-true octets 65535 both.0, ltb-true (offset + time_on wire octets) wire.cycle_time both.1)
 
 -- with the gap after it, it takes little longer
-pub soon_behind : (wire : Wire) (offset octets : ℕ) → offset + time_on wire octets < wire.cycle_time → wire.cycle_time < 2 ^ 32 →
+pub soon_after : (wire : Wire) (offset octets : ℕ) → offset + time_on wire octets < wire.cycle_time → wire.cycle_time < 2 ^ 32 →
     wire.octet_time < 2 ^ 32 → offset + slot_of octets wire.octet_time < 2 ^ 40
-soon_behind wire offset octets whole cycle small = omega (arith, whole, cycle, small, slot_joins octets wire.octet_time)
+soon_after wire offset octets whole cycle small = omega (arith, whole, cycle, small, slot_joins octets wire.octet_time)
 
 -- the instant at which a frame is whole, from the beginning of its cycle
 pub whole_from_cycle : (begins offset octets octet_time delay : ℕ) →
@@ -198,7 +198,7 @@ abbrev pub moving_at : ArrivedFrame → ℕ → ℕ → Moving
 moving_at came at after = record { at = at; frame = came.frame; row = came.row; octets = came.octets; after = after }
 
 module _ (cycle offset : ℕ) (came : ArrivedFrame) (before after : Outlet) (wire : after.wire ≡ before.wire) (leads : after.leads ≡ before.leads)
-    (sent : after.sent ≡ before.sent) (told : after.told ≡ before.told) where
+    (sent : after.sent ≡ before.sent) (reported : after.reported ≡ before.reported) where
   -- a frame that has room is on the trace, and is to be handed on if its link ends in another bridge
   pub sends_one : (begins time taken : ℕ) → begins ≡ cycle * before.wire.cycle_time → time ≡ time_on before.wire came.octets →
       taken ≡ slot_of came.octets before.wire.octet_time → has_room_on before.wire offset came.octets ≡ true →
@@ -221,7 +221,7 @@ module _ (cycle offset : ℕ) (came : ArrivedFrame) (before after : Outlet) (wir
       record {
         adds = subst (λ (xs : List Sent). Adds cycle xs before after) is (record {
           same = record { wire = wire; leads = leads; link = link; background = background };
-          told = told;
+          reported = reported;
           marked = marked ∙ ap (λ (n : ℕ). before.trace.starts.items ++ mark_at came (n + offset) ∷ []) begins_is;
           base = λ onward. (handed onward).base;
           pends = moves;
@@ -232,7 +232,7 @@ module _ (cycle offset : ℕ) (came : ArrivedFrame) (before after : Outlet) (wir
         small = omega (
           arith,
           next,
-          soon_behind before.wire offset came.octets (whole_in_time before.wire offset came.octets room).1 long few,
+          soon_after before.wire offset came.octets (whole_in_time before.wire offset came.octets room).1 long few,
         );
       }
 
@@ -263,7 +263,7 @@ sent_cycle inlets edge before now waits sorted is moved rises sends early = reco
       link = sends.adds.same.link;
       background = sends.adds.same.background;
     };
-    told = sends.adds.told;
+    reported = sends.adds.reported;
     marked = sends.adds.marked;
     base = sends.adds.base;
     pends = sends.adds.pends;
@@ -289,15 +289,15 @@ sent_to_none until inlets edge before = record {
 }
 
 module _ (until upto : ℕ) (inlets : List Inlet) (edge : SourceLog) (before now : Outlet) (so : HasSentTo until upto inlets edge before now)
-    (behind : before.sent ≤ upto) where
+    (following : before.sent ≤ upto) where
   -- and then one cycle more
   pub sent_to_more : (after : Outlet) → upto < until → SendsOneCycle inlets edge now after → HasSentTo until (upto + 1) inlets edge before after
   sent_to_more after early one = record {
-    sends = let more : suc (upto - before.sent) ≡ upto + 1 - before.sent = omega (arith, behind) in
+    sends = let more : suc (upto - before.sent) ≡ upto + 1 - before.sent = omega (arith, following) in
         let further : SendsMore (suc (upto - before.sent)) inlets edge before after = (now, so.sends, one) in
         subst (λ (n : ℕ). SendsMore n inlets edge before after) more further;
     as_far = one.as_far ∙ ap (λ (n : ℕ). n + 1) so.as_far;
-    within = omega (arith, behind, early);
+    within = omega (arith, following, early);
   }
 
   -- and in the end as far as it should

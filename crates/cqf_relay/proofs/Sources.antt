@@ -22,7 +22,7 @@ use Rattle.cqf_lists.proofs.Pairs.{pairs_append, pairs_below}
 use Rattle.cqf_lists.proofs.Picked.{filter_one}
 use Rattle.cqf_model.specs.declared.frames.Sent.{Sent}
 use Rattle.cqf_model.specs.Domain.{Domain}
-use Rattle.cqf_model.specs.Traffic.{whole_at}
+use Rattle.cqf_model.specs.Policing.{whole_at}
 use Rattle.cqf_relay.specs.declared.inlet.Inlet.{Inlet}
 use Rattle.cqf_relay.specs.declared.leads.By.{By}
 use Rattle.cqf_relay.specs.declared.leads.By.TheVariants.{Nothing, Edge, Link}
@@ -39,14 +39,14 @@ use Rattle.cqf_relay.specs.Standing.{Come, IsInletOf, MayHaveCome, with_segment}
 
 module _ {X : Type 0} where
   -- if all elements before and after a section fail a test, and all in it pass, the test keeps the section
-  pub kept_between : (p : X → Bool) (before between behind : List X) → ((x : X) → Contains before x → p x ≡ false) → ((x : X) → Contains between x → p x ≡ true)
-      → ((x : X) → Contains behind x → p x ≡ false) → filter p (before ++ (between ++ behind)) ≡ between
-  kept_between p before between behind early here late =
+  pub kept_between : (p : X → Bool) (before between following : List X) → ((x : X) → Contains before x → p x ≡ false) → ((x : X) → Contains between x → p x ≡ true)
+      → ((x : X) → Contains following x → p x ≡ false) → filter p (before ++ (between ++ following)) ≡ between
+  kept_between p before between following early here late =
       let first : filter p before ≡ [] = filter_none p before early in
       let own : filter p between ≡ between = filter_each p between here in
-      let last : filter p behind ≡ [] = filter_none p behind late in
-      filter-append p before (between ++ behind) ∙ ap (λ (xs : List X). xs ++ filter p (between ++ behind)) first
-      ∙ filter-append p between behind ∙ (λ i. own i ++ last i) ∙ append-nil between
+      let last : filter p following ≡ [] = filter_none p following late in
+      filter-append p before (between ++ following) ∙ ap (λ (xs : List X). xs ++ filter p (between ++ following)) first
+      ∙ filter-append p between following ∙ (λ i. own i ++ last i) ∙ append-nil between
 
   module _ (p : X → Bool) (xs : List X) (n : ℕ) (cut : IsPartitionPoint (λ y. p y ≡ true) (λ y. p y ≡ false) xs n) (upto : n ≤ length xs) where
     -- an element before a cut passes its test
@@ -57,8 +57,8 @@ module _ {X : Type 0} where
         ap p (sym at) ∙ cut.0 held.0 x (omega arith) within
 
     -- and an element after it fails
-    pub behind_cut : (x : X) → Contains (drop n xs) x → p x ≡ false
-    behind_cut x held =
+    pub after_cut : (x : X) → Contains (drop n xs) x → p x ≡ false
+    after_cut x held =
         let at : get_or xs (n + held.0) x ≡ x = sym (get_or-drop n xs held.0 x) ∙ held.2 in
         ap p (sym at) ∙ cut.1 (n + held.0) x (omega arith) (omega (arith, held.1, length-drop n xs, upto))
 
@@ -85,18 +85,18 @@ module _ {X : Type 0} (key : X → ℕ) where
       count ≤ length rest → take count rest ≡ filter (λ x. key x == t) whole
   cut_of_key t xs whole rest from count same up first upto is last within =
       let rise : IsNonDecreasingBy key xs = subst (IsNonDecreasingBy key) (sym same) up in
-      let all_behind : rest ≡ drop from xs = is ∙ take_all (length xs - from) (drop from xs) (omega (arith, length-drop from xs)) in
+      let all_after : rest ≡ drop from xs = is ∙ take_all (length xs - from) (drop from xs) (omega (arith, length-drop from xs)) in
       let point = first (IsPartitionedBy-ltb key xs t rise) in
-      let next = last (subst (λ (ys : List X). IsPartitionedBy (λ y. nat_le (key y) t) ys) (sym all_behind)
+      let next = last (subst (λ (ys : List X). IsPartitionedBy (λ y. nat_le (key y) t) ys) (sym all_after)
       (IsPartitionedBy-leb key (drop from xs) t (IsNonDecreasingBy-drop key from xs rise))) in
       let parts : take from xs ++ (take count rest ++ drop count rest) ≡ xs =
-      ap (λ (ys : List X). take from xs ++ ys) (take-append-drop count rest ∙ all_behind) ∙ take-append-drop from xs in
+      ap (λ (ys : List X). take from xs ++ ys) (take-append-drop count rest ∙ all_after) ∙ take-append-drop from xs in
       let least : (x : X) → Contains rest x → t ≤ key x = λ x h.
-      not_below (key x) t (behind_cut (λ y. nat_lt (key y) t) xs from point upto x (subst (λ (ys : List X). Contains ys x) all_behind h)) in
+      not_below (key x) t (after_cut (λ y. nat_lt (key y) t) xs from point upto x (subst (λ (ys : List X). Contains ys x) all_after h)) in
       let early : (x : X) → Contains (take from xs) x → (key x == t) ≡ false = λ x h.
       ne_eqb (key x) t (λ e. omega (arith, e, ltb-true (key x) t (before_cut (λ y. nat_lt (key y) t) xs from point upto x h))) in
       let late : (x : X) → Contains (drop count rest) x → (key x == t) ≡ false = λ x h.
-      ne_eqb (key x) t (λ e. omega (arith, e, not_upto (key x) t (behind_cut (λ y. nat_le (key y) t) rest count next within x h))) in
+      ne_eqb (key x) t (λ e. omega (arith, e, not_upto (key x) t (after_cut (λ y. nat_le (key y) t) rest count next within x h))) in
       let here : (x : X) → Contains (take count rest) x → (key x == t) ≡ true = λ x h.
       eq-eqb (key x) t (omega (
         arith,
@@ -201,12 +201,12 @@ nothing_more count later before now next is so rows needs used =
       used = used ∙ so.used;
     }
 
-module _ (number count : ℕ) (before now between after : Leads) (by way : By) where
+module _ (number count : ℕ) (before now between after : Leads) (by ingress : By) where
   -- a row is learned after these, and what it says is recorded
-  pub row_learned : HasNothingMore count before now → count ≡ number - length before.rows.items → by ≡ way → between.rows.items ≡ now.rows.items ++ by ∷ []
+  pub row_learned : HasNothingMore count before now → count ≡ number - length before.rows.items → by ≡ ingress → between.rows.items ≡ now.rows.items ++ by ∷ []
       → between.needs ≡ now.needs → between.used ≡ now.used → after.rows ≡ between.rows →
       ((m : ℕ) → list_any (λ it. it == m) after.needs.items ≡ (list_any (λ it. it == m) between.needs.items || is_link by m)) →
-      after.used ≡ (between.used || is_some by) → LearnsRow number way before after
+      after.used ≡ (between.used || is_some by) → LearnsRow number ingress before after
   row_learned so many is rows needs used rows_stay needs_more used_more =
       let front : now.rows.items ≡ before.rows.items ++ replicate (number - length before.rows.items) Nothing =
       so.rows ∙ ap (λ (k : ℕ). before.rows.items ++ replicate k Nothing) many in
@@ -229,9 +229,9 @@ rises key xs pairs i j d le within = elim (cases_eq i j) [
 ]
 
 -- frames appended to others, both in order of cycle, the latter of cycles before one, and the former of that one and later ones
-pub behind_by_cycle : (begin : ℕ) (old new : List ArrivedFrame) → ByCycle old → All (λ (came : ArrivedFrame). came.cycle < begin) old → ByCycle new →
+pub after_by_cycle : (begin : ℕ) (old new : List ArrivedFrame) → ByCycle old → All (λ (came : ArrivedFrame). came.cycle < begin) old → ByCycle new →
     All (λ (came : ArrivedFrame). begin ≤ came.cycle) new → ByCycle (old ++ new)
-behind_by_cycle begin old new old_up early new_up late =
+after_by_cycle begin old new old_up early new_up late =
     rises cycle_of_came (old ++ new)
     (pairs_append (λ (x y : ArrivedFrame). x.cycle ≤ y.cycle) old new (λ i j d l within. old_up i j d (omega (arith, l)) within)
     (λ i j d l within. new_up i j d (omega (arith, l)) within)
@@ -313,14 +313,14 @@ module _ (d : Domain) (m : ℕ) (sends : List (List Sent)) (begin : ℕ) (segmen
           let within = segment_within came h in
           elim outside [
             | inl before ↦ omega (arith, e, before, within.0)
-            | inr behind ↦ omega (arith, e, behind, within.1)
+            | inr following ↦ omega (arith, e, following, within.1)
           ]
 
   -- and it may come next, after what arrived before its first cycle
   pub segment_is_next : IsNextSegment begin segment
   segment_is_next =
       record {
-        behind = so.behind;
+        following = so.following;
         by_cycle =
             subst ByCycle (sym frames_come) (rises cycle_of_came (each_below batch_of (segment.upto - begin))
             (pairs_below (λ (x y : ArrivedFrame). x.cycle ≤ y.cycle) batch_of (segment.upto - begin)
@@ -334,9 +334,9 @@ pub segment_may_come : (begin : ℕ) (brought : List ArrivedFrame) (segment : Se
     MayHaveCome segment.upto (brought ++ frames_of segment)
 segment_may_come begin brought segment may next =
     record {
-      by_cycle = behind_by_cycle begin brought (frames_of segment) may.by_cycle may.within next.by_cycle (λ k z inside. (next.within k z inside).0);
+      by_cycle = after_by_cycle begin brought (frames_of segment) may.by_cycle may.within next.by_cycle (λ k z inside. (next.within k z inside).0);
       within =
-          All-append (λ (came : ArrivedFrame). came.cycle < segment.upto) brought (frames_of segment) (λ k z inside. omega (arith, may.within k z inside, next.behind))
+          All-append (λ (came : ArrivedFrame). came.cycle < segment.upto) brought (frames_of segment) (λ k z inside. omega (arith, may.within k z inside, next.following))
           (λ k z inside. (next.within k z inside).1);
     }
 

@@ -10,14 +10,14 @@ use Rattle.std.proofs.lemmas.List.Elements.{All-contains, All-weaker, Contains-a
 use Rattle.std.proofs.lemmas.Option.{slice_get-get_or, slice_get_cases}
 use Rattle.cqf_lists.specs.Lists.{each_below}
 use Rattle.cqf_lists.proofs.EachBelow.{filter_each, filter_none}
-use Rattle.cqf_lists.proofs.Members.{all_from_members, contains_at, contains_cases, contains_filter, contains_from_filter, contains_from_map, contains_here, contains_later, contains_none, place_of_member}
+use Rattle.cqf_lists.proofs.Members.{all_from_members, contains_at, contains_cases, contains_filter, contains_from_filter, contains_from_map, contains_here, contains_later, contains_none, index_of_member}
 use Rattle.cqf_model.specs.declared.frames.Offered.{Offered}
 use Rattle.cqf_model.specs.declared.frames.Sent.{Sent}
 use Rattle.cqf_model.specs.declared.topology.Row.{Row}
 use Rattle.cqf_model.specs.Domain.{Domain}
 use Rattle.cqf_model.specs.Table.{table_of}
 use Rattle.cqf_relay.specs.declared.edge.Edge.{Edge}
-use Rattle.cqf_relay.specs.declared.leads.By.TheVariants as way
+use Rattle.cqf_relay.specs.declared.leads.By.TheVariants as ingress
 use Rattle.cqf_relay.specs.declared.log.ArrivedFrame.{ArrivedFrame}
 use Rattle.cqf_relay.specs.declared.outlet.Outlet.{Outlet}
 use Rattle.cqf_relay.specs.declared.pending.Pending.{Pending}
@@ -26,13 +26,13 @@ use Rattle.cqf_relay.specs.declared.relay.Relay.{Relay}
 use Rattle.cqf_relay.specs.Segments.{Sendings, batch_at, moving_between}
 use Rattle.cqf_relay.specs.Leading.{leads}
 use Rattle.cqf_relay.specs.Logs.{cycle_of_came, is_in}
-use Rattle.cqf_relay.specs.Offering.{CountsUpto, Going, TakesOffers, came_of_going, covered_behind, dropped_behind}
+use Rattle.cqf_relay.specs.Offering.{CountsUpto, Going, TakesOffers, came_of_going, covered_after, dropped_after}
 use Rattle.cqf_relay.specs.Sending.{IsTidy, LearnsOf}
 use Rattle.cqf_relay.specs.Standing.{AreKnown, Come, GoesOnBy, HasGoneOnBy, IsEdgeOf, IsInletOf, IsOutletOf, IsWithin, KnowsRows, LearnEach, LearnsRows, MayBeTables}
-use Rattle.cqf_relay.specs.Standing.{MayHaveCome, StandsSo, TakesTable, all_rows, comes_by, covered_in, known_behind, link_in, link_out, links_from, links_into}
+use Rattle.cqf_relay.specs.Standing.{MayHaveCome, StandsSo, TakesTable, all_rows, comes_by, covered_in, known_after, link_in, link_out, links_from, links_into}
 use Rattle.cqf_relay.specs.Standing.{new_rows, that_go_on, wire_on, wire_out, with_table}
-use Rattle.cqf_relay.proofs.Learning.{ComeBehind, HasLearned, each_learned, later_behind, room_learned}
-use Rattle.cqf_relay.proofs.NewRows.{all_rows_more, knows_with, new_behind, rows_before, table_before, table_last}
+use Rattle.cqf_relay.proofs.Learning.{ComeAfter, HasLearned, each_learned, later_after, room_learned}
+use Rattle.cqf_relay.proofs.NewRows.{all_rows_more, knows_with, new_after, rows_before, table_before, table_last}
 use Rattle.cqf_relay.proofs.Tidy.{same_tidy}
 
 -- the covered offers of the earlier cycles are unchanged
@@ -40,18 +40,18 @@ covered_before : (d : Domain) (bridge cycle : ℕ) (come : Come) (table : List R
     length come.offers ≡ length come.tables → covered_in d bridge (with_table come table offers) cycle ≡ covered_in d bridge come cycle
 covered_before d bridge cycle come table offers early long =
     let there : cycle < length come.offers = omega (arith, early, long) in
-    λ i. covered_behind d bridge cycle (table_before come.tables table cycle early i) [] (get_or_append_left come.offers (offers ∷ []) [] cycle there i)
+    λ i. covered_after d bridge cycle (table_before come.tables table cycle early i) [] (get_or_append_left come.offers (offers ∷ []) [] cycle there i)
 
 -- those of the next one are the new ones
 covered_last : (d : Domain) (bridge : ℕ) (come : Come) (table : List Row) (offers : List Offered) → length come.offers ≡ length come.tables →
-    covered_in d bridge (with_table come table offers) (length come.tables) ≡ covered_behind d bridge (length come.tables) table [] offers
+    covered_in d bridge (with_table come table offers) (length come.tables) ≡ covered_after d bridge (length come.tables) table [] offers
 covered_last d bridge come table offers long =
-    λ i. covered_behind d bridge (length come.tables) (table_last come.tables table i) [] (get_or_at come.offers offers [] [] (length come.tables) long i)
+    λ i. covered_after d bridge (length come.tables) (table_last come.tables table i) [] (get_or_at come.offers offers [] [] (length come.tables) long i)
 
 -- and after all there are none
 covered_none : (d : Domain) (bridge cycle : ℕ) (come : Come) → length come.offers ≤ cycle → covered_in d bridge come cycle ≡ []
 covered_none d bridge cycle come late =
-    ap (covered_behind d bridge cycle (table_of come.tables cycle) []) (get_or_past come.offers cycle [] late)
+    ap (covered_after d bridge cycle (table_of come.tables cycle) []) (get_or_past come.offers cycle [] late)
 
 -- frames that go on in a cycle are of it
 of_the_cycle : (d : Domain) (cycle : ℕ) (goings : List Going) (came : ArrivedFrame) → Contains (map (came_of_going d cycle) goings) came → came.cycle ≡ cycle
@@ -84,9 +84,9 @@ come_more cycle later xs ys early held next = record {
         let least : (get_or (xs ++ ys) i d).cycle ≡ (get_or xs i d).cycle = ap cycle_of_came one in
         let most : (get_or (xs ++ ys) j d).cycle ≡ (get_or xs j d).cycle = ap cycle_of_came other in
         omega (arith, least, most, up)
-    | inr behind ↦
-        let short : j - length xs < length ys = omega (arith, within, behind, length-append xs ys) in
-        let is = get_or-append_right xs ys (length xs) j d refl behind in
+    | inr following ↦
+        let short : j - length xs < length ys = omega (arith, within, following, length-append xs ys) in
+        let is = get_or-append_right xs ys (length xs) j d refl following in
         let last : (get_or (xs ++ ys) j d).cycle ≡ cycle =
         ap cycle_of_came is ∙ next (get_or ys (j - length xs) d) (Contains-get_or ys (j - length xs) d short) in
         let least : (get_or (xs ++ ys) i d).cycle ≤ cycle =
@@ -112,7 +112,7 @@ edge_with : (d : Domain) (bridge least : ℕ) (come : Come) (table : List Row) (
 edge_with d bridge least come table offers before after long stood takes =
     let frames : after.log.frames.items ≡ before.log.frames.items ++ fresh =
     takes.kept stood.counted
-    ∙ ap (λ (number : ℕ). before.log.frames.items ++ map (came_of_going d cycle) (covered_behind d number cycle table [] offers)) stood.number in
+    ∙ ap (λ (number : ℕ). before.log.frames.items ++ map (came_of_going d cycle) (covered_after d number cycle table [] offers)) stood.number in
     let more : length (come.tables ++ table ∷ []) ≡ cycle + 1 = length_push come.tables table in
     record {
       number = takes.number ∙ stood.number;
@@ -129,7 +129,7 @@ edge_with d bridge least come table offers before after long stood takes =
 
     -- what is covered in it
     goings : List Going
-    goings = covered_behind d bridge cycle table [] offers
+    goings = covered_after d bridge cycle table [] offers
 
     -- and arrives in it
     fresh : List ArrivedFrame
@@ -175,7 +175,7 @@ gone_with d bridge l come table offers sends long gone =
         let covered = covered_before d bridge cycle come table offers early long in
         let queue : List Row → List Going → List Queued = λ (known : List Row) (goings : List Going).
         each_below (comes_by d bridge come known l cycle) (length d.links)
-        ++ that_go_on known l way.Edge 4096 (map (came_of_going d cycle) goings) in
+        ++ that_go_on known l ingress.Edge 4096 (map (came_of_going d cycle) goings) in
         record {
           count = goes.count;
           had_table = goes.had_table;
@@ -188,21 +188,21 @@ gone_with d bridge l come table offers sends long gone =
         }
 
 -- how many rows are known if more follow by number
-known_up : (known : ℕ) (rows : List Row) → ComeBehind known rows → known ≤ known_behind known rows
+known_up : (known : ℕ) (rows : List Row) → ComeAfter known rows → known ≤ known_after known rows
 known_up known [] come = omega arith
 known_up known (row ∷ rows) come =
-    let up : row.no + 1 ≤ known_behind (row.no + 1) rows = known_up (row.no + 1) rows (later_behind known row rows come) in
-    let behind : known ≤ row.no = come.behind row (contains_here row rows) in
-    omega (arith, up, behind)
+    let up : row.no + 1 ≤ known_after (row.no + 1) rows = known_up (row.no + 1) rows (later_after known row rows come) in
+    let following : known ≤ row.no = come.following row (contains_here row rows) in
+    omega (arith, up, following)
 
 -- each of them has a lower number
-known_above : (known : ℕ) (rows : List Row) → ComeBehind known rows → (row : Row) → Contains rows row → row.no < known_behind known rows
+known_above : (known : ℕ) (rows : List Row) → ComeAfter known rows → (row : Row) → Contains rows row → row.no < known_after known rows
 known_above known [] come row there = absurd (contains_none row there)
 known_above known (first ∷ rows) come row there =
-    let later = later_behind known first rows come in
+    let later = later_after known first rows come in
     elim (contains_cases first rows row there) [
       | inl same ↦
-          let up : first.no + 1 ≤ known_behind (first.no + 1) rows = known_up (first.no + 1) rows later in
+          let up : first.no + 1 ≤ known_after (first.no + 1) rows = known_up (first.no + 1) rows later in
           let is : first.no ≡ row.no = ap (λ (it : Row). it.no) same in
           omega (arith, up, is)
       | inr rest ↦ known_above (first.no + 1) rows later row rest
@@ -210,7 +210,7 @@ known_above known (first ∷ rows) come row there =
 
 -- and the last of them has the number before
 known_last : (known : ℕ) (rows : List Row) →
-    (known_behind known rows ≡ known) ⊎ ((row : Row) × Contains rows row × (row.no + 1 ≡ known_behind known rows))
+    (known_after known rows ≡ known) ⊎ ((row : Row) × Contains rows row × (row.no + 1 ≡ known_after known rows))
 known_last known [] = inl refl
 known_last known (first ∷ rows) = elim (known_last (first.no + 1) rows) [
   | inl none ↦ inr (first, contains_here first rows, sym none)
@@ -248,10 +248,10 @@ wires_learned : (rows : List Row) (before after : List Outlet) → LearnEach row
 wires_learned rows before after learn = kept_learning wire_out (λ row outlet learned learns. learns.wire) rows before after learn
 
 -- and the cycles up to which they have handed on
-told_learned : (rows : List Row) (before after : List Outlet) → LearnEach rows before after →
-    map (λ (outlet : Outlet). outlet.told) after ≡ map (λ (outlet : Outlet). outlet.told) before
-told_learned rows before after learn =
-    kept_learning (λ (outlet : Outlet). outlet.told) (λ row outlet learned learns. learns.told) rows before after learn
+reported_learned : (rows : List Row) (before after : List Outlet) → LearnEach rows before after →
+    map (λ (outlet : Outlet). outlet.reported) after ≡ map (λ (outlet : Outlet). outlet.reported) before
+reported_learned rows before after learn =
+    kept_learning (λ (outlet : Outlet). outlet.reported) (λ row outlet learned learns. learns.reported) rows before after learn
 
 -- a link before it learned rows
 record WasOne (rows : List Row) (before : List Outlet) (learned : Outlet) : Type 0 where
@@ -263,7 +263,7 @@ record WasOne (rows : List Row) (before : List Outlet) (learned : Outlet) : Type
 was_one : (rows : List Row) (before after : List Outlet) → LearnEach rows before after → (learned : Outlet) → Contains after learned →
     WasOne rows before learned
 was_one rows before after learn learned there =
-    let at = place_of_member after learned there in
+    let at = index_of_member after learned there in
     let was = each_learned rows before after learn at.0 learned at.1 in
     record { outlet = was.outlet; there = contains_at before at.0 was.outlet was.was; has = was.has }
 
@@ -271,7 +271,7 @@ was_one rows before after learn learned there =
 tidy_learned : (rows : List Row) (before after : List Outlet) → LearnEach rows before after → All IsTidy before → All IsTidy after
 tidy_learned rows before after learn tidy = all_from_members IsTidy after (λ outlet there.
     let was = was_one rows before after learn outlet there in
-    same_tidy was.outlet outlet was.has.told was.has.sent (ap (λ (pending : Pending). pending.base) was.has.pending)
+    same_tidy was.outlet outlet was.has.reported was.has.sent (ap (λ (pending : Pending). pending.base) was.has.pending)
     (ap (λ (pending : Pending). pending.frames.items) was.has.pending) (All-contains IsTidy before was.outlet tidy was.there))
 
 -- and none has sent more when it has learned
@@ -286,8 +286,8 @@ module _ (d : Domain) (bridge : ℕ) (come : Come) (table : List Row) (offers : 
     (below : (row : Row) → Contains (all_rows come.tables) row → row.no < known)
     (last : (known ≡ 0) ⊎ ((row : Row) × Contains (all_rows come.tables) row × (row.no + 1 ≡ known))) where
   -- the new rows follow the known ones by number
-  behind : ComeBehind known (new_rows known table)
-  behind = new_behind d come.tables table known may below last
+  following : ComeAfter known (new_rows known table)
+  following = new_after d come.tables table known may below last
 
   -- a link with the table's rows
   outlet_with : (sends : List (List Sent)) (before after : Outlet) → IsOutletOf d bridge come sends before →
@@ -302,12 +302,12 @@ module _ (d : Domain) (bridge : ℕ) (come : Come) (table : List Row) (offers : 
         knows = subst (λ (l : ℕ). KnowsRows l (come.tables ++ table ∷ []) after.leads) (sym link)
             (knows_with d come.tables table known may below last before.trace.link before.leads after.leads stood.knows room has.leads);
         as_far = has.sent ∙ stood.as_far;
-        handed = omega (arith, has.sent, has.told, stood.handed);
+        handed = omega (arith, has.sent, has.reported, stood.handed);
         pends = λ is.
             ap (λ (pending : Pending). pending.frames.items) has.pending ∙ stood.pends (sym onward ∙ is)
-            ∙ (λ i. moving_between d (sym link i) sends (sym base i) (sym has.told i) (sym has.sent i));
+            ∙ (λ i. moving_between d (sym link i) sends (sym base i) (sym has.reported i) (sym has.sent i));
         counts = λ is cycle begun early some.
-            let was = stood.counts (sym onward ∙ is) cycle (omega (arith, has.told, begun)) (omega (arith, has.sent, early)) some in
+            let was = stood.counts (sym onward ∙ is) cycle (omega (arith, has.reported, begun)) (omega (arith, has.sent, early)) some in
             (omega (arith, base, was.0), omega (arith, base, was.1));
         marked = ap (λ trace. trace.starts.items) has.trace ∙ stood.marked;
         no_background = ap (λ trace. trace.background.items) has.trace ∙ stood.no_background;
@@ -326,14 +326,14 @@ module _ (d : Domain) (bridge : ℕ) (come : Come) (table : List Row) (offers : 
 
   -- how many rows are known with it
   known_with : (before after : List Outlet) → AreKnown come.tables known before → LearnEach (new_rows known table) before after →
-      AreKnown (come.tables ++ table ∷ []) (known_behind known (new_rows known table)) after
+      AreKnown (come.tables ++ table ∷ []) (known_after known (new_rows known table)) after
   known_with before after stood learn = record {
     below = λ row there. elim (of_either row there) [
       | inl first ↦ old row (below row first)
       | inr new ↦ elim (cases_lt row.no known) [
         | inl low ↦ old row low
         | inr high ↦
-            known_above known (new_rows known table) behind row (contains_filter (λ (it : Row). nat_le known it.no) table row new (le-leb known row.no high))
+            known_above known (new_rows known table) following row (contains_filter (λ (it : Row). nat_le known it.no) table row new (le-leb known row.no high))
       ]
     ];
     last = elim (known_last known (new_rows known table)) [
@@ -345,16 +345,16 @@ module _ (d : Domain) (bridge : ℕ) (come : Come) (table : List Row) (offers : 
         | inr some ↦ inr (some.0, of_all some.0 (Contains-append_left (all_rows come.tables) table some.0 some.1), some.2 ∙ sym none)
       ]
     ];
-    room = all_from_members (λ (outlet : Outlet). length outlet.leads.rows.items ≤ known_behind known (new_rows known table)) after (λ outlet there.
+    room = all_from_members (λ (outlet : Outlet). length outlet.leads.rows.items ≤ known_after known (new_rows known table)) after (λ outlet there.
         let was = was_one (new_rows known table) before after learn outlet there in
-        room_learned was.outlet.trace.link known (new_rows known table) was.outlet.leads outlet.leads was.has.leads behind
+        room_learned was.outlet.trace.link known (new_rows known table) was.outlet.leads outlet.leads was.has.leads following
         (All-contains (λ (it : Outlet). length it.leads.rows.items ≤ known) before was.outlet stood.room was.there));
   }
     where
       -- an earlier row's number is lower still
-      old : (row : Row) → row.no < known → row.no < known_behind known (new_rows known table)
+      old : (row : Row) → row.no < known → row.no < known_after known (new_rows known table)
       old row low =
-          let up : known ≤ known_behind known (new_rows known table) = known_up known (new_rows known table) behind in
+          let up : known ≤ known_after known (new_rows known table) = known_up known (new_rows known table) following in
           omega (arith, low, up)
 
 -- a bridge that has learned rows, with the edge after its offers
@@ -430,13 +430,13 @@ module _ (table : List Row) (offers : List Offered) (before learned : Relay) (ed
       within = within_learned before.cycles (new_rows before.known table) before.outlets.items learned.outlets.items learn.learn;
     };
     taken = ap (λ (tables : ℕ). tables + 1) learn.tables;
-    told_same = told_learned (new_rows before.known table) before.outlets.items learned.outlets.items learn.learn;
+    reported_same = reported_learned (new_rows before.known table) before.outlets.items learned.outlets.items learn.learn;
     stands = table_stands;
     fresh = takes.fresh;
-    behind = takes.behind;
+    following = takes.following;
     are_drops = λ d come sends stood may.
-        subst (λ (it : Domain). IsPermutation (dropped_behind it before.number before.tables table [] offers) takes.fresh) stood.of_domain
-        (subst (λ (bridge : ℕ). IsPermutation (dropped_behind (arc_value before.domain) bridge before.tables table [] offers) takes.fresh) stood.edge.number
+        subst (λ (it : Domain). IsPermutation (dropped_after it before.number before.tables table [] offers) takes.fresh) stood.of_domain
+        (subst (λ (bridge : ℕ). IsPermutation (dropped_after (arc_value before.domain) bridge before.tables table [] offers) takes.fresh) stood.edge.number
         (takes.are_drops (subst (λ (next : ℕ). CountsUpto next before.edge.used.items) (sym stood.tables_taken) stood.edge.counted)));
     by_frame = takes.by_frame;
   }

@@ -19,7 +19,7 @@ use Rattle.cqf_model.specs.declared.topology.Row.{Row}
 use Rattle.cqf_model.specs.Domain.{Domain, enters}
 use Rattle.cqf_relay.specs.declared.edge.Edge.{Edge}
 use Rattle.cqf_relay.specs.declared.inlet.Inlet.{Inlet}
-use Rattle.cqf_relay.specs.declared.leads.By.TheVariants as way
+use Rattle.cqf_relay.specs.declared.leads.By.TheVariants as ingress
 use Rattle.cqf_relay.specs.declared.log.ArrivedFrame.{ArrivedFrame}
 use Rattle.cqf_relay.specs.declared.moving.Segment.{Segment}
 use Rattle.cqf_relay.specs.declared.outlet.Outlet.{Outlet}
@@ -127,7 +127,7 @@ more_may_come begin segment brought next may =
 
     -- and before its end
     below : {cycle : ℕ} → cycle < begin → cycle < segment.upto
-    below soon = omega (arith, soon, next.behind)
+    below soon = omega (arith, soon, next.following)
 
 -- a segment that comes next has nothing of earlier cycles
 pub none_before : (begin cycle : ℕ) (segment : Segment) → IsNextSegment begin segment → cycle < begin → filter (is_in cycle) (frames_of segment) ≡ []
@@ -180,23 +180,23 @@ inlet_beside come least m segment inlet apart stands =
     }
 
 -- all inlets, each of a link of its own
-pub inlets_take : (come : Come) (least place : ℕ) (segment : Segment) (inlets : List Inlet) (old new : Inlet) →
-    AllPairs (λ (a b : ℕ). a < b) (map link_in inlets) → slice_get inlets place ≡ Some old → new.link ≡ old.link → new.upto ≡ segment.upto →
+pub inlets_take : (come : Come) (least index : ℕ) (segment : Segment) (inlets : List Inlet) (old new : Inlet) →
+    AllPairs (λ (a b : ℕ). a < b) (map link_in inlets) → slice_get inlets index ≡ Some old → new.link ≡ old.link → new.upto ≡ segment.upto →
     new.log.frames.items ≡ old.log.frames.items ++ frames_of segment → IsNextSegment old.upto segment → All (IsInletOf come least) inlets →
-    All (IsInletOf (with_segment come old.link segment) least) (set inlets place new)
-inlets_take come least place segment inlets old new ascend at link upto log next stand k d below =
-    let inside : k < length inlets = omega (arith, below, length-set inlets place new) in
-    elim (cases_eq k place) [
+    All (IsInletOf (with_segment come old.link segment) least) (set inlets index new)
+inlets_take come least index segment inlets old new ascend at link upto log next stand k d below =
+    let inside : k < length inlets = omega (arith, below, length-set inlets index new) in
+    elim (cases_eq k index) [
       | inl e ↦
-          let same : get_or (set inlets place new) k d ≡ new =
-          ap (λ (i : ℕ). get_or (set inlets place new) i d) e ∙ get_or-set_same inlets place new d (slice_get_within inlets place old at) in
+          let same : get_or (set inlets index new) k d ≡ new =
+          ap (λ (i : ℕ). get_or (set inlets index new) i d) e ∙ get_or-set_same inlets index new d (slice_get_within inlets index old at) in
           subst (IsInletOf (with_segment come old.link segment) least) (sym same)
-          (inlet_takes come least old new segment link upto log next (all_at (IsInletOf come least) inlets place old stand at))
+          (inlet_takes come least old new segment link upto log next (all_at (IsInletOf come least) inlets index old stand at))
       | inr differ ↦
-          let same : get_or (set inlets place new) k d ≡ get_or inlets k d = get_or-set_other inlets place k new d differ in
+          let same : get_or (set inlets index new) k d ≡ get_or inlets k d = get_or-set_other inlets index k new d differ in
           subst (IsInletOf (with_segment come old.link segment) least) (sym same)
           (inlet_beside come least old.link segment (get_or inlets k d)
-          (apart_at link_in inlets k place (get_or inlets k d) old ascend differ (slice_get-get_or inlets k d inside) at)
+          (apart_at link_in inlets k index (get_or inlets k d) old ascend differ (slice_get-get_or inlets k d inside) at)
           (stand k d inside))
     ]
 
@@ -224,9 +224,9 @@ comes_same d bridge come m segment rows l cycle k next had =
     -- if the frames are the same, so are those that go on
     where_led : (a b : Bool) →
         (a ≡ true → b ≡ true → filter (is_in cycle) (come.brought k) ≡ filter (is_in cycle) ((with_segment come m segment).brought k)) →
-        (if a && b then that_go_on rows l (way.Link k) k (filter (is_in cycle) (come.brought k)) else [])
-        ≡ (if a && b then that_go_on rows l (way.Link k) k (filter (is_in cycle) ((with_segment come m segment).brought k)) else [])
-    where_led true true same = ap (that_go_on rows l (way.Link k) k) (same refl refl)
+        (if a && b then that_go_on rows l (ingress.Link k) k (filter (is_in cycle) (come.brought k)) else [])
+        ≡ (if a && b then that_go_on rows l (ingress.Link k) k (filter (is_in cycle) ((with_segment come m segment).brought k)) else [])
+    where_led true true same = ap (that_go_on rows l (ingress.Link k) k) (same refl refl)
     where_led true false same = refl
     where_led false b same = refl
 
@@ -236,7 +236,7 @@ upto_grows come m segment k cycle next had = elim (cases_eq k m) [
   | inl e ↦
       let soon : cycle < come.upto m = subst (λ (l : ℕ). cycle < come.upto l) e had in
       let ends : (with_segment come m segment).upto k ≡ segment.upto = cond-true (k == m) segment.upto (come.upto k) (eq-eqb k m e) in
-      omega (arith, soon, ends, next.behind)
+      omega (arith, soon, ends, next.following)
   | inr apart ↦ subst (λ (n : ℕ). cycle < n) (sym (other_upto come.upto m segment.upto k apart)) had
 ]
 
@@ -252,7 +252,7 @@ goes_on_still d bridge come m segment l cycle sent next goes = record {
   is_queue =
       let rows = rows_of come.tables goes.count in
       let same : comes_to d bridge come rows l cycle ≡ comes_to d bridge (with_segment come m segment) rows l cycle =
-      ap (λ (qs : List Queued). qs ++ that_go_on rows l way.Edge 4096 (map (came_of_going d cycle) (covered_in d bridge come cycle)))
+      ap (λ (qs : List Queued). qs ++ that_go_on rows l ingress.Edge 4096 (map (came_of_going d cycle) (covered_in d bridge come cycle)))
       (same_below (comes_by d bridge come rows l cycle) (comes_by d bridge (with_segment come m segment) rows l cycle) (length d.links)
       (λ k inside. comes_same d bridge come m segment rows l cycle k next (goes.had k))) in
       subst (λ (qs : List Queued). IsPermutation qs goes.sorted) same goes.is_queue;
@@ -285,7 +285,7 @@ edge_beside d bridge come m segment least edge stands =
     record { number = stands.number; held = stands.held; holds = stands.holds; counted = stands.counted }
 
 -- a bridge takes a segment at an index
-pub record TakesAt (place : ℕ) (segment : Segment) (before after : Relay) : Type 0 where
+pub record TakesAt (index : ℕ) (segment : Segment) (before after : Relay) : Type 0 where
   pub domain : after.domain ≡ before.domain
   pub number : after.number ≡ before.number
   pub cycles : after.cycles ≡ before.cycles
@@ -295,18 +295,18 @@ pub record TakesAt (place : ℕ) (segment : Segment) (before after : Relay) : Ty
   pub edge : after.edge ≡ before.edge
   pub old : Inlet
   pub new : Inlet
-  pub was : slice_get before.inlets.items place ≡ Some old
-  pub is : after.inlets.items ≡ set before.inlets.items place new
+  pub was : slice_get before.inlets.items index ≡ Some old
+  pub is : after.inlets.items ≡ set before.inlets.items index new
   pub link : new.link ≡ old.link
   pub upto : new.upto ≡ segment.upto
   pub log : new.log.frames.items ≡ old.log.frames.items ++ frames_of segment
 
 -- then its state holds with what arrived
-pub relay_takes : (d : Domain) (come : Come) (sends : Sendings) (place : ℕ) (segment : Segment) (before after : Relay) (takes : TakesAt place segment before after) →
+pub relay_takes : (d : Domain) (come : Come) (sends : Sendings) (index : ℕ) (segment : Segment) (before after : Relay) (takes : TakesAt index segment before after) →
     IsNextSegment takes.old.upto segment → StandsSo d come sends before → StandsSo d (with_segment come takes.old.link segment) sends after
-relay_takes d come sends place segment before after takes next stands =
+relay_takes d come sends index segment before after takes next stands =
     let m = takes.old.link in
-    let old_is : IsInletOf come stands.least takes.old = all_at (IsInletOf come stands.least) before.inlets.items place takes.old stands.inlets takes.was in
+    let old_is : IsInletOf come stands.least takes.old = all_at (IsInletOf come stands.least) before.inlets.items index takes.old stands.inlets takes.was in
     let comes_next : IsNextSegment (come.upto m) segment = subst (λ (begin : ℕ). IsNextSegment begin segment) old_is.upto next in
     let ascend : AllPairs (λ (a b : ℕ). a < b) (map link_in before.inlets.items) =
     subst (AllPairs (λ (a b : ℕ). a < b)) (sym stands.into) (numbers_ascend (λ (l : ℕ). enters d l before.number) (length d.links)) in
@@ -317,7 +317,7 @@ relay_takes d come sends place segment before after takes next stands =
       tables_taken = takes.tables ∙ stands.tables_taken;
       offers_taken = stands.offers_taken;
       into = ap (map link_in) takes.is
-          ∙ map_kept link_in before.inlets.items place takes.old takes.new takes.was takes.link
+          ∙ map_kept link_in before.inlets.items index takes.old takes.new takes.was takes.link
           ∙ stands.into
           ∙ ap (links_into d) (sym takes.number);
       from = ap (λ (outlets : Vec Outlet Global). map link_out outlets.items) takes.outlets ∙ stands.from ∙ ap (links_from d) (sym takes.number);
@@ -325,7 +325,7 @@ relay_takes d come sends place segment before after takes next stands =
       least = stands.least;
       early = subst (λ (outlets : Vec Outlet Global). All (λ (outlet : Outlet). stands.least ≤ outlet.sent - 1) outlets.items) (sym takes.outlets) stands.early;
       inlets = subst (All (IsInletOf (with_segment come m segment) stands.least)) (sym takes.is)
-          (inlets_take come stands.least place segment before.inlets.items takes.old takes.new ascend takes.was takes.link takes.upto takes.log next stands.inlets);
+          (inlets_take come stands.least index segment before.inlets.items takes.old takes.new ascend takes.was takes.link takes.upto takes.log next stands.inlets);
       edge = subst (λ (bridge : ℕ). IsEdgeOf d bridge (with_segment come m segment) stands.least after.edge) (sym takes.number)
           (subst (λ (edge : Edge). IsEdgeOf d before.number (with_segment come m segment) stands.least edge) (sym takes.edge)
           (edge_beside d before.number come m segment stands.least before.edge stands.edge));
@@ -342,13 +342,13 @@ relay_takes d come sends place segment before after takes next stands =
     }
 
 -- so it has taken the segment
-pub takes_segment : (place : ℕ) (segment : Segment) (before after : Relay) → TakesAt place segment before after → TakesSegment place segment before after
-takes_segment place segment before after takes = record {
+pub takes_segment : (index : ℕ) (segment : Segment) (before after : Relay) → TakesAt index segment before after → TakesSegment index segment before after
+takes_segment index segment before after takes = record {
   same = record {
     domain = takes.domain;
     number = takes.number;
     cycles = takes.cycles;
-    links_in = ap (map link_in) takes.is ∙ map_kept link_in before.inlets.items place takes.old takes.new takes.was takes.link;
+    links_in = ap (map link_in) takes.is ∙ map_kept link_in before.inlets.items index takes.old takes.new takes.was takes.link;
     links_out = ap (λ (outlets : Vec Outlet Global). map link_out outlets.items) takes.outlets;
     wires = ap (λ (outlets : Vec Outlet Global). map wire_out outlets.items) takes.outlets;
     tidy = subst (λ (outlets : Vec Outlet Global). All IsTidy outlets.items) (sym takes.outlets);
@@ -359,13 +359,13 @@ takes_segment place segment before after takes = record {
   outlets_same = takes.outlets;
   stands = λ d come sends inlet stands there.
       subst (λ (it : Inlet). IsNextSegment it.upto segment → StandsSo d (with_segment come it.link segment) sends after)
-      (same_Some takes.old inlet (sym takes.was ∙ there)) (λ next. relay_takes d come sends place segment before after takes next stands);
+      (same_Some takes.old inlet (sym takes.was ∙ there)) (λ next. relay_takes d come sends index segment before after takes next stands);
 }
 
 -- if it is taken without a fault
-pub segment_taken : {T E : Type 0} (result : Result T E) (place : ℕ) (segment : Segment) (before after : Relay) (old new : Inlet) →
-    (new.upto ≡ segment.upto → new.log.frames.items ≡ old.log.frames.items ++ frames_of segment → TakesAt place segment before after) →
+pub segment_taken : {T E : Type 0} (result : Result T E) (index : ℕ) (segment : Segment) (before after : Relay) (old new : Inlet) →
+    (new.upto ≡ segment.upto → new.log.frames.items ≡ old.log.frames.items ++ frames_of segment → TakesAt index segment before after) →
     OnOk result (new.upto ≡ segment.upto) → OnOk result (new.log.frames.items ≡ old.log.frames.items ++ frames_of segment) →
-    OnOk result (TakesSegment place segment before after)
-segment_taken (Ok done) place segment before after old new takes upto log = takes_segment place segment before after (takes upto log)
-segment_taken (Err fault) place segment before after old new takes upto log = upto
+    OnOk result (TakesSegment index segment before after)
+segment_taken (Ok done) index segment before after old new takes upto log = takes_segment index segment before after (takes upto log)
+segment_taken (Err fault) index segment before after old new takes upto log = upto

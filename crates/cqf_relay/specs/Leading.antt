@@ -13,16 +13,16 @@ abbrev pub leads : List Row → ℕ → ℕ → Bool
 leads table m l = list_any (λ (row : Row). list_any (λ next. next == l) (goes_to row (Some m))) table
 
 -- how frames arrive, by the link before a hop, if there is one
-abbrev pub by_way : Option ℕ → By
-by_way None = Edge
-by_way (Some m) = Link m
+abbrev pub by_ingress : Option ℕ → By
+by_ingress None = Edge
+by_ingress (Some m) = Link m
 
 -- how the frames that go on by a link arrive, by the first hop of their row's tree that has this link
 abbrev pub by_hops : ℕ → List Hop → By
 by_hops l [] = Nothing
-by_hops l (hop ∷ hops) = if hop.link == l then by_way hop.from else by_hops l hops
+by_hops l (hop ∷ hops) = if hop.link == l then by_ingress hop.from else by_hops l hops
 
--- the same by their row, if there is one
+-- how the frames that go on by a link arrive, by their row, if there is one
 abbrev pub by_row : ℕ → Option Row → By
 by_row l None = Nothing
 by_row l (Some row) = by_hops l row.tree.items

@@ -2,6 +2,7 @@
 use Rattle.std.specs.Prelude.{ℕ, ◌≡◌, ◌+◌, ◌*◌, ◌-◌, ◌≤◌, ◌<◌, ◌++◌, ◌==◌, if◌then◌else◌, not, nat_le, List, [], ◌∷◌, Bool, true, false, Option, Some, None}
 use Rattle.std.specs.Prelude.{filter, map, slice_index_or, sum_by}
 use Rattle.std.specs.List.Sorted.{IsNonDecreasingBy, IsPermutation}
+use Rattle.cqf_units.specs.Timing.{counted_of}
 use Rattle.cqf_model.specs.declared.frames.Dropped.{Dropped}
 use Rattle.cqf_model.specs.declared.frames.Offered.{Offered}
 use Rattle.cqf_model.specs.declared.frames.Reason.{Reason}
@@ -10,7 +11,7 @@ use Rattle.cqf_model.specs.declared.topology.Row.{Row}
 use Rattle.cqf_model.specs.Book.{drop_by}
 use Rattle.cqf_model.specs.Domain.{Domain}
 use Rattle.cqf_model.specs.Table.{begins_at, is_live, reserved_in, row_named}
-use Rattle.cqf_model.specs.Traffic.{DroppedFor, ExceedsGate, LacksRow, Queued, Received, Verdict, edge_verdict, offer_received}
+use Rattle.cqf_model.specs.Policing.{DroppedFor, ExceedsGate, LacksRow, Queued, Received, Verdict, edge_verdict, offer_received}
 use Rattle.cqf_relay.specs.declared.edge.Edge.{Edge}
 use Rattle.cqf_relay.specs.declared.edge.Used.{Used}
 use Rattle.cqf_relay.specs.declared.log.ArrivedFrame.{ArrivedFrame}
@@ -25,14 +26,14 @@ pub record Going : Type 0 where
   pub received : Received
   pub row : Row
 
--- the octets of a row that the covered offers before used
-abbrev pub octets_of : List Going → ℕ → ℕ
-octets_of earlier number = sum_by (λ (g : Going). g.received.octets) (filter (λ (g : Going). g.row.no == number) earlier)
+-- the octets of a row that the covered offers before used, as gates with this overhead count them
+abbrev pub octets_of : ℕ → List Going → ℕ → ℕ
+octets_of overhead earlier number = sum_by (λ (g : Going). counted_of overhead g.received.octets) (filter (λ (g : Going). g.row.no == number) earlier)
 
 -- the verdict on an offer of a cycle, given the octets of each row used before: the first reason that applies, if any
 abbrev pub verdict_with : Domain → ℕ → ℕ → List Row → (ℕ → ℕ) → Offered → Verdict
 verdict_with d bridge cycle table used x = edge_verdict d bridge cycle
-    (λ (row : Row). nat_le (used row.no + x.offer.octets) (reserved_in row 0 cycle))
+    (λ (row : Row). nat_le (used row.no + counted_of d.overhead x.offer.octets) (reserved_in row 0 cycle))
     (row_named table x.offer.stream)
 
 -- the offer with the row that covers it, if one does
@@ -43,23 +44,23 @@ going_by x LacksRow = []
 going_by x ExceedsGate = []
 
 -- the covered ones of a cycle's offers at a bridge, after the earlier ones
-abbrev pub covered_behind : Domain → ℕ → ℕ → List Row → List Going → List Offered → List Going
-covered_behind d bridge cycle table earlier [] = []
-covered_behind d bridge cycle table earlier (x ∷ xs) = let goings = going_by x (verdict_with d bridge cycle table (octets_of earlier) x) in
-    goings ++ covered_behind d bridge cycle table (earlier ++ goings) xs
+abbrev pub covered_after : Domain → ℕ → ℕ → List Row → List Going → List Offered → List Going
+covered_after d bridge cycle table earlier [] = []
+covered_after d bridge cycle table earlier (x ∷ xs) = let goings = going_by x (verdict_with d bridge cycle table (octets_of d.overhead earlier) x) in
+    goings ++ covered_after d bridge cycle table (earlier ++ goings) xs
 
--- and the drops of the others
-abbrev pub dropped_behind : Domain → ℕ → ℕ → List Row → List Going → List Offered → List Dropped
-dropped_behind d bridge cycle table earlier [] = []
-dropped_behind d bridge cycle table earlier (x ∷ xs) = let verdict = verdict_with d bridge cycle table (octets_of earlier) x in
-    drop_by cycle bridge (offer_received x) verdict ++ dropped_behind d bridge cycle table (earlier ++ going_by x verdict) xs
+-- the drops of a cycle's other offers at a bridge, after the earlier ones
+abbrev pub dropped_after : Domain → ℕ → ℕ → List Row → List Going → List Offered → List Dropped
+dropped_after d bridge cycle table earlier [] = []
+dropped_after d bridge cycle table earlier (x ∷ xs) = let verdict = verdict_with d bridge cycle table (octets_of d.overhead earlier) x in
+    drop_by cycle bridge (offer_received x) verdict ++ dropped_after d bridge cycle table (earlier ++ going_by x verdict) xs
 
 -- the arrival in a cycle of a frame that goes on by a row
 abbrev pub came_of_going : Domain → ℕ → Going → ArrivedFrame
 came_of_going d cycle g =
     record { cycle = cycle; at = g.received.at - cycle * d.cycle_time; frame = g.received.frame; row = g.row.no; octets = g.received.octets }
 
--- and of an offer with the number of its row
+-- the arrival in a cycle of an offer, with the number of its row
 abbrev pub came_offered : Domain → ℕ → Offered → ℕ → ArrivedFrame
 came_offered d cycle x number =
     record { cycle = cycle; at = x.offer.at.0 - cycle * d.cycle_time; frame = x.frame; row = number; octets = x.offer.octets }
@@ -84,7 +85,7 @@ pub record IsCounted (number cycle octets : ℕ) (before after : List Used) : Ty
   pub more : (k : ℕ) → used_at after cycle k ≡ used_at before cycle k + more_of number octets k
   pub later : CountsUpto (cycle + 1) before → CountsUpto (cycle + 1) after
 
--- they are counted if and only if at most `most` are used with them
+-- octets are counted if and only if at most `most` are used with them
 pub record Counts (number cycle octets most : ℕ) (before after : List Used) (result : Bool) : Type 0 where
   pub fits : result ≡ nat_le (used_at before cycle number + octets) most
   pub counted : result ≡ true → IsCounted number cycle octets before after
@@ -125,16 +126,16 @@ pub record JudgesOne (d : Domain) (cycle : ℕ) (table : List Row) (x : Offered)
   pub is_verdict : verdict ≡ verdict_with d before.number cycle table (used_at before.used.items cycle) x
   pub kept : after.log.frames.items ≡ before.log.frames.items ++ map (came_of_going d cycle) (going_by x verdict)
   pub fresh : after.fresh.items ≡ before.fresh.items ++ drop_by cycle before.number (offer_received x) verdict
-  pub used : (k : ℕ) → used_at after.used.items cycle k ≡ used_at before.used.items cycle k + octets_of (going_by x verdict) k
+  pub used : (k : ℕ) → used_at after.used.items cycle k ≡ used_at before.used.items cycle k + octets_of d.overhead (going_by x verdict) k
   pub later : CountsUpto (cycle + 1) before.used.items → CountsUpto (cycle + 1) after.used.items
 
 -- the offers of a cycle are judged one after the other: the covered ones are kept, and the others dropped, by frame
 pub record TakesOffers (d : Domain) (cycle : ℕ) (table : List Row) (offers : List Offered) (before after : Edge) : Type 0 where
   pub number : after.number ≡ before.number
   pub kept : CountsUpto cycle before.used.items →
-      after.log.frames.items ≡ before.log.frames.items ++ map (came_of_going d cycle) (covered_behind d before.number cycle table [] offers)
+      after.log.frames.items ≡ before.log.frames.items ++ map (came_of_going d cycle) (covered_after d before.number cycle table [] offers)
   pub fresh : List Dropped
-  pub behind : after.drops.items ≡ before.drops.items ++ fresh
-  pub are_drops : CountsUpto cycle before.used.items → IsPermutation (dropped_behind d before.number cycle table [] offers) fresh
+  pub following : after.drops.items ≡ before.drops.items ++ fresh
+  pub are_drops : CountsUpto cycle before.used.items → IsPermutation (dropped_after d before.number cycle table [] offers) fresh
   pub by_frame : IsNonDecreasingBy (λ (dropped : Dropped). dropped.frame) fresh
   pub later : CountsUpto cycle before.used.items → CountsUpto (cycle + 1) after.used.items

@@ -19,11 +19,11 @@ queued source came = record { source = source; came = came }
 abbrev pub key_of_queued : Queued → ℕ
 key_of_queued q = (q.came.at * 8192 + q.source) * 16777216 + q.came.frame
 
--- those of the frames that one source brought that go on by a link
+-- of the frames that one source brought, those that go on by a link
 abbrev pub that_go : List By → By → ℕ → List ArrivedFrame → List Queued
 that_go rows by source frames = map (queued source) (filter (λ (came : ArrivedFrame). same_by (by_at rows came.row) by) frames)
 
--- and among them those of a cycle
+-- of the frames that one source brought, those of a cycle that go on by a link
 abbrev pub goes_from : List By → By → ℕ → ℕ → List ArrivedFrame → List Queued
 goes_from rows by source cycle frames = that_go rows by source (filter (is_in cycle) frames)
 

@@ -4,7 +4,7 @@ use Rattle.std.specs.List.{flat_map}
 use Rattle.cqf_lists.specs.Lists.{each_below}
 use Rattle.cqf_model.specs.declared.frames.Sent.{Sent}
 use Rattle.cqf_model.specs.Domain.{Domain}
-use Rattle.cqf_model.specs.Traffic.{whole_at}
+use Rattle.cqf_model.specs.Policing.{whole_at}
 use Rattle.cqf_relay.specs.declared.log.ArrivedFrame.{ArrivedFrame}
 use Rattle.cqf_relay.specs.declared.moving.Segment.{Segment}
 use Rattle.cqf_relay.specs.declared.moving.Moving.{Moving}
@@ -41,7 +41,7 @@ frames_of segment = map (came_by_segment segment.from) segment.frames.items
 -- a segment may come next, after what has arrived up to a cycle: its frames are in order of cycle, and of cycles from that one up to the
 -- segment's end
 pub record IsNextSegment (begin : ℕ) (segment : Segment) : Type 0 where
-  pub behind : begin ≤ segment.upto
+  pub following : begin ≤ segment.upto
   pub by_cycle : ByCycle (frames_of segment)
   pub within : All (λ (came : ArrivedFrame). (begin ≤ came.cycle) × (came.cycle < segment.upto)) (frames_of segment)
 
@@ -66,7 +66,7 @@ came_in d m cycle sent =
 -- a segment has what a link sends in the cycles from `begin` up to the segment's end, and counts these cycles from one that is not later
 -- than the first frame's
 pub record IsSegmentOf (d : Domain) (m : ℕ) (sends : List (List Sent)) (begin : ℕ) (segment : Segment) : Type 0 where
-  pub behind : begin ≤ segment.upto
+  pub following : begin ≤ segment.upto
   pub within : segment.upto ≤ length sends
   pub counts : (cycle : ℕ) → begin ≤ cycle → cycle < segment.upto → (batch_at sends cycle ≡ [] → ⊥) → segment.from ≤ cycle
   pub carries : segment.frames.items ≡ moving_between d m sends segment.from begin segment.upto

@@ -29,8 +29,8 @@ abbrev pub has_room_on : Wire → ℕ → ℕ → Bool
 has_room_on wire offset octets = nat_le octets 65535 && nat_lt (offset + time_on wire octets) wire.cycle_time
 
 -- the offset at which the next frame may start after one
-abbrev pub offset_behind : Wire → ℕ → ArrivedFrame → ℕ
-offset_behind wire offset came = if has_room_on wire offset came.octets then offset + slot_of came.octets wire.octet_time else offset
+abbrev pub next_offset : Wire → ℕ → ArrivedFrame → ℕ
+next_offset wire offset came = if has_room_on wire offset came.octets then offset + slot_of came.octets wire.octet_time else offset
 
 -- a frame that starts at an offset in a cycle
 abbrev pub sent_at : Wire → ℕ → ℕ → ArrivedFrame → Sent
@@ -43,8 +43,8 @@ abbrev pub sends_of : Wire → ℕ → ℕ → List ArrivedFrame → List Sent
 sends_of wire cycle offset [] = []
 sends_of wire cycle offset (x ∷ xs) =
     if has_room_on wire offset x.octets
-    then sent_at wire cycle offset x ∷ sends_of wire cycle (offset_behind wire offset x) xs
-    else sends_of wire cycle (offset_behind wire offset x) xs
+    then sent_at wire cycle offset x ∷ sends_of wire cycle (next_offset wire offset x) xs
+    else sends_of wire cycle (next_offset wire offset x) xs
 
 -- the frame without its source
 abbrev pub came_of : Queued → ArrivedFrame
@@ -61,20 +61,20 @@ moving_on wire first cycle sent = record {
 }
 
 -- the cycle from which the cycles of waiting frames are counted, if a cycle sends more; and: a moving frame with another count
-abbrev pub base_behind : List Moving → ℕ → ℕ → ℕ
-base_behind [] base cycle = cycle
-base_behind (x ∷ xs) base cycle = base
+abbrev pub base_after : List Moving → ℕ → ℕ → ℕ
+base_after [] base cycle = cycle
+base_after (x ∷ xs) base cycle = base
 
 abbrev pub base_with : List Moving → ℕ → ℕ → List Sent → ℕ
 base_with frames base cycle [] = base
-base_with frames base cycle (sent ∷ sents) = base_behind frames base cycle
+base_with frames base cycle (sent ∷ sents) = base_after frames base cycle
 
 abbrev pub with_after : Moving → ℕ → Moving
 with_after moving after = record { at = moving.at; frame = moving.frame; row = moving.row; octets = moving.octets; after = after }
 
 -- a frame of a cycle is appended to the frames that wait to be handed on
 pub record Hands (cycle : ℕ) (moving : Moving) (before after : Pending) : Type 0 where
-  pub base : after.base ≡ base_behind before.frames.items before.base cycle
+  pub base : after.base ≡ base_after before.frames.items before.base cycle
   pub frames : after.frames.items ≡ before.frames.items ++ with_after moving (min (cycle - after.base) 65535) ∷ []
 
 -- what stays of a link no matter what it sends or hands on
@@ -87,7 +87,7 @@ pub record IsSameLink (before after : Outlet) : Type 0 where
 -- a link has sent frames in a cycle
 pub record Adds (cycle : ℕ) (sents : List Sent) (before after : Outlet) : Type 0 where
   pub same : IsSameLink before after
-  pub told : after.told ≡ before.told
+  pub reported : after.reported ≡ before.reported
   pub marked : after.trace.starts.items ≡ before.trace.starts.items ++ map mark_of_sent sents
   pub base : before.wire.onward ≡ true → after.pending.base ≡ base_with before.pending.frames.items before.pending.base cycle sents
   pub pends : before.wire.onward ≡ true →
@@ -98,7 +98,7 @@ pub record Adds (cycle : ℕ) (sents : List Sent) (before after : Outlet) : Type
 pub record SendsOne (cycle offset : ℕ) (came : ArrivedFrame) (before after : Outlet) (next : ℕ) : Type 0 where
   pub adds : Adds cycle (sends_of before.wire cycle offset (came ∷ [])) before after
   pub as_far : after.sent ≡ before.sent
-  pub next_is : next ≡ offset_behind before.wire offset came
+  pub next_is : next ≡ next_offset before.wire offset came
   pub small : next < 2 ^ 40
 
 -- a link has sent the frames of a queue
@@ -120,7 +120,7 @@ pub record SendsOneCycle (inlets : List Inlet) (edge : SourceLog) (before after 
   pub adds : Adds before.sent (sends_of before.wire before.sent 0 (map came_of sorted)) before after
   pub as_far : after.sent ≡ before.sent + 1
 
--- it does so in this many cycles, and up to a cycle
+-- a link sends in this many cycles what waits for it, and up to a cycle
 abbrev pub SendsMore : ℕ → List Inlet → SourceLog → Outlet → Outlet → Type 0
 SendsMore zero inlets edge before after = after ≡ before
 SendsMore (suc cycles) inlets edge before after =
@@ -130,20 +130,20 @@ abbrev pub SendsCycles : ℕ → List Inlet → SourceLog → Outlet → Outlet 
 SendsCycles until inlets edge before after = SendsMore (until - before.sent) inlets edge before after
 
 -- the cycle up to which a link may send now, no matter what has arrived
-abbrev pub most_behind : List Moving → ℕ → ℕ → ℕ
-most_behind [] sent base = sent + 256
-most_behind (x ∷ xs) sent base = base + 256
+abbrev pub most_after : List Moving → ℕ → ℕ → ℕ
+most_after [] sent base = sent + 256
+most_after (x ∷ xs) sent base = base + 256
 
 abbrev pub most_of : Outlet → ℕ
-most_of outlet = most_behind outlet.pending.frames.items outlet.sent outlet.pending.base
+most_of outlet = most_after outlet.pending.frames.items outlet.sent outlet.pending.base
 
 -- an invariant of a link's pending frames: they are in order of cycle, of cycles that the link has sent and not handed on, and their cycles
 -- are counted in 16 bits
 pub record IsTidy (outlet : Outlet) : Type 0 where
-  pub handed : outlet.told ≤ outlet.sent
+  pub handed : outlet.reported ≤ outlet.sent
   pub counted : All (λ (moving : Moving). moving.after ≤ 65535) outlet.pending.frames.items
   pub by_cycle : ByCycle (map (came_by_segment outlet.pending.base) outlet.pending.frames.items)
-  pub within : All (λ (came : ArrivedFrame). (outlet.told ≤ came.cycle) × (came.cycle < outlet.sent))
+  pub within : All (λ (came : ArrivedFrame). (outlet.reported ≤ came.cycle) × (came.cycle < outlet.sent))
       (map (came_by_segment outlet.pending.base) outlet.pending.frames.items)
 
 -- a link that has sent nothing
@@ -153,7 +153,7 @@ pub record IsNewOutlet (cycle_time number : ℕ) (link : Link) (onward : Bool) (
   pub no_needs : outlet.leads.needs.items ≡ []
   pub unused : outlet.leads.used ≡ false
   pub sent : outlet.sent ≡ 0
-  pub told : outlet.told ≡ 0
+  pub reported : outlet.reported ≡ 0
   pub pending : outlet.pending.frames.items ≡ []
   pub link_is : outlet.trace.link ≡ number
   pub starts : outlet.trace.starts.items ≡ []
@@ -164,7 +164,7 @@ pub record LearnsOf (row : Row) (before after : Outlet) : Type 0 where
   pub leads : LearnsRow row.no (by_hops before.trace.link row.tree.items) before.leads after.leads
   pub wire : after.wire ≡ before.wire
   pub sent : after.sent ≡ before.sent
-  pub told : after.told ≡ before.told
+  pub reported : after.reported ≡ before.reported
   pub pending : after.pending ≡ before.pending
   pub trace : after.trace ≡ before.trace
 
@@ -176,14 +176,14 @@ pub record TakesPending (before after : Outlet) (segment : Segment) : Type 0 whe
   pub upto : segment.upto ≡ before.sent
   pub frames : segment.frames.items ≡ before.pending.frames.items
   pub as_far : after.sent ≡ before.sent
-  pub told : after.told ≡ before.sent
+  pub reported : after.reported ≡ before.sent
   pub none : after.pending.frames.items ≡ []
 
--- and the segment is given back
-pub record KeepsSegmentBack (told : ℕ) (segment : Segment) (before after : Outlet) : Type 0 where
+-- a segment is given back to its link
+pub record KeepsSegmentBack (reported : ℕ) (segment : Segment) (before after : Outlet) : Type 0 where
   pub same : IsSameLink before after
   pub trace : after.trace ≡ before.trace
   pub as_far : after.sent ≡ before.sent
-  pub told_by_then : after.told ≡ told
+  pub reported_by_then : after.reported ≡ reported
   pub base : after.pending.base ≡ segment.from
   pub frames : after.pending.frames.items ≡ segment.frames.items

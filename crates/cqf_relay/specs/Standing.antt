@@ -19,7 +19,7 @@ use Rattle.cqf_trace.specs.Traces.{mark_of_sent}
 use Rattle.cqf_relay.specs.declared.edge.Edge.{Edge}
 use Rattle.cqf_relay.specs.declared.inlet.Inlet.{Inlet}
 use Rattle.cqf_relay.specs.declared.leads.By.{By}
-use Rattle.cqf_relay.specs.declared.leads.By.TheVariants as way
+use Rattle.cqf_relay.specs.declared.leads.By.TheVariants as ingress
 use Rattle.cqf_relay.specs.declared.leads.Leads.{Leads}
 use Rattle.cqf_relay.specs.declared.log.ArrivedFrame.{ArrivedFrame}
 use Rattle.cqf_relay.specs.declared.moving.Segment.{Segment}
@@ -30,7 +30,7 @@ use Rattle.cqf_relay.specs.declared.wire.Wire.{Wire}
 use Rattle.cqf_relay.specs.Segments.{IsNextSegment, IsSegmentOf, Sendings, batch_at, frames_of, moving_between}
 use Rattle.cqf_relay.specs.Leading.{by_at, by_row, leads, same_by}
 use Rattle.cqf_relay.specs.Logs.{ByCycle, is_in}
-use Rattle.cqf_relay.specs.Offering.{CountsUpto, Going, IsOfCycle, came_of_going, covered_behind, dropped_behind}
+use Rattle.cqf_relay.specs.Offering.{CountsUpto, Going, IsOfCycle, came_of_going, covered_after, dropped_after}
 use Rattle.cqf_relay.specs.Queues.{AreLeads, key_of_queued, queued}
 use Rattle.cqf_relay.specs.Sending.{IsNewOutlet, IsTidy, KeepsSegmentBack, LearnsOf, SendsCycles, TakesPending, came_of, most_of, sends_of}
 
@@ -47,13 +47,13 @@ abbrev pub offers_in : Come → ℕ → List Offered
 offers_in come cycle = slice_index_or come.offers cycle []
 
 abbrev pub covered_in : Domain → ℕ → Come → ℕ → List Going
-covered_in d bridge come cycle = covered_behind d bridge cycle (table_of come.tables cycle) [] (offers_in come cycle)
+covered_in d bridge come cycle = covered_after d bridge cycle (table_of come.tables cycle) [] (offers_in come cycle)
 
 -- tables that may arrive: orderly ones, each with its new rows by number, after the rows of all earlier tables
 pub record MayBeTables (d : Domain) (tables : List (List Row)) : Type 0 where
   pub orderly : AreOrderly d tables
   pub by_number : (cycle : ℕ) → AllPairs (λ (row other : Row). row.no < other.no) (table_of tables cycle)
-  pub behind : (cycle later : ℕ) (row other : Row) → cycle < later → Contains (table_of tables cycle) row → Contains (table_of tables later) other →
+  pub following : (cycle later : ℕ) (row other : Row) → cycle < later → Contains (table_of tables cycle) row → Contains (table_of tables later) other →
       ((before : ℕ) → before < later → list_any (λ (it : Row). it.no == other.no) (table_of tables before) ≡ false) → row.no < other.no
 
 -- the rows of the first `count` tables, one table after the other; and those of all tables
@@ -79,7 +79,7 @@ pub record MayHaveCome (upto : ℕ) (brought : List ArrivedFrame) : Type 0 where
   pub by_cycle : ByCycle brought
   pub within : All (λ (came : ArrivedFrame). came.cycle < upto) brought
 
--- those of some frames that go on by a link, by the known rows
+-- of some frames, those that go on by a link, by the known rows
 abbrev pub that_go_on : List Row → ℕ → By → ℕ → List ArrivedFrame → List Queued
 that_go_on rows l by source frames =
     map (queued source) (filter (λ (came : ArrivedFrame). same_by (by_row l (row_of rows came.row)) by) frames)
@@ -87,12 +87,12 @@ that_go_on rows l by source frames =
 -- what arrived by a link in a cycle and goes on by another one, if a known row leads there
 abbrev pub comes_by : Domain → ℕ → Come → List Row → ℕ → ℕ → ℕ → List Queued
 comes_by d bridge come rows l cycle m =
-    if enters d m bridge && leads rows m l then that_go_on rows l (way.Link m) m (filter (is_in cycle) (come.brought m)) else []
+    if enters d m bridge && leads rows m l then that_go_on rows l (ingress.Link m) m (filter (is_in cycle) (come.brought m)) else []
 
--- and all that arrived in a cycle and goes on by a link
+-- all that arrived in a cycle and goes on by a link
 abbrev pub comes_to : Domain → ℕ → Come → List Row → ℕ → ℕ → List Queued
 comes_to d bridge come rows l cycle = each_below (comes_by d bridge come rows l cycle) (length d.links)
-    ++ that_go_on rows l way.Edge 4096 (map (came_of_going d cycle) (covered_in d bridge come cycle))
+    ++ that_go_on rows l ingress.Edge 4096 (map (came_of_going d cycle) (covered_in d bridge come cycle))
 
 -- a link has gone on from a cycle to the next, when `count` tables had arrived: the links from which a row of these tables leads to it had
 -- brought the cycle, and it sent what arrived in the cycle and goes on by it, in order, from the beginning of the next one on
@@ -119,7 +119,7 @@ pub record IsInletOf (come : Come) (least : ℕ) (inlet : Inlet) : Type 0 where
   pub holds : (cycle : ℕ) → least ≤ cycle →
       filter (is_in cycle) inlet.log.frames.items ≡ filter (is_in cycle) (come.brought inlet.link)
 
--- the same for the covered offers at the edge, and nothing is counted for the next cycle yet
+-- the edge: the covered offers from cycle `least` on are kept, and nothing is counted for the next cycle yet
 pub record IsEdgeOf (d : Domain) (bridge : ℕ) (come : Come) (least : ℕ) (edge : Edge) : Type 0 where
   pub number : edge.number ≡ bridge
   pub held : MayHaveCome (length come.tables) edge.log.frames.items
@@ -139,10 +139,10 @@ pub record IsOutletOf (d : Domain) (bridge : ℕ) (come : Come) (sends : List (L
   pub wire : outlet.wire ≡ wire_on d outlet.trace.link
   pub knows : KnowsRows outlet.trace.link come.tables outlet.leads
   pub as_far : outlet.sent ≡ length sends
-  pub handed : outlet.told ≤ outlet.sent
+  pub handed : outlet.reported ≤ outlet.sent
   pub pends : outlet.wire.onward ≡ true →
-      outlet.pending.frames.items ≡ moving_between d outlet.trace.link sends outlet.pending.base outlet.told outlet.sent
-  pub counts : outlet.wire.onward ≡ true → (cycle : ℕ) → outlet.told ≤ cycle → cycle < outlet.sent → (batch_at sends cycle ≡ [] → ⊥) →
+      outlet.pending.frames.items ≡ moving_between d outlet.trace.link sends outlet.pending.base outlet.reported outlet.sent
+  pub counts : outlet.wire.onward ≡ true → (cycle : ℕ) → outlet.reported ≤ cycle → cycle < outlet.sent → (batch_at sends cycle ≡ [] → ⊥) →
       (outlet.pending.base ≤ cycle) × (cycle < outlet.pending.base + 256)
   pub marked : outlet.trace.starts.items ≡ map mark_of_sent (flat_map (λ (batch : List Sent). batch) sends)
   pub no_background : outlet.trace.background.items ≡ []
@@ -258,7 +258,7 @@ pub record IsSameButLinks (before after : Relay) : Type 0 where
 -- each link learns a row
 pub record LearnOnEach (row : Row) (before after : List Outlet) : Type 0 where
   pub count : length after ≡ length before
-  pub each : (place : ℕ) (outlet learned : Outlet) → slice_get before place ≡ Some outlet → slice_get after place ≡ Some learned →
+  pub each : (index : ℕ) (outlet learned : Outlet) → slice_get before index ≡ Some outlet → slice_get after index ≡ Some learned →
       LearnsOf row outlet learned
 
 -- each link learns rows, one after the other
@@ -266,12 +266,12 @@ abbrev pub LearnEach : List Row → List Outlet → List Outlet → Type 0
 LearnEach [] before after = after ≡ before
 LearnEach (row ∷ rows) before after = (between : List Outlet) × LearnOnEach row before between × LearnEach rows between after
 
--- how many rows are known after these
-abbrev pub known_behind : ℕ → List Row → ℕ
-known_behind known [] = known
-known_behind known (row ∷ rows) = known_behind (row.no + 1) rows
+-- one more than the number of the last known row, after these rows were learned
+abbrev pub known_after : ℕ → List Row → ℕ
+known_after known [] = known
+known_after known (row ∷ rows) = known_after (row.no + 1) rows
 
--- those of some rows that are new
+-- the new ones among some rows
 abbrev pub new_rows : ℕ → List Row → List Row
 new_rows known rows = filter (λ (row : Row). nat_le known row.no) rows
 
@@ -283,61 +283,61 @@ pub record LearnsRows (rows : List Row) (before after : Relay) : Type 0 where
   pub tables : after.tables ≡ before.tables
   pub inlets : after.inlets ≡ before.inlets
   pub edge : after.edge ≡ before.edge
-  pub known : after.known ≡ known_behind before.known (new_rows before.known rows)
+  pub known : after.known ≡ known_after before.known (new_rows before.known rows)
   pub learn : LearnEach (new_rows before.known rows) before.outlets.items after.outlets.items
 
 -- the cycle up to which each link has handed on what it sent
-abbrev pub told_by : Relay → List ℕ
-told_by relay = map (λ (outlet : Outlet). outlet.told) relay.outlets.items
+abbrev pub reported_by : Relay → List ℕ
+reported_by relay = map (λ (outlet : Outlet). outlet.reported) relay.outlets.items
 
 -- a bridge has taken a table with the cycle's offers: any state of it before becomes the state with these, and the drops of the offers that
 -- aren't covered are appended
 pub record TakesTable (table : List Row) (offers : List Offered) (before after : Relay) : Type 0 where
   pub same : StaysAs before after
   pub taken : after.tables ≡ before.tables + 1
-  pub told_same : told_by after ≡ told_by before
+  pub reported_same : reported_by after ≡ reported_by before
   pub stands : (d : Domain) (come : Come) (sends : Sendings) → StandsSo d come sends before → MayBeTables d (come.tables ++ table ∷ []) →
       StandsSo d (with_table come table offers) sends after
   pub fresh : List Dropped
-  pub behind : after.edge.drops.items ≡ before.edge.drops.items ++ fresh
+  pub following : after.edge.drops.items ≡ before.edge.drops.items ++ fresh
   pub are_drops : (d : Domain) (come : Come) (sends : Sendings) → StandsSo d come sends before → MayBeTables d (come.tables ++ table ∷ []) →
-      IsPermutation (dropped_behind d before.number before.tables table [] offers) fresh
+      IsPermutation (dropped_after d before.number before.tables table [] offers) fresh
   pub by_frame : IsNonDecreasingBy (λ (dropped : Dropped). dropped.frame) fresh
 
 -- a bridge has taken what the inlet at an index brought: if that may come next, any state of the bridge before becomes the state with it
-pub record TakesSegment (place : ℕ) (segment : Segment) (before after : Relay) : Type 0 where
+pub record TakesSegment (index : ℕ) (segment : Segment) (before after : Relay) : Type 0 where
   pub same : StaysAs before after
   pub tables_same : after.tables ≡ before.tables
   pub drops_same : after.edge.drops ≡ before.edge.drops
   pub outlets_same : after.outlets ≡ before.outlets
   pub stands : (d : Domain) (come : Come) (sends : Sendings) (inlet : Inlet) → StandsSo d come sends before →
-      slice_get before.inlets.items place ≡ Some inlet → IsNextSegment inlet.upto segment → StandsSo d (with_segment come inlet.link segment) sends after
+      slice_get before.inlets.items index ≡ Some inlet → IsNextSegment inlet.upto segment → StandsSo d (with_segment come inlet.link segment) sends after
 
 -- everything that a link needs has arrived up to a cycle
-pub record NeedsHaveCome (place upto : ℕ) (relay : Relay) : Type 0 where
-  pub needed : (outlet : Outlet) → slice_get relay.outlets.items place ≡ Some outlet →
+pub record NeedsHaveCome (index upto : ℕ) (relay : Relay) : Type 0 where
+  pub needed : (outlet : Outlet) → slice_get relay.outlets.items index ≡ Some outlet →
       All (λ (inlet : Inlet). list_any (λ it. it == inlet.link) outlet.leads.needs.items ≡ true → upto ≤ inlet.upto) relay.inlets.items
 
 -- a link may send up to a cycle
-pub record MayReach (place until : ℕ) (relay : Relay) : Type 0 where
+pub record MayReach (index until : ℕ) (relay : Relay) : Type 0 where
   pub tables : until ≤ relay.tables + 1
   pub cycles : until ≤ relay.cycles
-  pub most : (outlet : Outlet) → slice_get relay.outlets.items place ≡ Some outlet → until ≤ most_of outlet
-  pub needed : (outlet : Outlet) → slice_get relay.outlets.items place ≡ Some outlet →
+  pub most : (outlet : Outlet) → slice_get relay.outlets.items index ≡ Some outlet → until ≤ most_of outlet
+  pub needed : (outlet : Outlet) → slice_get relay.outlets.items index ≡ Some outlet →
       All (λ (inlet : Inlet). list_any (λ it. it == inlet.link) outlet.leads.needs.items ≡ true → until ≤ inlet.upto + 1) relay.inlets.items
 
 -- a link has sent as far as it may
-pub record SendsOn (place : ℕ) (before after : Relay) : Type 0 where
+pub record SendsOn (index : ℕ) (before after : Relay) : Type 0 where
   pub same : IsSameButLinks before after
   pub until : ℕ
-  pub might : MayReach place until before
+  pub might : MayReach index until before
   pub outlet : Outlet
-  pub was : slice_get before.outlets.items place ≡ Some outlet
+  pub was : slice_get before.outlets.items index ≡ Some outlet
   pub gone : Outlet
-  pub is : after.outlets.items ≡ slice_set before.outlets.items place gone
+  pub is : after.outlets.items ≡ slice_set before.outlets.items index gone
   pub sends : SendsCycles until before.inlets.items before.edge.log outlet gone
 
--- a bridge has removed what none of its links needs any more: any state of it before still holds
+-- a bridge has removed what none of its links needs any more: any state that it had before still holds
 pub record LetsGo (before after : Relay) : Type 0 where
   pub same : StaysAs before after
   pub tables_same : after.tables ≡ before.tables
@@ -352,47 +352,47 @@ HaveSentMore sends more = (l : ℕ) → (rest : List (List Sent)) × (more l ≡
 -- a bridge's links have gone on
 pub record GoesOnAlone (before after : Relay) : Type 0 where
   pub same : StaysAs before after
-  pub told_same : told_by after ≡ told_by before
+  pub reported_same : reported_by after ≡ reported_by before
   pub tables_same : after.tables ≡ before.tables
   pub drops_same : after.edge.drops ≡ before.edge.drops
   pub stands : (d : Domain) (come : Come) (sends : Sendings) → StandsSo d come sends before → MayBeTables d come.tables →
       (more : Sendings) × StandsSo d come more after × HaveSentMore sends more
 
 -- what a link sent since its last segment was taken, as a segment
-pub record HandsOn (place : ℕ) (before after : Relay) (segment : Segment) : Type 0 where
+pub record HandsOn (index : ℕ) (before after : Relay) (segment : Segment) : Type 0 where
   pub same : IsSameButLinks before after
   pub stays : StaysAs before after
   pub outlet : Outlet
-  pub was : slice_get before.outlets.items place ≡ Some outlet
+  pub was : slice_get before.outlets.items index ≡ Some outlet
   pub handed : Outlet
-  pub is : after.outlets.items ≡ slice_set before.outlets.items place handed
+  pub is : after.outlets.items ≡ slice_set before.outlets.items index handed
   pub takes : TakesPending outlet handed segment
-  pub told : told_by after ≡ slice_set (told_by before) place segment.upto
+  pub reported : reported_by after ≡ slice_set (reported_by before) index segment.upto
   pub stands : (d : Domain) (come : Come) (sends : Sendings) → StandsSo d come sends before → StandsSo d come sends after
   pub is_segment : (d : Domain) (come : Come) (sends : Sendings) (outlet : Outlet) → StandsSo d come sends before →
-      slice_get before.outlets.items place ≡ Some outlet → outlet.wire.onward ≡ true →
-      IsSegmentOf d outlet.trace.link (sends outlet.trace.link) outlet.told segment × (segment.upto ≡ length (sends outlet.trace.link))
-  pub is_next : IsTidy outlet → IsNextSegment outlet.told segment
+      slice_get before.outlets.items index ≡ Some outlet → outlet.wire.onward ≡ true →
+      IsSegmentOf d outlet.trace.link (sends outlet.trace.link) outlet.reported segment × (segment.upto ≡ length (sends outlet.trace.link))
+  pub is_next : IsTidy outlet → IsNextSegment outlet.reported segment
 
 -- a segment that couldn't be handed on was given back: the bridge is as before the segment was taken
-pub record KeepsBack (place told : ℕ) (segment : Segment) (before after : Relay) : Type 0 where
+pub record KeepsBack (index reported : ℕ) (segment : Segment) (before after : Relay) : Type 0 where
   pub same : IsSameButLinks before after
   pub links : map link_out after.outlets.items ≡ map link_out before.outlets.items
   pub wires : map wire_out after.outlets.items ≡ map wire_out before.outlets.items
   pub outlet : Outlet
-  pub was : slice_get before.outlets.items place ≡ Some outlet
+  pub was : slice_get before.outlets.items index ≡ Some outlet
   pub kept : Outlet
-  pub is : after.outlets.items ≡ slice_set before.outlets.items place kept
-  pub keeps : KeepsSegmentBack told segment outlet kept
-  pub told_by_then : told_by after ≡ slice_set (told_by before) place told
-  pub again : (older : Relay) → HandsOn place older before segment → slice_get (told_by older) place ≡ Some told →
+  pub is : after.outlets.items ≡ slice_set before.outlets.items index kept
+  pub keeps : KeepsSegmentBack reported segment outlet kept
+  pub reported_by_then : reported_by after ≡ slice_set (reported_by before) index reported
+  pub again : (older : Relay) → HandsOn index older before segment → slice_get (reported_by older) index ≡ Some reported →
       (d : Domain) (come : Come) (sends : Sendings) → StandsSo d come sends older → StandsSo d come sends after
-  pub tidy_again : (older : Relay) → HandsOn place older before segment → slice_get (told_by older) place ≡ Some told →
+  pub tidy_again : (older : Relay) → HandsOn index older before segment → slice_get (reported_by older) index ≡ Some reported →
       All IsTidy older.outlets.items → All IsTidy after.outlets.items
 
--- all is over: each table and each segment was taken, and each link has sent all cycles and handed them on
+-- all is over: each table and each segment was taken, and each link has sent all cycles, and handed them on if it ends in another bridge
 pub record IsOver (relay : Relay) : Type 0 where
   pub tables : relay.cycles ≤ relay.tables
   pub sent : All (λ (outlet : Outlet). relay.cycles ≤ outlet.sent) relay.outlets.items
-  pub told : All (λ (outlet : Outlet). outlet.wire.onward ≡ true → relay.cycles ≤ outlet.told) relay.outlets.items
+  pub reported : All (λ (outlet : Outlet). outlet.wire.onward ≡ true → relay.cycles ≤ outlet.reported) relay.outlets.items
   pub come : All (λ (inlet : Inlet). relay.cycles ≤ inlet.upto) relay.inlets.items

@@ -6,7 +6,7 @@ use crate::log::{ArrivedFrame, SourceLog};
 use cqf_admission::Table;
 use cqf_model::{Dropped, Offered, Reason, Row};
 use cqf_topology::{Domain, begins_at};
-use cqf_units::{Cycle, Memory};
+use cqf_units::{Cycle, Memory, Octets, counted};
 use std::alloc::Global;
 
 /// The octets of a row that covered offers have used in `cycle`, the last cycle in which one used any.
@@ -53,20 +53,20 @@ fn count(
             octets: 0,
         })?;
     }
-    let place = number as usize;
-    let sum = u64::from(octets_in(&used[place], cycle)) + u64::from(octets);
+    let index = number as usize;
+    let sum = u64::from(octets_in(&used[index], cycle)) + u64::from(octets);
     if sum > u64::from(most) {
         return Ok(false);
     }
-    used[place] = Used {
+    used[index] = Used {
         cycle,
         octets: sum as u32,
     };
     Ok(true)
 }
 
-/// Returns the first reason against an offer with the name of a row's stream, for a cycle at a bridge. If there is none, the offer's octets
-/// are counted.
+/// Returns the first reason against an offer with the name of a row's stream, for a cycle at a bridge, given the octets that gates count of
+/// it. If there is none, these octets are counted.
 fn judge_row(
     domain: &Domain,
     bridge: u16,
@@ -83,7 +83,7 @@ fn judge_row(
     if !begins_at(domain, row, bridge) {
         return Ok(Some(Reason::OtherBridge));
     }
-    let most = row.reserved_behind(None, u64::from(cycle.0));
+    let most = row.reserved_after(None, u64::from(cycle.0));
     if !count(used, row.no, cycle.0, octets, most)? {
         return Ok(Some(Reason::Octets));
     }
@@ -107,7 +107,7 @@ fn came(domain: &Domain, cycle: Cycle, offered: &Offered, row: u32) -> ArrivedFr
 }
 
 impl Edge {
-    /// Returns the edge of a bridge at which nothing was offered. It takes no memory yet.
+    /// Returns the edge of a bridge at which nothing was offered. Requests no memory.
     pub(crate) fn new(alloc: Global, number: u16) -> Edge
         ensures number { result.number ≡ number }
         ensures used { result.used.items ≡ [] }
@@ -148,7 +148,7 @@ impl Edge {
         requires { IsOfCycle domain.now cycle.0 offered.now }
         ensures { OnOk result (JudgesOne domain.now cycle.0 table.now.rows offered.now self.old self.new) }
     {
-        let octets = offered.offer.octets;
+        let octets = counted(Octets(domain.overhead()), Octets(offered.offer.octets)).0;
         let Some(row) = table.row_named(&offered.offer.stream) else {
             return self.drop_for(cycle, offered, Reason::Unknown);
         };

@@ -29,7 +29,7 @@ fn came(from: u32, moving: Moving) -> ArrivedFrame
 }
 
 impl Inlet {
-    /// Returns a link that has brought nothing. It takes no memory yet.
+    /// Returns a link that has brought nothing. Requests no memory.
     pub(crate) fn new(alloc: Global, link: u16) -> Inlet
         ensures link { result.link ≡ link }
         ensures upto { result.upto ≡ 0 }
@@ -42,7 +42,8 @@ impl Inlet {
         }
     }
 
-    /// Takes what the link sent after what arrived before. Returns `Memory` if an allocation fails.
+    /// Takes the next segment that the link sent: its frames are appended to those that arrived before. Returns
+    /// `Memory` if an allocation fails.
     pub(crate) fn take(&mut self, segment: &Segment) -> Result<(), Memory>
         ensures link { self.new.link ≡ self.old.link }
         ensures upto { OnOk result (self.new.upto ≡ segment.now.upto) }

@@ -52,7 +52,7 @@ fn is_same(one: By, other: By) -> bool
 }
 
 impl Leads {
-    /// Returns no rows. It takes no memory.
+    /// Returns no rows. Requests no memory.
     pub(crate) fn new(alloc: Global) -> Leads
         ensures rows { result.rows.items ≡ [] }
         ensures needs { result.needs.items ≡ [] }
@@ -65,8 +65,8 @@ impl Leads {
         }
     }
 
-    /// Learns the tree of the row of a number, after the known rows. No row with a number in between leads to the link. Returns `Memory` if
-    /// an allocation fails.
+    /// Learns the tree of the row `number`, which follows the known rows, so far as it concerns `link`. The numbers between the known rows
+    /// and this one are those of rows that don't lead to the link. Returns `Memory` if an allocation fails.
     pub(crate) fn learn(&mut self, number: u32, tree: &[Hop], link: u16) -> Result<(), Memory>
         ensures { OnOk result (LearnsRow number (by_hops link tree.now) self.old self.new) }
     {

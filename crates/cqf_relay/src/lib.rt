@@ -1,5 +1,5 @@
-//! A bridge whose links go on separately, by exact instants: each link sends as far as the incoming links and tables that it needs have
-//! arrived, over many cycles at once. A link needs another link if a row leads from that link to it.
+//! A bridge whose links go on separately, by exact instants: each link sends as many cycles at once as the tables and the frames that it
+//! needs have arrived for. A link needs another link if a row leads from that link to it.
 //!
 //! - A [`Segment`] has what a link sends in consecutive cycles: a `Moving` of 16 octets for each frame.
 //! - A [`Relay`] is the forwarding part of a bridge (its MAC relay entity, IEEE 802.1Q, 8.5). It has `Outlet`s, the links that leave the bridge,

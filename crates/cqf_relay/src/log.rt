@@ -25,7 +25,7 @@ pub(crate) struct SourceLog {
 }
 
 impl SourceLog {
-    /// Returns an empty log. It takes no memory yet.
+    /// Returns an empty log. Requests no memory.
     pub(crate) fn new(alloc: Global) -> SourceLog
         ensures { result.frames.items ≡ [] }
     {
@@ -42,7 +42,7 @@ impl SourceLog {
         Ok(())
     }
 
-    /// Returns the frames of a cycle. The log must be in order of cycles.
+    /// Returns the frames of a cycle. The frames of the log must be in order of cycle.
     pub(crate) fn of_cycle(&self, cycle: u32) -> &[ArrivedFrame]
         ensures { ByCycle self.now.frames.items → result.now ≡ filter (is_in cycle) self.now.frames.items }
     {

@@ -9,14 +9,14 @@ pub struct Moving {
     /// The number of its stream.
     pub row: u32,
     pub octets: u16,
-    /// Its cycle, counted from the segment's first one.
+    /// Its cycle, counted from the `from` of its segment.
     pub after: u16,
 }
 
 /// What a link sends in some cycles, after what it sent before: its frames in order of start.
 #[derive(Debug, Drop)]
 pub struct Segment {
-    /// The cycle of the first frame, if there is one.
+    /// The cycle from which the frames' cycles are counted: that of the first frame, if there is one.
     pub from: u32,
     /// The cycle up to which the link has sent, exclusive.
     pub upto: u32,

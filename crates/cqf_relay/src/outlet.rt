@@ -17,7 +17,7 @@ use std::alloc::Global;
 use std::mem::replace;
 
 /// The greatest number of cycles that a link sends at once. If frames wait to be handed on, the cycles are counted from that of the first
-/// of them. So few frames wait, and a segment's cycles can be counted in 16 bits.
+/// of them. So only few frames wait, and a segment's cycles can be counted in 16 bits.
 const STRIDE: u32 = 256;
 
 /// A link that leaves the bridge: which rows lead to it, how far it has sent, and what it has sent and not yet handed on.
@@ -25,15 +25,15 @@ const STRIDE: u32 = 256;
 pub struct Outlet {
     wire: Wire,
     leads: Leads,
-    /// The cycles up to which it has sent, and has handed on, exclusive.
+    /// The cycle up to which it has sent, exclusive, and the cycle up to which it has handed on what it sent, exclusive.
     sent: u32,
-    told: u32,
+    reported: u32,
     pending: Pending,
     trace: Trace,
 }
 
 impl Outlet {
-    /// Returns the link of a number, which has sent nothing. It takes no memory yet.
+    /// Returns the link of a number, which has sent nothing. Requests no memory.
     pub(crate) fn new(
         alloc: Global,
         cycle_time: Nanos,
@@ -53,7 +53,7 @@ impl Outlet {
             },
             leads: Leads::new(alloc),
             sent: 0,
-            told: 0,
+            reported: 0,
             pending: Pending::new(alloc),
             trace: Trace::new(alloc, number),
         }
@@ -74,10 +74,10 @@ impl Outlet {
     }
 
     /// Returns the cycle up to which the link has handed on what it sent, exclusive.
-    pub fn told(&self) -> u32
-        ensures { result ≡ self.now.told }
+    pub fn reported(&self) -> u32
+        ensures { result ≡ self.now.reported }
     {
-        self.told
+        self.reported
     }
 
     /// Returns whether the link ends in another bridge.
@@ -87,25 +87,25 @@ impl Outlet {
         self.wire.onward
     }
 
-    /// Returns whether the link has something to hand on that the bridge at its end may need: what it sent, if a row leads to it, or, after
-    /// the last of `cycles` cycles, that it is over.
+    /// Returns whether the link has something to hand on that the bridge at its end may need: what it sent, if a row leads to the link, or,
+    /// after the last of `cycles` cycles, that it is over.
     pub fn has_news(&self, cycles: u32) -> bool
         ensures onward { result ≡ true → self.now.wire.onward ≡ true }
-        ensures more { result ≡ true → self.now.told < self.now.sent }
+        ensures more { result ≡ true → self.now.reported < self.now.sent }
     {
-        self.wire.onward && self.sent > self.told && (self.leads.used() || self.sent == cycles)
+        self.wire.onward && self.sent > self.reported && (self.leads.used() || self.sent == cycles)
     }
 
     /// Returns whether the link has sent all of `cycles` cycles, and has handed them on if it ends in another bridge.
     pub(crate) fn is_over(&self, cycles: u32) -> bool
         ensures sent { result ≡ true → cycles ≤ self.now.sent }
-        ensures told { result ≡ true → self.now.wire.onward ≡ true → cycles ≤ self.now.told }
+        ensures reported { result ≡ true → self.now.wire.onward ≡ true → cycles ≤ self.now.reported }
         ensures some { result ≡ false → 0 < cycles }
     {
-        self.sent >= cycles && (!self.wire.onward || self.told >= cycles)
+        self.sent >= cycles && (!self.wire.onward || self.reported >= cycles)
     }
 
-    /// Returns the cycle up to which the link may send now, no matter what has arrived.
+    /// Returns the link's own limit: the cycle up to which it may send now, exclusive, even if everything that it needs has arrived.
     pub(crate) fn most(&self) -> u32
         ensures { result ≤ most_of self.now }
     {
@@ -131,7 +131,8 @@ impl Outlet {
             .learn(row.no, row.tree.as_slice(), self.trace.link)
     }
 
-    /// Sends a frame in a cycle, at this offset from its beginning, if there is room. Returns the offset at which the next frame may start.
+    /// Sends a frame in a cycle, `offset` nanoseconds from the cycle's beginning, if there is room. Returns the offset at which the next
+    /// frame may start.
     fn send_one(&mut self, cycle: u32, offset: u64, came: ArrivedFrame) -> Result<u64, Memory>
         requires { offset < 2 ^ 40 }
         ensures { IfOk result (SendsOne cycle offset came self.old self.new) }
@@ -206,11 +207,11 @@ impl Outlet {
         Ok(())
     }
 
-    /// Returns what was sent since the last segment, as one segment. It takes no memory.
+    /// Returns what was sent since the last segment, as one segment. Requests no memory.
     pub(crate) fn segment(&mut self, alloc: Global) -> Segment
         ensures { TakesPending self.old self.new result }
     {
-        self.told = self.sent;
+        self.reported = self.sent;
         Segment {
             from: self.pending.base,
             upto: self.sent,
@@ -218,12 +219,12 @@ impl Outlet {
         }
     }
 
-    /// Takes back the last segment, which couldn't be handed on. The link is then as before that segment was taken, when it had handed on
-    /// up to `told`.
-    pub(crate) fn keep_back(&mut self, told: u32, segment: Segment)
-        ensures { KeepsSegmentBack told segment self.old self.new }
+    /// Takes back the last segment, which couldn't be handed on. `reported` is the cycle up to which the link had handed on before that segment
+    /// was taken. Afterwards the link is as it was then.
+    pub(crate) fn keep_back(&mut self, reported: u32, segment: Segment)
+        ensures { KeepsSegmentBack reported segment self.old self.new }
     {
-        self.told = told;
+        self.reported = reported;
         self.pending = Pending {
             base: segment.from,
             frames: segment.frames,

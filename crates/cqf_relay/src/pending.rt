@@ -14,7 +14,7 @@ pub(crate) struct Pending {
 }
 
 impl Pending {
-    /// Returns no frames. It takes no memory yet.
+    /// Returns no frames. Requests no memory.
     pub(crate) fn new(alloc: Global) -> Pending
         ensures { result.frames.items ≡ [] }
     {

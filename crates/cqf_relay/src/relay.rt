@@ -82,12 +82,12 @@ fn new_outlets(alloc: Global, domain: &Domain, number: u16) -> Result<Vec<Outlet
 {
     domain.know();
     let mut outlets = Vec::new(alloc);
-    for place in 0..domain.links() {
-        let link = domain.link(place);
+    for index in 0..domain.links() {
+        let link = domain.link(index);
         if link.from == number {
             let onward = is_some_bridge(link.to);
             let cycle_time = domain.cycle_time();
-            outlets.push(Outlet::new(alloc, cycle_time, place, link, onward))?;
+            outlets.push(Outlet::new(alloc, cycle_time, index, link, onward))?;
         }
     }
     Ok(outlets)
@@ -97,8 +97,8 @@ fn new_outlets(alloc: Global, domain: &Domain, number: u16) -> Result<Vec<Outlet
 fn learn_on_each(outlets: &mut [Outlet], row: &Row) -> Result<(), Memory>
     ensures { OnOk result (LearnOnEach row.now outlets.old outlets.new) }
 {
-    for place in 0..outlets.len() {
-        outlets[place].learn(row)?;
+    for index in 0..outlets.len() {
+        outlets[index].learn(row)?;
     }
     Ok(())
 }
@@ -166,20 +166,21 @@ impl Relay {
         self.outlets.as_slice()
     }
 
-    /// Returns what a link that leaves the bridge has sent since its last segment was taken. `place` is the link's index among these links.
-    pub fn segment_of(&mut self, alloc: Global, place: usize) -> Segment
-        requires { place < length self.old.outlets.items }
-        ensures { HandsOn place self.old self.new result }
+    /// Returns what a link that leaves the bridge has sent since its last segment was taken. `index` is the link's index among these links.
+    pub fn segment_of(&mut self, alloc: Global, index: usize) -> Segment
+        requires { index < length self.old.outlets.items }
+        ensures { HandsOn index self.old self.new result }
     {
-        self.outlets[place].segment(alloc)
+        self.outlets[index].segment(alloc)
     }
 
-    /// Takes back the last segment of a link, which couldn't be handed on. `told` is the cycle up to which the link had handed on before.
-    pub fn keep_back(&mut self, place: usize, told: u32, segment: Segment)
-        requires { place < length self.old.outlets.items }
-        ensures { KeepsBack place told segment self.old self.new }
+    /// Takes back the last segment of a link, which couldn't be handed on. `index` is the link's index among the links that leave the
+    /// bridge, and `reported` is the cycle up to which the link had handed on before that segment was taken.
+    pub fn keep_back(&mut self, index: usize, reported: u32, segment: Segment)
+        requires { index < length self.old.outlets.items }
+        ensures { KeepsBack index reported segment self.old self.new }
     {
-        self.outlets[place].keep_back(told, segment);
+        self.outlets[index].keep_back(reported, segment);
     }
 
     /// Learns the new rows of the next table. By number they follow the known rows.
@@ -196,8 +197,7 @@ impl Relay {
         Ok(())
     }
 
-    /// Returns whether the bridge takes a table now: there is a next one, and each link has sent more than n - `AHEAD` cycles if n tables
-    /// were taken.
+    /// Returns whether the bridge takes a table now: there is a next one, and each link has sent more than `tables() - AHEAD` cycles.
     pub fn wants_table(&self) -> bool
         ensures { result ≡ true → self.now.tables < self.now.cycles }
     {
@@ -222,23 +222,23 @@ impl Relay {
         Ok(())
     }
 
-    /// Takes what the inlet at an index brought. Returns `Memory` if an allocation fails.
-    pub fn take_segment(&mut self, place: usize, segment: &Segment) -> Result<(), Memory>
-        requires { place < length self.old.inlets.items }
-        ensures { OnOk result (TakesSegment place segment.now self.old self.new) }
+    /// Takes the next segment that the inlet at an index brought. Returns `Memory` if an allocation fails.
+    pub fn take_segment(&mut self, index: usize, segment: &Segment) -> Result<(), Memory>
+        requires { index < length self.old.inlets.items }
+        ensures { OnOk result (TakesSegment index segment.now self.old self.new) }
     {
-        self.inlets[place].take(segment)
+        self.inlets[index].take(segment)
     }
 
     /// Returns the cycle up to which everything that a link needs has arrived, exclusive.
-    fn has_come(&self, place: usize) -> u32
-        requires { place < length self.now.outlets.items }
+    fn has_come(&self, index: usize) -> u32
+        requires { index < length self.now.outlets.items }
         ensures tables { result ≤ self.now.tables }
-        ensures needed { NeedsHaveCome place result self.now }
+        ensures needed { NeedsHaveCome index result self.now }
     {
         let mut have = self.tables;
         for inlet in self.inlets.as_slice() {
-            if inlet.upto < have && self.outlets[place].needs(inlet.link) {
+            if inlet.upto < have && self.outlets[index].needs(inlet.link) {
                 have = inlet.upto;
             }
         }
@@ -246,12 +246,12 @@ impl Relay {
     }
 
     /// Returns the cycle up to which a link may send, exclusive: one more than has arrived, within the run and the link's own limit.
-    fn reach(&self, place: usize) -> u32
-        requires { place < length self.now.outlets.items }
-        ensures { MayReach place result self.now }
+    fn reach(&self, index: usize) -> u32
+        requires { index < length self.now.outlets.items }
+        ensures { MayReach index result self.now }
     {
-        let most = self.outlets[place].most();
-        self.has_come(place)
+        let most = self.outlets[index].most();
+        self.has_come(index)
             .saturating_add(1)
             .min(self.cycles)
             .min(most)
@@ -259,8 +259,8 @@ impl Relay {
 
     /// Returns whether some link may go on.
     pub fn may_send(&self) -> bool {
-        for place in 0..self.outlets.len() {
-            if self.reach(place) > self.outlets[place].sent() {
+        for index in 0..self.outlets.len() {
+            if self.reach(index) > self.outlets[index].sent() {
                 return true;
             }
         }
@@ -268,12 +268,12 @@ impl Relay {
     }
 
     /// Makes a link send as far as it may.
-    fn send_on(&mut self, place: usize) -> Result<(), Memory>
-        requires { place < length self.old.outlets.items }
-        ensures { OnOk result (SendsOn place self.old self.new) }
+    fn send_on(&mut self, index: usize) -> Result<(), Memory>
+        requires { index < length self.old.outlets.items }
+        ensures { OnOk result (SendsOn index self.old self.new) }
     {
-        let until = self.reach(place);
-        self.outlets[place].send_to(
+        let until = self.reach(index);
+        self.outlets[index].send_to(
             until,
             self.inlets.as_slice(),
             &self.edge.log,
@@ -289,8 +289,8 @@ impl Relay {
         for outlet in self.outlets.as_slice() {
             least = least.min(outlet.sent().saturating_sub(1));
         }
-        for place in 0..self.inlets.len() {
-            self.inlets[place].log.let_go(least);
+        for index in 0..self.inlets.len() {
+            self.inlets[index].log.let_go(least);
         }
         self.edge.log.let_go(least);
     }
@@ -299,14 +299,15 @@ impl Relay {
     pub fn send(&mut self) -> Result<(), Memory>
         ensures { OnOk result (GoesOnAlone self.old self.new) }
     {
-        for place in 0..self.outlets.len() {
-            self.send_on(place)?;
+        for index in 0..self.outlets.len() {
+            self.send_on(index)?;
         }
         self.let_go();
         Ok(())
     }
 
-    /// Returns whether all is over: each table and each segment was taken, and each link has sent all cycles and handed them on.
+    /// Returns whether all is over: each table and each segment was taken, and each link has sent all cycles, and handed them on if it ends
+    /// in another bridge.
     pub fn is_over(&self) -> bool
         ensures over { result ≡ true → IsOver self.now }
         ensures some { result ≡ false → 0 < self.now.cycles }

@@ -18,7 +18,7 @@ pub struct Wire {
 }
 
 impl Wire {
-    /// Returns the time from a frame's start until it is whole at the link's end.
+    /// Returns the time in nanoseconds from the start of a frame of `octets` octets until it is whole at the link's end.
     pub(crate) fn time_of(&self, octets: u32) -> u64
         requires { octets < 2 ^ 16 }
         ensures { result ≡ time_on self.now octets }
@@ -26,8 +26,8 @@ impl Wire {
         time_in_ticks(u64::from(octets) + 8, u64::from(self.octet_time)) + u64::from(self.delay)
     }
 
-    /// Returns whether a frame is whole within a cycle if it starts at this offset from the cycle's beginning. Frames that the gates of a
-    /// run pass always are.
+    /// Returns whether a frame is whole within a cycle if it starts `offset` nanoseconds from the cycle's beginning. Frames that the gates
+    /// of a run pass always are.
     pub(crate) fn has_room(&self, offset: u64, octets: u32) -> bool
         requires { offset < 2 ^ 40 }
         ensures { result ≡ has_room_on self.now offset octets }
@@ -35,7 +35,7 @@ impl Wire {
         octets <= u32::from(u16::MAX) && offset + self.time_of(octets) < u64::from(self.cycle_time)
     }
 
-    /// Returns the time that a frame and the gap after it take.
+    /// Returns the time in nanoseconds that a frame of `octets` octets and the gap after it take.
     pub(crate) fn taken_by(&self, octets: u32) -> u64
         requires { octets < 2 ^ 16 }
         ensures value { result ≡ slot_of octets self.now.octet_time }

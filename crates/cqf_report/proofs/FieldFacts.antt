@@ -26,16 +26,16 @@ some-inj : (a b : List ℕ) → ◌≡◌ {A = Option (List ℕ)} (Some a) (Some
 some-inj a b e = cc
 
 -- the four fields are those at the four indexes
-pub four_of-places : (fields : Fields) (p q r s : List ℕ) → length fields ≡ 4 → Some p ≡ field_at fields 0 → Some q ≡ field_at fields 1 →
+pub four_of-indices : (fields : Fields) (p q r s : List ℕ) → length fields ≡ 4 → Some p ≡ field_at fields 0 → Some q ≡ field_at fields 1 →
     Some r ≡ field_at fields 2 → Some s ≡ field_at fields 3
     → four_of fields ≡ Some (p, q, r, s)
 unfolding field_at
-four_of-places [] p q r s size at0 at1 at2 at3 = cc
-four_of-places (a ∷ []) p q r s size at0 at1 at2 at3 = cc
-four_of-places (a ∷ b ∷ []) p q r s size at0 at1 at2 at3 = cc
-four_of-places (a ∷ b ∷ c ∷ []) p q r s size at0 at1 at2 at3 = cc
-four_of-places (a ∷ b ∷ c ∷ d ∷ []) p q r s size at0 at1 at2 at3 = rw (some-inj p a at0, some-inj q b at1, some-inj r c at2, some-inj s d at3) refl
-four_of-places (a ∷ b ∷ c ∷ d ∷ e ∷ fields) p q r s size at0 at1 at2 at3 = absurd (omega arith)
+four_of-indices [] p q r s size at0 at1 at2 at3 = cc
+four_of-indices (a ∷ []) p q r s size at0 at1 at2 at3 = cc
+four_of-indices (a ∷ b ∷ []) p q r s size at0 at1 at2 at3 = cc
+four_of-indices (a ∷ b ∷ c ∷ []) p q r s size at0 at1 at2 at3 = cc
+four_of-indices (a ∷ b ∷ c ∷ d ∷ []) p q r s size at0 at1 at2 at3 = rw (some-inj p a at0, some-inj q b at1, some-inj r c at2, some-inj s d at3) refl
+four_of-indices (a ∷ b ∷ c ∷ d ∷ e ∷ fields) p q r s size at0 at1 at2 at3 = absurd (omega arith)
 
 -- a record without four fields writes nothing
 pub in_four-none : {A : Type 0} (read : List ℕ → List ℕ → List ℕ → List ℕ → Option A) (fields : Fields) → four_of fields ≡ None → in_four read fields ≡ None
@@ -73,18 +73,18 @@ five_of-other (a ∷ b ∷ c ∷ d ∷ e ∷ []) other = absurd (other refl)
 five_of-other (a ∷ b ∷ c ∷ d ∷ e ∷ f ∷ fields) other = refl
 
 -- the five fields are those at the five indexes
-pub five_of-places : (fields : Fields) (p q r s t : List ℕ) → length fields ≡ 5 → Some p ≡ field_at fields 0 → Some q ≡ field_at fields 1 →
+pub five_of-indices : (fields : Fields) (p q r s t : List ℕ) → length fields ≡ 5 → Some p ≡ field_at fields 0 → Some q ≡ field_at fields 1 →
     Some r ≡ field_at fields 2 → Some s ≡ field_at fields 3 → Some t ≡ field_at fields 4
     → five_of fields ≡ Some (p, q, r, s, t)
 unfolding field_at
-five_of-places [] p q r s t size at0 at1 at2 at3 at4 = cc
-five_of-places (a ∷ []) p q r s t size at0 at1 at2 at3 at4 = cc
-five_of-places (a ∷ b ∷ []) p q r s t size at0 at1 at2 at3 at4 = cc
-five_of-places (a ∷ b ∷ c ∷ []) p q r s t size at0 at1 at2 at3 at4 = cc
-five_of-places (a ∷ b ∷ c ∷ d ∷ []) p q r s t size at0 at1 at2 at3 at4 = cc
-five_of-places (a ∷ b ∷ c ∷ d ∷ e ∷ []) p q r s t size at0 at1 at2 at3 at4 =
+five_of-indices [] p q r s t size at0 at1 at2 at3 at4 = cc
+five_of-indices (a ∷ []) p q r s t size at0 at1 at2 at3 at4 = cc
+five_of-indices (a ∷ b ∷ []) p q r s t size at0 at1 at2 at3 at4 = cc
+five_of-indices (a ∷ b ∷ c ∷ []) p q r s t size at0 at1 at2 at3 at4 = cc
+five_of-indices (a ∷ b ∷ c ∷ d ∷ []) p q r s t size at0 at1 at2 at3 at4 = cc
+five_of-indices (a ∷ b ∷ c ∷ d ∷ e ∷ []) p q r s t size at0 at1 at2 at3 at4 =
     rw (some-inj p a at0, some-inj q b at1, some-inj r c at2, some-inj s d at3, some-inj t e at4) refl
-five_of-places (a ∷ b ∷ c ∷ d ∷ e ∷ f ∷ fields) p q r s t size at0 at1 at2 at3 at4 = absurd (omega arith)
+five_of-indices (a ∷ b ∷ c ∷ d ∷ e ∷ f ∷ fields) p q r s t size at0 at1 at2 at3 at4 = absurd (omega arith)
 
 -- a record without five fields writes nothing
 pub in_five-none : {A : Type 0} (read : List ℕ → List ℕ → List ℕ → List ℕ → List ℕ → Option A) (fields : Fields) → five_of fields ≡ None →

@@ -3,17 +3,17 @@ use Rattle.std.proofs.Common.{◌≡◌, ◌≤◌, ◌<◌, ◌+◌, ℕ, List,
 use Rattle.std.proofs.Common.{length, slice_get, refl, ap, sym, subst, ◌∙◌, append_assoc, append-nil, length-append, ◌⊎◌, inl, inr, arith}
 use Rattle.std.proofs.lemmas.Bool.{cases_lt}
 use Rattle.std.proofs.lemmas.Bool.Decides.{nat_tests}
-use Rattle.cqf_lists.proofs.Places.{slice_get_behind}
+use Rattle.cqf_lists.proofs.Indices.{slice_get_after}
 use Rattle.cqf_report.specs.Records.{Fields}
 use Rattle.cqf_report.specs.Table.{row_then, rows_from, with_row}
-use Rattle.cqf_report.specs.TableLaws.{AreGoodBefore, IsFirstBack, IsFirstFault, IsGood, TellsFirst, Writes}
+use Rattle.cqf_report.specs.TableLaws.{AreGoodBefore, IsFirstBack, IsFirstFault, IsGood, Writes, WritesFirst}
 use Rattle.cqf_report.specs.declared.tables.TableFault.{TableFault}
 use Rattle.cqf_report.specs.declared.tables.TableFault.TheVariants.{TooMany, OutOfOrder}
 
 module _ {A : Type 0} (most : ℕ) (read : Fields → Option A) (instant : A → ℕ) where
   -- a record writes at most one row
-  one-row : (rows : List Fields) (place : ℕ) (a b : A) → Writes read rows place a → Writes read rows place b → a ≡ b
-  one-row rows place a b first second =
+  one-row : (rows : List Fields) (index : ℕ) (a b : A) → Writes read rows index a → Writes read rows index b → a ≡ b
+  one-row rows index a b first second =
       some-inj (sym first.means ∙ ap read (fields-inj (sym first.stands ∙ second.stands)) ∙ second.means)
     where
       some-inj : ◌≡◌ {A = Option A} (Some a) (Some b) → a ≡ b
@@ -23,77 +23,77 @@ module _ {A : Type 0} (most : ℕ) (read : Fields → Option A) (instant : A →
       fields-inj e = cc
 
   -- the instant that the next row may not be before: that of the last row so far, or 0 if there is none
-  record IsLast (rows : List Fields) (place before : ℕ) : Type 0 where
+  record IsLast (rows : List Fields) (index before : ℕ) : Type 0 where
     earlier : A
     k : ℕ
-    next : k + 1 ≡ place
+    next : k + 1 ≡ index
     writes : Writes read rows k earlier
     its : instant earlier ≡ before
 
   -- a row whose instant is earlier than that of the previous row
   abbrev IsBefore : List Fields → ℕ → ℕ → Type 0
-  IsBefore rows place before = ((place ≡ 0) × (before ≡ 0)) ⊎ IsLast rows place before
+  IsBefore rows index before = ((index ≡ 0) × (before ≡ 0)) ⊎ IsLast rows index before
 
   -- a row that isn't before the last one is in order
-  in-order : (rows : List Fields) (place before : ℕ) (row : A) → IsBefore rows place before → before ≤ instant row
-      → (k : ℕ) (earlier : A) → k + 1 ≡ place → Writes read rows k earlier → instant earlier ≤ instant row
-  in-order rows place before row (inl start) h k earlier next writes = absurd (omega (arith, start.0, next))
-  in-order rows place before row (inr last) h k earlier next writes =
-      let same_place : last.k ≡ k = omega (arith, last.next, next) in
-      let same : last.earlier ≡ earlier = one-row rows k last.earlier earlier (subst (λ m. Writes read rows m last.earlier) same_place last.writes) writes in
+  in-order : (rows : List Fields) (index before : ℕ) (row : A) → IsBefore rows index before → before ≤ instant row
+      → (k : ℕ) (earlier : A) → k + 1 ≡ index → Writes read rows k earlier → instant earlier ≤ instant row
+  in-order rows index before row (inl start) h k earlier next writes = absurd (omega (arith, start.0, next))
+  in-order rows index before row (inr last) h k earlier next writes =
+      let same_index : last.k ≡ k = omega (arith, last.next, next) in
+      let same : last.earlier ≡ earlier = one-row rows k last.earlier earlier (subst (λ m. Writes read rows m last.earlier) same_index last.writes) writes in
       let its : instant earlier ≡ before = ap instant (sym same) ∙ last.its in
       omega (arith, its, h)
 
   -- one more good record
-  good-more : (rows : List Fields) (place : ℕ) → AreGoodBefore read instant rows place → IsGood read instant rows place →
-      AreGoodBefore read instant rows (place + 1)
-  good-more rows place good here k below = elim (cases_lt k place) [
+  good-more : (rows : List Fields) (index : ℕ) → AreGoodBefore read instant rows index → IsGood read instant rows index →
+      AreGoodBefore read instant rows (index + 1)
+  good-more rows index good here k below = elim (cases_lt k index) [
     | inl before ↦ good k before
-    | inr not_before ↦ let same : place ≡ k = omega (arith, below, not_before) in subst (λ m. IsGood read instant rows m) same here
+    | inr not_before ↦ let same : index ≡ k = omega (arith, below, not_before) in subst (λ m. IsGood read instant rows m) same here
   ]
 
   -- the records are all good, or the reported fault is the first fault of them all
-  abbrev Told : List Fields → Result (List A) TableFault → Type 0
-  Told rows told = MatchResult told
+  abbrev Written : List Fields → Result (List A) TableFault → Type 0
+  Written rows reported = MatchResult reported
       (λ items. (length rows ≤ most) × AreGoodBefore read instant rows (length rows))
       (λ fault. IsFirstFault most read instant rows fault)
 
   -- one more row before the others doesn't change this
-  told-behind : (rows : List Fields) (row : A) (others : Result (List A) TableFault) → Told rows others → Told rows (with_row row others)
-  told-behind rows row (Ok items) h = h
-  told-behind rows row (Err fault) h = h
+  reported-following : (rows : List Fields) (row : A) (others : Result (List A) TableFault) → Written rows others → Written rows (with_row row others)
+  reported-following rows row (Ok items) h = h
+  reported-following rows row (Err fault) h = h
 
   -- so it is for the records after any good ones
-  abbrev TellsBehind : List Fields → Type 0
-  TellsBehind rest = (front : List Fields) (number before : ℕ) → number ≡ length front + 1 → number ≤ most + 1
+  abbrev WritesAfter : List Fields → Type 0
+  WritesAfter rest = (front : List Fields) (number before : ℕ) → number ≡ length front + 1 → number ≤ most + 1
       → AreGoodBefore read instant (front ++ rest) (length front) → IsBefore (front ++ rest) (length front) before
-      → Told (front ++ rest) (rows_from most read instant number before rest)
+      → Written (front ++ rest) (rows_from most read instant number before rest)
 
   -- what is reported for a text holds after any good records
-  told-behind-front : (rest : List Fields) → TellsBehind rest
-  told-behind-front [] front number before numbered few good last =
+  reported-following-front : (rest : List Fields) → WritesAfter rest
+  reported-following-front [] front number before numbered few good last =
       let whole : length (front ++ []) ≡ length front = ap length (append-nil front) in
       (omega (arith, whole, numbered, few), subst (λ n. AreGoodBefore read instant (front ++ []) n) (sym whole) good)
-  told-behind-front (fields ∷ rest) front number before numbered few good last = by_many (told-behind-front rest) (nat_lt most number) refl
+  reported-following-front (fields ∷ rest) front number before numbered few good last = by_many (reported-following-front rest) (nat_lt most number) refl
     where
       rows : List Fields
       rows = front ++ fields ∷ rest
 
       stands : slice_get rows (length front) ≡ Some fields
-      stands = slice_get_behind front fields rest (length front) refl
+      stands = slice_get_after front fields rest (length front) refl
 
       long : length rows ≡ length front + (length rest + 1)
       long = length-append front (fields ∷ rest) ∙ omega arith
 
-      next : TellsBehind rest → (row : A) → read fields ≡ Some row → before ≤ instant row → number ≤ most →
-          Told rows (rows_from most read instant (number + 1) (instant row) rest)
+      next : WritesAfter rest → (row : A) → read fields ≡ Some row → before ≤ instant row → number ≤ most →
+          Written rows (rows_from most read instant (number + 1) (instant row) rest)
       next again row means h within =
           let writes : Writes read rows (length front) row = record { fields = fields; stands = stands; means = means } in
           let here : IsGood read instant rows (length front) =
           record { row = row; writes = writes; in_order = in-order rows (length front) before row last h } in
           let moved : (front ++ fields ∷ []) ++ rest ≡ rows = append_assoc front (fields ∷ []) rest in
           let one : length (front ++ fields ∷ []) ≡ length front + 1 = length-append front (fields ∷ []) in
-          subst (λ all. Told all (rows_from most read instant (number + 1) (instant row) rest)) moved
+          subst (λ all. Written all (rows_from most read instant (number + 1) (instant row) rest)) moved
           (again (front ++ fields ∷ []) (number + 1) (instant row) (omega (arith, numbered, one)) (omega (arith, within))
           (subst (λ all. AreGoodBefore read instant all (length (front ++ fields ∷ []))) (sym moved)
           (subst (λ n. AreGoodBefore read instant rows n) (sym one) (good-more rows (length front) good here)))
@@ -112,7 +112,7 @@ module _ {A : Type 0} (most : ℕ) (read : Fields → Option A) (instant : A →
       back row means h within (inr last) =
           let here : length front ≡ last.k + 1 = sym last.next in
           record {
-            place = last.k;
+            index = last.k;
             numbered = omega (arith, numbered, here);
             few = within;
             good_before = subst (λ n. AreGoodBefore read instant rows n) here good;
@@ -123,20 +123,20 @@ module _ {A : Type 0} (most : ℕ) (read : Fields → Option A) (instant : A →
             goes_back = omega (arith, h, last.its);
           }
 
-      by_back : TellsBehind rest → (row : A) → read fields ≡ Some row → number ≤ most → (b : Bool) → nat_lt (instant row) before ≡ b
-          → Told rows (cond b (Err (OutOfOrder number)) (with_row row (rows_from most read instant (number + 1) (instant row) rest)))
+      by_back : WritesAfter rest → (row : A) → read fields ≡ Some row → number ≤ most → (b : Bool) → nat_lt (instant row) before ≡ b
+          → Written rows (cond b (Err (OutOfOrder number)) (with_row row (rows_from most read instant (number + 1) (instant row) rest)))
       by_back again row means within true e = back row means (grind (arith, nat_tests)) within last
       by_back again row means within false e =
-          told-behind rows row (rows_from most read instant (number + 1) (instant row) rest) (next again row means (grind (arith, nat_tests)) within)
+          reported-following rows row (rows_from most read instant (number + 1) (instant row) rest) (next again row means (grind (arith, nat_tests)) within)
 
-      by_row : TellsBehind rest → (o : Option A) → read fields ≡ o → number ≤ most →
-          Told rows (row_then instant number before o (λ last. rows_from most read instant (number + 1) last rest))
+      by_row : WritesAfter rest → (o : Option A) → read fields ≡ o → number ≤ most →
+          Written rows (row_then instant number before o (λ last. rows_from most read instant (number + 1) last rest))
       by_row again None means within =
-          record { place = length front; numbered = numbered; few = within; good_before = good; fields = fields; stands = stands; means_nothing = means }
+          record { index = length front; numbered = numbered; few = within; good_before = good; fields = fields; stands = stands; means_nothing = means }
       by_row again (Some row) means within = by_back again row means within (nat_lt (instant row) before) refl
 
-      by_many : TellsBehind rest → (b : Bool) → nat_lt most number ≡ b
-          → Told rows (cond b (Err TooMany) (row_then instant number before (read fields) (λ last. rows_from most read instant (number + 1) last rest)))
+      by_many : WritesAfter rest → (b : Bool) → nat_lt most number ≡ b
+          → Written rows (cond b (Err TooMany) (row_then instant number before (read fields) (λ last. rows_from most read instant (number + 1) last rest)))
       by_many again true e =
           let beyond : most < number = grind (arith, nat_tests) in
           record {
@@ -147,5 +147,5 @@ module _ {A : Type 0} (most : ℕ) (read : Fields → Option A) (instant : A →
       by_many again false e = by_row again (read fields) refl (grind (arith, nat_tests))
 
   -- the same for all records
-  pub tells-first : (rows : List Fields) → TellsFirst most read instant rows
-  tells-first rows = told-behind-front rows [] 1 0 refl (omega arith) (λ k below. absurd (omega (arith, below))) (inl (refl, refl))
+  pub reports-first : (rows : List Fields) → WritesFirst most read instant rows
+  reports-first rows = reported-following-front rows [] 1 0 refl (omega arith) (λ k below. absurd (omega (arith, below))) (inl (refl, refl))

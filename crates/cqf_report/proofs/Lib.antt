@@ -1,4 +1,4 @@
-pub mod Turns
+pub mod ActiveCycles
 pub mod FieldFacts
 pub mod TableLemmas
 pub mod LineLemmas
@@ -13,4 +13,4 @@ pub mod LinkLists
 pub mod LinkMost
 pub mod LinkLines
 pub mod LinkOrders
-pub mod SumsTold
+pub mod SumsWritten

@@ -10,8 +10,8 @@ use Rattle.cqf_report.specs.LinkSums.{link_fields, sums_fields}
 use Rattle.cqf_report.specs.Written.{line_of_fields}
 
 -- a line comes after those of the links before
-pub line_behind : (line : ℕ → List ℕ) (link : ℕ) (text : List ℕ) → text ≡ line link → each_below line link ++ text ≡ each_below line (link + 1)
-line_behind line link text is =
+pub line_after : (line : ℕ → List ℕ) (link : ℕ) (text : List ℕ) → text ≡ line link → each_below line link ++ text ≡ each_below line (link + 1)
+line_after line link text is =
     let next : suc link ≡ link + 1 = omega arith in
     ap (λ (t : List ℕ). each_below line link ++ t) is ∙ ap (λ (n : ℕ). each_below line n) next
 
@@ -26,5 +26,5 @@ pub one_line_more : (d : Domain) (starts : List Started) (link frames octets mos
     each_below (λ l. line_of_fields (link_fields d starts l)) link ++ line_of_fields (sums_fields (name_of_link d link) frames octets most)
     ≡ each_below (λ l. line_of_fields (link_fields d starts l)) (link + 1)
 one_line_more d starts link frames octets most is_frames is_octets is_most =
-    line_behind (λ l. line_of_fields (link_fields d starts l)) link (line_of_fields (sums_fields (name_of_link d link) frames octets most))
+    line_after (λ l. line_of_fields (link_fields d starts l)) link (line_of_fields (sums_fields (name_of_link d link) frames octets most))
     (same_sums (name_of_link d link) frames (frames_on link starts) octets (octets_on link starts) most (most_on link starts) is_frames is_octets is_most)

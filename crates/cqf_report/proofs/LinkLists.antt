@@ -12,11 +12,11 @@ use Rattle.cqf_model.specs.declared.frames.Started.{Started}
 use Rattle.cqf_model.specs.OnLinks.{frames_on, octets_on}
 use Rattle.cqf_report.specs.ByLink.{AreListsByLink, octets_listed}
 
-module _ (starts : List Started) (lists : List (Vec ℕ Global)) (link place : ℕ) (list d : Vec ℕ Global)
-    (by_link : AreListsByLink starts 65536 (lists_of lists)) (below : link < 65536) (at : place ≡ link) (there : list ≡ get_or lists place d) where
+module _ (starts : List Started) (lists : List (Vec ℕ Global)) (link index : ℕ) (list d : Vec ℕ Global)
+    (by_link : AreListsByLink starts 65536 (lists_of lists)) (below : link < 65536) (at : index ≡ link) (there : list ≡ get_or lists index d) where
   -- the list of a link has the octets of the starts on it
   listed : list.items ≡ octets_listed starts link
-  listed = list_there (octets_listed starts) 65536 lists link place list d by_link below at there
+  listed = list_there (octets_listed starts) 65536 lists link index list d by_link below at there
 
   -- so its length is the number of starts on the link
   pub listed_frames : length list.items ≡ frames_on link starts

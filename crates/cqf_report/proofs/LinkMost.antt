@@ -68,25 +68,25 @@ module _ (link cycle : ℕ) (batch later : List Started)
       ≡ octets_summed other in_cycle later
   octets_elsewhere other in_cycle elsewhere =
       let none : octets_summed other in_cycle batch ≡ 0 = octets_in-none other in_cycle batch (λ start among on_other in_other.
-      let place = same start among in elsewhere (sym on_other ∙ place.0) (sym in_other ∙ place.1)) in
+      let index = same start among in elsewhere (sym on_other ∙ index.0) (sym in_other ∙ index.1)) in
       omega (arith, octets_in-append other in_cycle batch later, none)
 
   -- so the most of its link is the batch's octets, or the most of those after it
   most_here : IsMost link (batch ++ later) (max (sum_by (λ (start : Started). start.octets) batch) (most_on link later))
   most_here =
       let octets = sum_by (λ (start : Started). start.octets) batch in
-      let behind = most_is_most link later in
+      let following = most_is_most link later in
       record {
         no_more = λ c. elim (cases_eq c cycle) [
           | inl e ↦
               let here : octets_summed link c (batch ++ later) ≡ octets = subst (λ (n : ℕ). octets_summed link n (batch ++ later) ≡ octets)
               (sym e) octets_here in
               omega (arith, here)
-          | inr differ ↦ omega (arith, octets_elsewhere link c (λ on in_cycle. differ in_cycle), behind.no_more c)
+          | inr differ ↦ omega (arith, octets_elsewhere link c (λ on in_cycle. differ in_cycle), following.no_more c)
         ];
         reached = elim (cases_lt octets (most_on link later)) [
           | inr more ↦ inr (cycle, omega (arith, octets_here, more))
-          | inl less ↦ elim behind.reached [
+          | inl less ↦ elim following.reached [
             | inl none ↦ absurd (omega (arith, none, less))
             | inr found ↦ elim (cases_eq found.0 cycle) [
               | inl e ↦
@@ -102,10 +102,10 @@ module _ (link cycle : ℕ) (batch later : List Started)
   -- the most of another link is that of those after the batch
   most_elsewhere : (other : ℕ) → (other ≡ link → ⊥) → IsMost other (batch ++ later) (most_on other later)
   most_elsewhere other differ =
-      let behind = most_is_most other later in
+      let following = most_is_most other later in
       record {
-        no_more = λ c. omega (arith, octets_elsewhere other c (λ on in_cycle. differ on), behind.no_more c);
-        reached = elim behind.reached [
+        no_more = λ c. omega (arith, octets_elsewhere other c (λ on in_cycle. differ on), following.no_more c);
+        reached = elim following.reached [
           | inl none ↦ inl none
           | inr found ↦ inr (found.0, omega (arith, octets_elsewhere other found.0 (λ on in_cycle. differ on), found.1))
         ];
@@ -153,8 +153,8 @@ module _ (rest batch later : List Started) (d : Started) (parts : rest ≡ batch
   pub of_batch : (start : Started) → Contains batch start → (start.link ≡ (get_or batch 0 d).link) × (start.cycle.0 ≡ (get_or batch 0 d).cycle.0)
   of_batch start among =
       let is : get_or batch among.0 d ≡ start = get_or_default batch among.0 d start among.1 ∙ among.2 in
-      let place = as_first among.0 among.1 in
-      (ap (λ (s : Started). s.link) (sym is) ∙ place.0, ap (λ (s : Started). s.cycle.0) (sym is) ∙ place.1)
+      let index = as_first among.0 among.1 in
+      (ap (λ (s : Started). s.link) (sym is) ∙ index.0, ap (λ (s : Started). s.cycle.0) (sym is) ∙ index.1)
 
   -- the start after the batch is of another batch
   next_differs : length batch < length rest → (get_or batch 0 d).link ≡ (get_or later 0 d).link →
@@ -162,17 +162,17 @@ module _ (rest batch later : List Started) (d : Started) (parts : rest ≡ batch
   next_differs more on in_cycle =
       let last : get_or rest (length batch - 1) d ≡ get_or batch (length batch - 1) d = at_batch (length batch - 1) (omega (arith, some)) in
       let next : get_or rest (length batch) d ≡ get_or later 0 d = ap (λ (k : ℕ). get_or rest k d) (omega arith) ∙ at_later 0 in
-      let place = as_first (length batch - 1) (omega (arith, some)) in
+      let index = as_first (length batch - 1) (omega (arith, some)) in
       let parted : are_of_one_batch (get_or batch (length batch - 1) d) (get_or later 0 d) ≡ false = rw (last, next) at (prefix.1 more d) in
-      false≢true (sym parted ∙ one_batch (get_or batch (length batch - 1) d) (get_or later 0 d) (place.0 ∙ on) (place.1 ∙ in_cycle))
+      false≢true (sym parted ∙ one_batch (get_or batch (length batch - 1) d) (get_or later 0 d) (index.0 ∙ on) (index.1 ∙ in_cycle))
 
   -- so is each later one
-  pub behind_batch : (start : Started) → Contains later start → start.link ≡ (get_or batch 0 d).link → start.cycle.0 ≡ (get_or batch 0 d).cycle.0 → ⊥
-  behind_batch start (zero, inside, is) on in_cycle =
+  pub after_batch : (start : Started) → Contains later start → start.link ≡ (get_or batch 0 d).link → start.cycle.0 ≡ (get_or batch 0 d).cycle.0 → ⊥
+  after_batch start (zero, inside, is) on in_cycle =
       let whole : length rest ≡ length batch + length later = ap length parts ∙ length-append batch later in
       let next : get_or later 0 d ≡ start = get_or_default later 0 d start inside ∙ is in
       next_differs (omega (arith, whole, inside)) (sym on ∙ ap (λ (s : Started). s.link) (sym next)) (sym in_cycle ∙ ap (λ (s : Started). s.cycle.0) (sym next))
-  behind_batch start (suc k, inside, is) on in_cycle =
+  after_batch start (suc k, inside, is) on in_cycle =
       let whole : length rest ≡ length batch + length later = ap length parts ∙ length-append batch later in
       let first : get_or rest 0 d ≡ get_or batch 0 d = at_batch 0 some in
       let next : get_or rest (length batch + 0) d ≡ get_or later 0 d = at_later 0 in
@@ -181,8 +181,8 @@ module _ (rest batch later : List Started) (d : Started) (parts : rest ≡ batch
       rw (first, next) at (ordered 0 (length batch + 0) d (omega (arith, some)) (omega (arith, whole, inside))) in
       let after : IsBefore (get_or later 0 d) start =
       rw (next, at) at (ordered (length batch + 0) (length batch + suc k) d (omega arith) (omega (arith, whole, inside))) in
-      let place = between (get_or batch 0 d) (get_or later 0 d) start before after on in_cycle in
-      next_differs (omega (arith, whole, inside)) place.0 place.1
+      let index = between (get_or batch 0 d) (get_or later 0 d) start before after on in_cycle in
+      next_differs (omega (arith, whole, inside)) index.0 index.1
 
 -- for each link: its most so far and the most of the rest give the most of all
 pub record AreMostSoFar (starts rest : List Started) (most : List ℕ) : Type 0 where
@@ -212,7 +212,7 @@ more_most starts rest batch later most d octets parts some prefix sums before =
     let link = (get_or batch 0 d).link in
     let cycle = (get_or batch 0 d).cycle.0 in
     let same = of_batch rest batch later d parts some before.ordered prefix in
-    let apart = behind_batch rest batch later d parts some before.ordered prefix in
+    let apart = after_batch rest batch later d parts some before.ordered prefix in
     record {
       each_link = length-set most link (max (slice_index most link) octets) ∙ before.each_link;
       ordered = pairs_second IsBefore batch later (subst (λ (xs : List Started). AreSumsInOrder xs) parts before.ordered);
@@ -225,10 +225,10 @@ more_most starts rest batch later most d octets parts some prefix sums before =
             ap (most_on link) parts
             ∙ most_is_one link (batch ++ later) (most_on link (batch ++ later)) (max (sum_by (λ (start : Started). start.octets) batch) (most_on link later))
             (most_is_most link (batch ++ later)) (most_here link cycle batch later same apart) in
-            let behind : most_on k later ≡ most_on link later = ap (λ (l : ℕ). most_on l later) e in
+            let following : most_on k later ≡ most_on link later = ap (λ (l : ℕ). most_on l later) e in
             let all : most_on k starts ≡ most_on link starts = ap (λ (l : ℕ). most_on l starts) e in
             let so_far : max (slice_index most link) (most_on link rest) ≡ most_on link starts = before.with_rest link (omega (arith, below, e)) in
-            omega (arith, raised, here, behind, all, so_far, sums)
+            omega (arith, raised, here, following, all, so_far, sums)
         | inr differ ↦
             let kept : slice_index (slice_set most link (max (slice_index most link) octets)) k ≡ slice_index most k =
             get_or-set_other most link k (max (slice_index most link) octets) 0 differ in

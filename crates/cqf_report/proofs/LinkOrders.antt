@@ -9,7 +9,7 @@ use Rattle.cqf_model.specs.Book.{Contents, IsBook, batch, started, starts_in, st
 use Rattle.cqf_model.specs.Domain.{Domain}
 use Rattle.cqf_model.specs.GateList.{Entry}
 use Rattle.cqf_model.specs.Run.{Run}
-use Rattle.cqf_model.specs.Traffic.{Carried}
+use Rattle.cqf_model.specs.Policing.{Carried}
 use Rattle.cqf_report.specs.LinkSums.{AreSumsInOrder, IsBefore}
 
 module _ (d : Domain) (carried : Carried) where

@@ -14,10 +14,10 @@ use Rattle.cqf_text.specs.Decimal.{decimal_in}
 use Rattle.cqf_units.specs.Name.{is_name}
 
 -- a node that is a bridge was found among the bridges
-bridge-place : (o s : Option ℕ) (b : ℕ) → as_bridge (node_or o s) ≡ Some b → o ≡ Some b
-bridge-place None None b e = cc
-bridge-place None (Some s) b e = cc
-bridge-place (Some a) s b e = e
+bridge-index : (o s : Option ℕ) (b : ℕ) → as_bridge (node_or o s) ≡ Some b → o ≡ Some b
+bridge-index None None b e = cc
+bridge-index None (Some s) b e = cc
+bridge-index (Some a) s b e = e
 
 -- a bridge that is found by name is one of the domain's
 bridge-inside : (d : Domain) (name : List ℕ) (b : ℕ) → bridge_named d name ≡ Some b → b < length d.bridges
@@ -26,7 +26,7 @@ bridge-inside d name b e = by (is_name name) e
     -- a bridge that is found is one of the domain's, whether the text is a name or not
     by : (test : Bool) → (if test then as_bridge (node_named d name) else None) ≡ Some b → b < length d.bridges
     by true e = (position-Some (λ (other : List ℕ). is_text other name) d.bridges b []
-        (bridge-place (position (λ other. is_text other name) d.bridges) (position (λ other. is_text other name) d.stations) b e)).0
+        (bridge-index (position (λ other. is_text other name) d.bridges) (position (λ other. is_text other name) d.stations) b e)).0
     by false e = cc
 
 -- an offer with these parts may be given to a run

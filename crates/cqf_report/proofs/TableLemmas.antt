@@ -42,25 +42,25 @@ rows_from-too_many most read instant number before fields rest many =
     rw beyond refl
 
 -- the rows that were taken, followed by the others
-abbrev pub behind : {A : Type 0} → List A → Result (List A) TableFault → Result (List A) TableFault
-behind [] others = others
-behind (row ∷ rows) others = with_row row (behind rows others)
+abbrev pub following : {A : Type 0} → List A → Result (List A) TableFault → Result (List A) TableFault
+following [] others = others
+following (row ∷ rows) others = with_row row (following rows others)
 
 -- one more row before what is read
-pub behind-more : {A : Type 0} (rows : List A) (row : A) (others : Result (List A) TableFault) →
-    behind (rows ++ row ∷ []) others ≡ behind rows (with_row row others)
-behind-more [] row others = refl
-behind-more (first ∷ rows) row others = ap (λ r. with_row first r) (behind-more rows row others)
+pub following-more : {A : Type 0} (rows : List A) (row : A) (others : Result (List A) TableFault) →
+    following (rows ++ row ∷ []) others ≡ following rows (with_row row others)
+following-more [] row others = refl
+following-more (first ∷ rows) row others = ap (λ r. with_row first r) (following-more rows row others)
 
 -- rows followed by rows
-pub behind-ok : {A : Type 0} (rows others : List A) → behind rows (Ok others) ≡ Ok (rows ++ others)
-behind-ok [] others = refl
-behind-ok (first ∷ rows) others = ap (λ r. with_row first r) (behind-ok rows others)
+pub following-ok : {A : Type 0} (rows others : List A) → following rows (Ok others) ≡ Ok (rows ++ others)
+following-ok [] others = refl
+following-ok (first ∷ rows) others = ap (λ r. with_row first r) (following-ok rows others)
 
 -- a fault after rows is the fault
-pub behind-err : {A : Type 0} (rows : List A) (fault : TableFault) → behind rows (Err fault) ≡ Err fault
-behind-err [] fault = refl
-behind-err (first ∷ rows) fault = ap (λ r. with_row first r) (behind-err rows fault)
+pub following-err : {A : Type 0} (rows : List A) (fault : TableFault) → following rows (Err fault) ≡ Err fault
+following-err [] fault = refl
+following-err (first ∷ rows) fault = ap (λ r. with_row first r) (following-err rows fault)
 
 -- a row that was taken and writes nothing is the first fault
 pub next-bad : {A R : Type 0} (most : ℕ) (columns : ℕ) (read : Fields → Option A) (instant : A → ℕ) (remaining : R → Option (List ℕ)) (number before : ℕ) (fields : Fields)
@@ -104,7 +104,7 @@ next-good most columns read instant remaining number before fields rows after ro
 abbrev pub Taken : {A R : Type 0} → ℕ → ℕ → (Fields → Option A) → (A → ℕ) → (R → Option (List ℕ)) → Reader R → ℕ → ℕ → List A → Reader R → Type 0
 Taken most columns read instant remaining first number before taken after = (rows : List Fields) → StillGives remaining (Some columns) first rows
     → (rest : List Fields) × StillGives remaining (Some columns) after rest
-    × (rows_from most read instant 1 0 rows ≡ behind taken (rows_from most read instant number before rest))
+    × (rows_from most read instant 1 0 rows ≡ following taken (rows_from most read instant number before rest))
 
 -- if the reader returns no further row, the table has the rows that were taken
 pub taken-end : {A R : Type 0} (most : ℕ) (columns : ℕ) (read : Fields → Option A) (instant : A → ℕ) (remaining : R → Option (List ℕ)) (first : Reader R)
@@ -114,7 +114,7 @@ pub taken-end : {A R : Type 0} (most : ℕ) (columns : ℕ) (read : Fields → O
 taken-end most columns read instant remaining first number before taken after so_far none rows gives =
     let (rest, still, is) = so_far rows gives in
     let ended : rows_from most read instant number before rest ≡ Ok [] = rw (none rest still) refl in
-    is ∙ ap (behind taken) ended ∙ behind-ok taken [] ∙ ap Ok (append-nil taken)
+    is ∙ ap (following taken) ended ∙ following-ok taken [] ∙ ap Ok (append-nil taken)
 
 -- if the next row has a fault, it is the table's fault
 pub taken-fault : {A R : Type 0} (most : ℕ) (columns : ℕ) (read : Fields → Option A) (instant : A → ℕ) (remaining : R → Option (List ℕ)) (first : Reader R)
@@ -124,7 +124,7 @@ pub taken-fault : {A R : Type 0} (most : ℕ) (columns : ℕ) (read : Fields →
     → (rows : List Fields) → StillGives remaining (Some columns) first rows → rows_from most read instant 1 0 rows ≡ Err fault
 taken-fault most columns read instant remaining first number before taken after fault so_far bad rows gives =
     let (rest, still, is) = so_far rows gives in
-    is ∙ ap (behind taken) (bad rest still) ∙ behind-err taken fault
+    is ∙ ap (following taken) (bad rest still) ∙ following-err taken fault
 
 -- one more row was taken
 pub taken-more : {A R : Type 0} (most : ℕ) (columns : ℕ) (read : Fields → Option A) (instant : A → ℕ) (remaining : R → Option (List ℕ)) (first : Reader R)
@@ -136,7 +136,7 @@ pub taken-more : {A R : Type 0} (most : ℕ) (columns : ℕ) (read : Fields → 
 taken-more most columns read instant remaining first number before taken after next row so_far goes rows gives =
     let (rest, still, is) = so_far rows gives in
     let (more, on, follows) = goes rest still in
-    (more, on, is ∙ ap (behind taken) follows ∙ sym (behind-more taken row (rows_from most read instant (number + 1) (instant row) more)))
+    (more, on, is ∙ ap (following taken) follows ∙ sym (following-more taken row (rows_from most read instant (number + 1) (instant row) more)))
 
 -- a row beyond the most that a table may have
 pub next-beyond : {A : Type 0} (most : ℕ) (read : Fields → Option A) (instant : A → ℕ) (number before : ℕ) (fields : Fields) (rest rows : List Fields)

@@ -11,7 +11,7 @@ pub mod TableLaws
 pub mod HistoryText
 pub mod LinkSums
 pub mod Columns
-pub mod SumsTold
+pub mod SumsWritten
 -- properties of the internal functions
 pub mod CallTexts
 pub mod OtherColumns

@@ -26,9 +26,9 @@ pub record StillGives {R : Type 0} (remaining : R → Option (List ℕ)) (expect
   pub between : ends_at_end (reader_state reader) ≡ false
   pub unread : List ℕ
   pub source : source_of remaining reader ≡ Some unread
-  pub turns : ℕ
-  pub enough : length unread < turns
-  pub gives : rows ≡ records_from default_config turns (reader_state reader) unread
+  pub active_cycles : ℕ
+  pub enough : length unread < active_cycles
+  pub gives : rows ≡ records_from default_config active_cycles (reader_state reader) unread
 
 -- the first of the rows was taken and has the expected number of fields, if any; the reader still returns the others
 pub record TakesRow {R : Type 0} (remaining : R → Option (List ℕ)) (expected : Option ℕ) (after : Reader R) (fields : Fields)

@@ -11,41 +11,41 @@ use Rattle.cqf_report.specs.declared.tables.TableFault.{TableFault}
 use Rattle.cqf_report.specs.declared.tables.TableFault.TheVariants.{BadHeader, TooMany, BadRow, OutOfOrder, Memory}
 
 -- the record at this index writes this row
-pub record Writes {A : Type 0} (read : Fields → Option A) (rows : List Fields) (place : ℕ) (row : A) : Type 0 where
+pub record Writes {A : Type 0} (read : Fields → Option A) (rows : List Fields) (index : ℕ) (row : A) : Type 0 where
   pub fields : Fields
-  pub stands : slice_get rows place ≡ Some fields
+  pub stands : slice_get rows index ≡ Some fields
   pub means : read fields ≡ Some row
 
 -- the record at this index writes a row that isn't before the row of the record before it
-pub record IsGood {A : Type 0} (read : Fields → Option A) (instant : A → ℕ) (rows : List Fields) (place : ℕ) : Type 0 where
+pub record IsGood {A : Type 0} (read : Fields → Option A) (instant : A → ℕ) (rows : List Fields) (index : ℕ) : Type 0 where
   pub row : A
-  pub writes : Writes read rows place row
-  pub in_order : (k : ℕ) (earlier : A) → k + 1 ≡ place → Writes read rows k earlier → instant earlier ≤ instant row
+  pub writes : Writes read rows index row
+  pub in_order : (k : ℕ) (earlier : A) → k + 1 ≡ index → Writes read rows k earlier → instant earlier ≤ instant row
 
 -- each record before this index is good
 abbrev pub AreGoodBefore : {A : Type 0} → (Fields → Option A) → (A → ℕ) → List Fields → ℕ → Type 0
-AreGoodBefore read instant rows place = (k : ℕ) → k < place → IsGood read instant rows k
+AreGoodBefore read instant rows index = (k : ℕ) → k < index → IsGood read instant rows k
 
 -- the record with this number is the first that isn't good, and it writes no row
 pub record IsFirstBad {A : Type 0} (most : ℕ) (read : Fields → Option A) (instant : A → ℕ) (rows : List Fields) (number : ℕ) : Type 0 where
-  pub place : ℕ
-  pub numbered : number ≡ place + 1
+  pub index : ℕ
+  pub numbered : number ≡ index + 1
   pub few : number ≤ most
-  pub good_before : AreGoodBefore read instant rows place
+  pub good_before : AreGoodBefore read instant rows index
   pub fields : Fields
-  pub stands : slice_get rows place ≡ Some fields
+  pub stands : slice_get rows index ≡ Some fields
   pub means_nothing : read fields ≡ None
 
 -- the record with this number is the first that isn't good, and it writes a row before that of the previous record
 pub record IsFirstBack {A : Type 0} (most : ℕ) (read : Fields → Option A) (instant : A → ℕ) (rows : List Fields) (number : ℕ) : Type 0 where
-  pub place : ℕ
-  pub numbered : number ≡ place + 2
+  pub index : ℕ
+  pub numbered : number ≡ index + 2
   pub few : number ≤ most
-  pub good_before : AreGoodBefore read instant rows (place + 1)
+  pub good_before : AreGoodBefore read instant rows (index + 1)
   pub row : A
   pub earlier : A
-  pub writes : Writes read rows (place + 1) row
-  pub writes_earlier : Writes read rows place earlier
+  pub writes : Writes read rows (index + 1) row
+  pub writes_earlier : Writes read rows index earlier
   pub goes_back : instant row < instant earlier
 
 -- there are more than `most` records, and the first `most` are good
@@ -62,8 +62,8 @@ IsFirstFault most read instant rows (OutOfOrder number) = IsFirstBack most read 
 IsFirstFault most read instant rows Memory = ⊥
 
 -- if there are at most `most` records and each is good, they are read; otherwise their first fault is reported
-abbrev pub TellsFirst : {A : Type 0} → ℕ → (Fields → Option A) → (A → ℕ) → List Fields → Type 0
-TellsFirst most read instant rows = MatchResult (rows_from most read instant 1 0 rows)
+abbrev pub WritesFirst : {A : Type 0} → ℕ → (Fields → Option A) → (A → ℕ) → List Fields → Type 0
+WritesFirst most read instant rows = MatchResult (rows_from most read instant 1 0 rows)
     (λ items. (length rows ≤ most) × AreGoodBefore read instant rows (length rows))
     (λ fault. IsFirstFault most read instant rows fault)
 

@@ -7,7 +7,7 @@ ghost use Rattle.cqf_report.specs.Books.{book_header, dropped_fields, lines_of_d
 ghost use Rattle.cqf_report.specs.Written.{IsPlain, line_of_fields};
 
 use cqf_model::{Book, Dropped, Reason, Started};
-use cqf_output::{Buffer, Sink, Told, Writer, told_text};
+use cqf_output::{Buffer, CheckedSink, Sink, Writer, written_text};
 use cqf_topology::{Domain, put_bridge, put_link};
 use cqf_units::Memory;
 use std::alloc::Global;
@@ -109,9 +109,9 @@ pub fn put_book<W: Sink>(writer: &mut Writer<'_, W>, domain: &Domain, book: &Boo
 pub fn write_book(alloc: Global, domain: &Domain, book: &Book) -> Result<Vec<u8>, Memory>
     ensures { IfOk result (λ text. text.items ≡ text_of_book domain.now (contents_of book.now)) }
 {
-    let mut told = Told::new(Vec::new(alloc));
-    let mut writer = Writer::new(&mut told, Buffer::new(alloc)?);
+    let mut reported = CheckedSink::new(Vec::new(alloc));
+    let mut writer = Writer::new(&mut reported, Buffer::new(alloc)?);
     put_book(&mut writer, domain, book);
-    let _told = writer.close();
-    told_text(told)
+    let _written = writer.close();
+    written_text(reported)
 }

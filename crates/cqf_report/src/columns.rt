@@ -5,7 +5,7 @@ ghost use Rattle.cqf_report.specs.Columns.{columns_text};
 
 use crate::links::{FrameSums, put_header, put_sums, sum_of};
 use cqf_laws_coverage::Column;
-use cqf_output::{Buffer, Told, Writer, told_text};
+use cqf_output::{Buffer, CheckedSink, Writer, written_text};
 use cqf_topology::Domain;
 use cqf_units::Memory;
 use std::alloc::Global;
@@ -33,8 +33,8 @@ pub fn write_columns(
     requires { length columns.now ≡ length domain.now.links }
     ensures { IfOk result (λ text. text.items ≡ columns_text domain.now (frames_by columns.now) (octets_by columns.now)) }
 {
-    let mut told = Told::new(Vec::new(alloc));
-    let mut writer = Writer::new(&mut told, Buffer::new(alloc)?);
+    let mut reported = CheckedSink::new(Vec::new(alloc));
+    let mut writer = Writer::new(&mut reported, Buffer::new(alloc)?);
     put_header(&mut writer);
     for link in 0..domain.links() {
         let column = &columns[usize::from(link)];
@@ -45,6 +45,6 @@ pub fn write_columns(
         };
         put_sums(&mut writer, domain, link, sums, u128::from(most_of(listed)));
     }
-    let _told = writer.close();
-    told_text(told)
+    let _written = writer.close();
+    written_text(reported)
 }

@@ -9,7 +9,7 @@ ghost use Rattle.cqf_report.specs.CallTexts.{named_text};
 
 use cqf_admission::{Call, Entry};
 use cqf_model::{Receipt, Refused, Reply};
-use cqf_output::{Buffer, Sink, Told, Writer, told_text};
+use cqf_output::{Buffer, CheckedSink, Sink, Writer, written_text};
 use cqf_units::Memory;
 use std::alloc::Global;
 
@@ -38,9 +38,9 @@ fn put_refusal<W: Sink>(writer: &mut Writer<'_, W>, refused: Refused)
     match refused {
         Refused::BadName => writer.put(b"BadName"),
         Refused::BadOctets => writer.put(b"BadOctets"),
-        Refused::UnknownNode(place) => put_numbered(writer, b"UnknownNode ", place),
-        Refused::BrokenPath(place) => put_numbered(writer, b"BrokenPath ", place),
-        Refused::LoopingPath(place) => put_numbered(writer, b"LoopingPath ", place),
+        Refused::UnknownNode(index) => put_numbered(writer, b"UnknownNode ", index),
+        Refused::BrokenPath(index) => put_numbered(writer, b"BrokenPath ", index),
+        Refused::LoopingPath(index) => put_numbered(writer, b"LoopingPath ", index),
         Refused::NotATree(branch) => put_numbered(writer, b"NotATree ", branch),
         Refused::NameHeld => writer.put(b"NameHeld"),
         Refused::TooManyHops => writer.put(b"TooManyHops"),
@@ -158,9 +158,9 @@ pub fn put_history<W: Sink>(writer: &mut Writer<'_, W>, entries: &[Entry])
 pub fn write_history(alloc: Global, entries: &[Entry]) -> Result<Vec<u8>, Memory>
     ensures { IfOk result (λ text. text.items ≡ history_text (map recorded_of entries.now)) }
 {
-    let mut told = Told::new(Vec::new(alloc));
-    let mut writer = Writer::new(&mut told, Buffer::new(alloc)?);
+    let mut reported = CheckedSink::new(Vec::new(alloc));
+    let mut writer = Writer::new(&mut reported, Buffer::new(alloc)?);
     put_history(&mut writer, entries);
-    let _told = writer.close();
-    told_text(told)
+    let _written = writer.close();
+    written_text(reported)
 }

@@ -35,16 +35,18 @@ mod records;
 mod rows;
 mod starts;
 mod tables;
-mod told_logs;
+mod written_logs;
 
 pub use arrivals::read_arrivals;
 pub use background::read_background;
 pub use books::{put_book_header, put_drops, put_starts, reason_name, write_book};
 pub use columns::write_columns;
 pub use history::{put_history, write_history};
-pub use laws::{books_are_in_order, first_fault_is_told, offers_are_read_in_order, report_is_told};
+pub use laws::{
+    books_are_in_order, first_fault_is_written, offers_are_read_in_order, report_is_written,
+};
 pub use links::write_links;
 pub use offers::read_offers;
 pub use starts::{put_port_header, put_port_start, write_starts};
 pub use tables::{OfferFault, TableFault};
-pub use told_logs::put_log;
+pub use written_logs::put_log;

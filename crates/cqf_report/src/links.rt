@@ -14,7 +14,7 @@ ghost use Rattle.cqf_report.specs.LinkSums.{AreSumsInOrder, are_of_one_batch, li
 
 use cqf_lanes::octet_sum;
 use cqf_model::{Book, Started};
-use cqf_output::{Buffer, Sink, Told, Writer, told_text};
+use cqf_output::{Buffer, CheckedSink, Sink, Writer, written_text};
 use cqf_topology::{Domain, put_link};
 use cqf_units::Memory;
 use rayon::prelude::*;
@@ -133,8 +133,8 @@ fn raise(most: &mut Vec<u128>, link: u16, octets: u128)
     requires { length most.old.items ≡ 65536 }
     ensures { most.new.items ≡ slice_set most.old.items link (max (slice_index most.old.items link) octets) }
 {
-    let place = usize::from(link);
-    most[place] = most[place].max(octets);
+    let index = usize::from(link);
+    most[index] = most[index].max(octets);
 }
 
 /// Returns a list of zeros.
@@ -208,13 +208,13 @@ pub fn write_links(
     let starts = book.starts.as_slice();
     let most = most_by_link(alloc, starts)?;
     let by_link = octets_by_link(alloc, starts)?;
-    let mut told = Told::new(Vec::new(alloc));
-    let mut writer = Writer::new(&mut told, Buffer::new(alloc)?);
+    let mut reported = CheckedSink::new(Vec::new(alloc));
+    let mut writer = Writer::new(&mut reported, Buffer::new(alloc)?);
     put_header(&mut writer);
     for link in 0..domain.links() {
         let sums = sums_of_link(rt, by_link.as_slice(), link);
         put_sums(&mut writer, domain, link, sums, most[usize::from(link)]);
     }
-    let _told = writer.close();
-    told_text(told)
+    let _written = writer.close();
+    written_text(reported)
 }

@@ -111,8 +111,8 @@ fn read_rows<F: RowFormat, R: Read>(
 {
     let mut rows = Vec::new(alloc);
     let mut before = Nanos(0);
-    for place in 0..most {
-        let Some(row) = next_row(format, reader, fields, most, place + 1, before)? else {
+    for index in 0..most {
+        let Some(row) = next_row(format, reader, fields, most, index + 1, before)? else {
             return Ok(rows);
         };
         before = F::instant(&row);

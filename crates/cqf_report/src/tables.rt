@@ -43,7 +43,7 @@ impl From<Memory> for TableFault {
     }
 }
 
-/// Converts a failed allocation for a value likewise.
+/// Converts a failed allocation of a value into a fault.
 impl<T: Drop> From<AllocFailed<T>> for TableFault {
     ghost use Rattle.cqf_report.specs.declared.tables.TableFault.TheVariants as variant;
 

@@ -58,7 +58,7 @@ fn is_refused(text: &[u8], fault: TextFault) -> bool {
 }
 
 #[test]
-fn lists_are_read_and_written_or_their_first_fault_is_told(rt: HostRuntime) {
+fn lists_are_read_and_written_or_their_first_fault_is_reported(rt: HostRuntime) {
     for (text, entries, wanted) in READ {
         assert!(rt; is_read(rt.alloc(), text, entries, wanted));
     }

@@ -25,17 +25,17 @@ fn row_of(alloc: Global, no: u32, pace: Pace) -> Option<Row> {
     let hops = [
         Hop {
             link: 0,
-            depth: 1,
+            hop_number: 1,
             from: None,
         },
         Hop {
             link: 1,
-            depth: 2,
+            hop_number: 2,
             from: Some(0),
         },
         Hop {
             link: 2,
-            depth: 3,
+            hop_number: 3,
             from: Some(1),
         },
     ];
@@ -47,6 +47,7 @@ fn row_of(alloc: Global, no: u32, pace: Pace) -> Option<Row> {
             no,
             name,
             octets: 1500,
+            overhead: 0,
             pace,
             tree,
             admitted: Cycle(0),
@@ -125,7 +126,7 @@ fn a_stream_passes_at_the_edge_in_its_own_cycles_alone(rt: HostRuntime) {
 }
 
 /// After link 0, of hop number 1.
-const BEHIND_THE_FIRST: &[Frame] = &[
+const AFTER_THE_FIRST: &[Frame] = &[
     (Some(0), 1, 1500, None),
     (Some(0), 2, 1500, Some(6)),
     (Some(0), 3, 1500, None),
@@ -136,7 +137,7 @@ const BEHIND_THE_FIRST: &[Frame] = &[
 ];
 
 /// After link 1, of hop number 2.
-const BEHIND_THE_SECOND: &[Frame] = &[
+const AFTER_THE_SECOND: &[Frame] = &[
     (Some(1), 2, 1500, None),
     (Some(1), 3, 1500, Some(7)),
     (Some(1), 4, 1500, None),
@@ -145,9 +146,9 @@ const BEHIND_THE_SECOND: &[Frame] = &[
 ];
 
 #[test]
-fn behind_links_it_passes_as_many_cycles_later_as_they_are_deep(rt: HostRuntime) {
-    assert!(rt; all_pass_so(rt.alloc(), SECOND_OF_FOUR, BEHIND_THE_FIRST));
-    assert!(rt; all_pass_so(rt.alloc(), SECOND_OF_FOUR, BEHIND_THE_SECOND));
+fn after_links_it_passes_as_many_cycles_later_as_they_are_deep(rt: HostRuntime) {
+    assert!(rt; all_pass_so(rt.alloc(), SECOND_OF_FOUR, AFTER_THE_FIRST));
+    assert!(rt; all_pass_so(rt.alloc(), SECOND_OF_FOUR, AFTER_THE_SECOND));
 }
 
 /// Phase and hop number together are a whole period, so after link 0 the own cycles are 0, 5 and 10.
@@ -196,7 +197,7 @@ fn a_stream_of_each_cycle_passes_in_each_however_deep(rt: HostRuntime) {
 
 /// What passed by one row counts for another row of the number in the same cycle; the next cycle is counted anew.
 #[test]
-fn another_pace_behind_one_counts_on_in_the_cycle_and_begins_anew_in_the_next(rt: HostRuntime) {
+fn another_pace_after_one_counts_on_in_the_cycle_and_begins_anew_in_the_next(rt: HostRuntime) {
     let first: &[Frame] = &[(None, 1, 1000, Some(7))];
     let then: &[Frame] = &[
         (None, 1, 501, None),

@@ -14,11 +14,11 @@ const BITS: &[u32] = &[0, 31, 32, 63];
 /// Appends costs and masks that are spread over their ranges, and gate states that are open except for class 3 at index 70.
 fn spread(costs: &mut Vec<u32>, masks: &mut Vec<u64>, states: &mut Vec<u8>) -> bool {
     let mut number: u64 = 1;
-    for place in 0..2 * LONGEST + 1 {
+    for index in 0..2 * LONGEST + 1 {
         number = number
             .wrapping_mul(6_364_136_223_846_793_005)
             .wrapping_add(1);
-        let state = if place == LONGEST { 0xF7 } else { 0xFF };
+        let state = if index == LONGEST { 0xF7 } else { 0xFF };
         if costs.push((number >> 32) as u32).is_err()
             || masks.push(number ^ (number >> 31)).is_err()
             || states.push(state).is_err()

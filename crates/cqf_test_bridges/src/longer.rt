@@ -11,20 +11,20 @@ use std::alloc::Global;
 
 /// Returns the expected starts in a cycle. Each link that frames have reached starts the frame that was offered as many cycles before as
 /// the link's hop number. The frame's number is 1, since it is the only offer of its list.
-fn told_in(alloc: Global, cycle: u32) -> Result<Vec<Start>, Memory> {
-    let mut told = Vec::new(alloc);
+fn reported_in(alloc: Global, cycle: u32) -> Result<Vec<Start>, Memory> {
+    let mut reported = Vec::new(alloc);
     for link in 0..3u16 {
         if cycle > u32::from(link) {
-            told.push((cycle, link, 1, 64, u64::from(cycle) * 125_000))?;
+            reported.push((cycle, link, 1, 64, u64::from(cycle) * 125_000))?;
         }
     }
-    Ok(told)
+    Ok(reported)
 }
 
 /// Returns whether the bridges go through the cycle of a table with these starts and no drops.
 fn go_on(alloc: Global, bridges: &mut Vec<Bridge>, table: &Table) -> bool {
     let cycle = table.cycle().0;
-    let Ok(told) = told_in(alloc, cycle) else {
+    let Ok(reported) = reported_in(alloc, cycle) else {
         return false;
     };
     let Ok(offers) = offers_of(alloc, &[(u64::from(cycle) * 125_000, 0, "x", 64)]) else {
@@ -40,9 +40,9 @@ fn go_on(alloc: Global, bridges: &mut Vec<Bridge>, table: &Table) -> bool {
         bridges,
         table,
         &traffic,
-        told.as_slice(),
+        reported.as_slice(),
         &mut written,
-    ) && written.starts.as_slice() == told.as_slice()
+    ) && written.starts.as_slice() == reported.as_slice()
         && written.others.is_empty()
         && written.drops.is_empty()
 }

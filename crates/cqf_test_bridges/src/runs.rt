@@ -32,7 +32,7 @@ pub(crate) struct Traffic<'a> {
 }
 
 /// The expected book of a run: starts of streams' frames and of background frames by cycle, then bridge, then link, and drops.
-struct Told {
+struct Reported {
     starts: &'static [Start],
     others: &'static [Start],
     drops: &'static [Drop],
@@ -58,7 +58,7 @@ impl Written {
 }
 
 /// Returns the octets that start on a batch's link in its cycle, in a book.
-fn octets_told(starts: &[Start], batch: &Batch) -> u64 {
+fn octets_reported(starts: &[Start], batch: &Batch) -> u64 {
     let mut sum: u64 = 0;
     for start in starts {
         if start.0 == batch.cycle().0 && start.1 == batch.link() {
@@ -70,8 +70,8 @@ fn octets_told(starts: &[Start], batch: &Batch) -> u64 {
 
 /// Writes the frames of a batch.
 fn write_batch(batch: &Batch, starts: &mut Vec<Start>) -> Result<(), Memory> {
-    for place in 0..batch.len() {
-        let sent = batch.get(place);
+    for index in 0..batch.len() {
+        let sent = batch.get(index);
         starts.push((
             batch.cycle().0,
             batch.link(),
@@ -84,9 +84,11 @@ fn write_batch(batch: &Batch, starts: &mut Vec<Start>) -> Result<(), Memory> {
 }
 
 /// Writes the frames of the batches of a cycle. Returns whether each batch has the octets of the expected book.
-fn write_batches(batches: &[Batch], told: &[Start], starts: &mut Vec<Start>) -> bool {
+fn write_batches(batches: &[Batch], reported: &[Start], starts: &mut Vec<Start>) -> bool {
     for batch in batches {
-        if batch.octets() != octets_told(told, batch) || write_batch(batch, starts).is_err() {
+        if batch.octets() != octets_reported(reported, batch)
+            || write_batch(batch, starts).is_err()
+        {
             return false;
         }
     }
@@ -182,7 +184,7 @@ pub(crate) fn go_through(
     bridges: &mut Vec<Bridge>,
     table: &Table,
     traffic: &Traffic<'_>,
-    told: &[Start],
+    reported: &[Start],
     written: &mut Written,
 ) -> bool {
     let cycle = table.cycle();
@@ -197,7 +199,7 @@ pub(crate) fn go_through(
         traffic.background,
         &mut batches,
         &mut written.others,
-    ) && write_batches(batches.as_slice(), told, &mut written.starts)
+    ) && write_batches(batches.as_slice(), reported, &mut written.starts)
         && receive_all(
             alloc,
             bridges,
@@ -214,11 +216,11 @@ fn go_through_all(
     bridges: &mut Vec<Bridge>,
     tables: &[Table],
     traffic: &Traffic<'_>,
-    told: &[Start],
+    reported: &[Start],
     written: &mut Written,
 ) -> bool {
     for table in tables {
-        if !go_through(alloc, bridges, table, traffic, told, written) {
+        if !go_through(alloc, bridges, table, traffic, reported, written) {
             return false;
         }
     }
@@ -240,17 +242,23 @@ fn has_book(
     bridges: &mut Vec<Bridge>,
     tables: &[Table],
     traffic: &Traffic<'_>,
-    told: &Told,
+    reported: &Reported,
 ) -> bool {
     let mut written = Written::new(alloc);
-    go_through_all(alloc, bridges, tables, traffic, told.starts, &mut written)
-        && written.starts.as_slice() == told.starts
-        && written.others.as_slice() == told.others
-        && written.drops.as_slice() == told.drops
+    go_through_all(
+        alloc,
+        bridges,
+        tables,
+        traffic,
+        reported.starts,
+        &mut written,
+    ) && written.starts.as_slice() == reported.starts
+        && written.others.as_slice() == reported.others
+        && written.drops.as_slice() == reported.drops
 }
 
 /// Returns whether a run of a plan has the expected book.
-fn gives_on(alloc: Global, plan: &Plan, run: &Run, told: &Told) -> bool {
+fn gives_on(alloc: Global, plan: &Plan, run: &Run, reported: &Reported) -> bool {
     let mut tables = Vec::new(alloc);
     if !add_tables(alloc, plan, run.calls, &mut tables) {
         return false;
@@ -263,15 +271,15 @@ fn gives_on(alloc: Global, plan: &Plan, run: &Run, told: &Told) -> bool {
         background: run.background,
     };
     match bridges_of(alloc, plan) {
-        Ok(mut bridges) => has_book(alloc, &mut bridges, tables.as_slice(), &traffic, told),
+        Ok(mut bridges) => has_book(alloc, &mut bridges, tables.as_slice(), &traffic, reported),
         Err(_) => false,
     }
 }
 
 /// Returns whether a run of a domain's text has the expected book.
-fn gives(alloc: Global, text: &str, run: &Run, told: &Told) -> bool {
+fn gives(alloc: Global, text: &str, run: &Run, reported: &Reported) -> bool {
     match plan_of(alloc, text) {
-        Some(plan) => gives_on(alloc, &plan, run, told),
+        Some(plan) => gives_on(alloc, &plan, run, reported),
         None => false,
     }
 }
@@ -298,7 +306,7 @@ const WITHDRAWN: Run = Run {
 };
 
 /// One more link each cycle, and a drop for each reason but `Octets`.
-const WITHDRAWN_BOOK: Told = Told {
+const WITHDRAWN_BOOK: Reported = Reported {
     starts: &[
         (1, 0, 1, 64, 125_000),
         (2, 1, 1, 64, 250_000),
@@ -337,7 +345,7 @@ const BRANCHING: Run = Run {
 };
 
 /// The frame leaves the second bridge on both of its links at once, and the background frame leaves on one only.
-const BRANCHING_BOOK: Told = Told {
+const BRANCHING_BOOK: Reported = Reported {
     starts: &[
         (1, 1, 1, 64, 125_000),
         (2, 2, 1, 64, 250_000),
@@ -366,7 +374,7 @@ const SPARING: Run = Run {
 };
 
 /// 1,020 octets with their gap take 8,160 ns, and 520 take 4,160: the background frame waits for both frames.
-const SPARING_BOOK: Told = Told {
+const SPARING_BOOK: Reported = Reported {
     starts: &[(1, 0, 1, 1000, 125_000), (1, 0, 3, 500, 133_160)],
     others: &[(1, 0, 1, 1522, 137_320)],
     drops: &[(0, 0, 2, 600, Reason::Octets)],

@@ -18,11 +18,11 @@ const LAST: Pace = Pace {
 };
 
 /// Returns whether the gate of 1,500 octets, with this cycle time in nanoseconds, is written as `wanted`.
-fn is_written(alloc: Global, cycle_time: u64, pace: Pace, depth: u8, wanted: &[u8]) -> bool
+fn is_written(alloc: Global, cycle_time: u64, pace: Pace, hop_number: u8, wanted: &[u8]) -> bool
     requires some { 0 < cycle_time }
     requires short { (pace.pause + 1) * cycle_time < 2 ^ 32 }
 {
-    let gate = gate_of_reservation(Nanos(cycle_time), Octets(1500), pace, depth);
+    let gate = gate_of_reservation(Nanos(cycle_time), Octets(1500), pace, hop_number);
     matches!(write_stream(alloc, &gate), Ok(text) if text.as_slice() == wanted)
 }
 

@@ -36,7 +36,7 @@ fn is_refused(entries: &[StreamEntry], fault: ListFault) -> bool {
 }
 
 #[test]
-fn each_fault_is_told(rt: HostRuntime) {
+fn each_fault_is_reported(rt: HostRuntime) {
     for (entries, fault) in FAULTS {
         assert!(rt; is_refused(entries, *fault));
     }
@@ -61,6 +61,6 @@ fn keeps_and_passes(entries: &[StreamEntry]) -> bool {
 }
 
 #[test]
-fn a_smaller_frame_passes_behind_one_that_is_over(rt: HostRuntime) {
+fn a_smaller_frame_passes_after_one_that_is_over(rt: HostRuntime) {
     assert!(rt; keeps_and_passes(&[SIX, SEVEN]));
 }

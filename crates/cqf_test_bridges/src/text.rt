@@ -76,7 +76,7 @@ fn has_lines(text: &[u8], wanted: &[&[u8]]) -> bool {
     let mut rest = text;
     for line in wanted {
         match split_line(rest) {
-            Some((found, behind)) if found == *line => rest = behind,
+            Some((found, following)) if found == *line => rest = following,
             _ => return false,
         }
     }

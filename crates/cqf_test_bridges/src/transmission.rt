@@ -66,7 +66,7 @@ fn list_answers(entries: &[(u8, u32)], asks: &[Ask]) -> bool {
 }
 
 #[test]
-fn a_list_tells_what_is_open_and_for_how_long(rt: HostRuntime) {
+fn a_list_reports_what_is_open_and_for_how_long(rt: HostRuntime) {
     for (entries, asks) in CASES {
         assert!(rt; list_answers(entries, asks));
     }
@@ -87,7 +87,7 @@ fn is_refused(entries: &[(u8, u32)], fault: ListFault) -> bool {
 }
 
 #[test]
-fn each_fault_is_told(rt: HostRuntime) {
+fn each_fault_is_reported(rt: HostRuntime) {
     for (entries, fault) in FAULTS {
         assert!(rt; is_refused(entries, *fault));
     }

@@ -1,6 +1,7 @@
 //! Names, reservations and times.
 use cqf_units::{
-    Cycle, Name, Nanos, Octets, Rate, budget, cost, cycle_of, end_of, idle_from, octet_ticks, wire,
+    Cycle, Name, Nanos, Octets, Rate, budget, cost, counted, cycle_of, end_of, idle_from,
+    octet_ticks, wire,
 };
 use std::alloc::Global;
 
@@ -62,6 +63,26 @@ fn a_name_has_1_to_32_bytes_of_the_set(rt: HostRuntime) {
 /// Reserved octets, and their cost: 20 more for each frame of 64.
 const COSTS: &[(u32, u32)] = &[(64, 84), (1500, 1960), (11_440, 15_000), (60_000, 78_740)];
 
+/// Octets of each frame that gates don't count, reserved octets, and their cost. If 22 octets aren't counted, a frame of 64 has 42 of the
+/// reserved ones, and costs 42 more: 1,500 octets are those of 35 such frames, and 60,000 those of 1,428. If 18 aren't, it has 46 and costs
+/// 38 more: 1,500 octets are those of 32.
+const COSTS_OF_UNCOUNTED: &[(u32, u32, u32)] = &[
+    (22, 41, 41),
+    (22, 42, 84),
+    (22, 83, 125),
+    (22, 84, 168),
+    (22, 1500, 2970),
+    (22, 60_000, 119_976),
+    (18, 45, 45),
+    (18, 46, 84),
+    (18, 1500, 2716),
+    (1, 63, 84),
+    (0, 64, 84),
+];
+
+/// Octets of each frame that gates don't count, a frame's octets, and how many of them gates count.
+const COUNTED: &[(u32, u32, u32)] = &[(22, 64, 42), (22, 1522, 1500), (18, 64, 46), (0, 64, 64)];
+
 /// Rates, the ticks of 40 ps of an octet, and the budget of a cycle of 125,000 ns with a guard band of 5,000 ns.
 const RATES: &[(Rate, u64, u32)] = &[
     (Rate::Mb10, 20_000, 150),
@@ -81,7 +102,17 @@ const CYCLES: &[(u64, u32)] = &[(0, 0), (124_999, 0), (125_000, 1)];
 #[test]
 fn reservations_cost_their_octets_and_the_gaps(rt: HostRuntime) {
     for (reserved, octets) in COSTS {
-        assert!(rt; cost(Octets(*reserved)) == Octets(*octets));
+        assert!(rt; cost(Octets(0), Octets(*reserved)) == Octets(*octets));
+    }
+}
+
+#[test]
+fn octets_that_gates_leave_out_cost_too(rt: HostRuntime) {
+    for (overhead, reserved, octets) in COSTS_OF_UNCOUNTED {
+        assert!(rt; cost(Octets(*overhead), Octets(*reserved)) == Octets(*octets));
+    }
+    for (overhead, frame, octets) in COUNTED {
+        assert!(rt; counted(Octets(*overhead), Octets(*frame)) == Octets(*octets));
     }
 }
 

@@ -1,6 +1,6 @@
 //! The gates of a stream that pauses, at each bridge of its tree.
 ghost use Rattle.std.specs.Prelude.{IfSome};
-ghost use Rattle.cqf_admission.specs.Turns.{IsGoodPace};
+ghost use Rattle.cqf_admission.specs.ActiveCycles.{IsGoodPace};
 
 use crate::tables::plan_of;
 use cqf_compile::{Plan, gate_of};
@@ -45,17 +45,17 @@ const THREE_SHUT: StreamEntry = StreamEntry {
 const HOPS: &[Hop] = &[
     Hop {
         link: 0,
-        depth: 1,
+        hop_number: 1,
         from: None,
     },
     Hop {
         link: 1,
-        depth: 2,
+        hop_number: 2,
         from: Some(0),
     },
     Hop {
         link: 2,
-        depth: 3,
+        hop_number: 3,
         from: Some(1),
     },
 ];
@@ -72,6 +72,7 @@ fn quarter(alloc: Global) -> Option<Row>
         no: 0,
         name,
         octets: 1500,
+        overhead: 0,
         pace: Pace { pause: 3, phase: 1 },
         tree,
         admitted: Cycle(0),

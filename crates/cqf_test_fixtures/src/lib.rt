@@ -15,13 +15,13 @@ mod admitted;
 mod asked;
 mod given;
 mod offered;
-mod told;
+mod reported;
 
 pub use admitted::admission_of;
 pub use asked::{Asked, is_request, request};
 pub use given::{are_background, are_offers};
 pub use offered::{Backing, Offering, background_of, offers_of};
-pub use told::{Begun, Fell, are_begun, are_dropped};
+pub use reported::{Begun, Fell, are_begun, are_dropped};
 
 /// Bridges a, b and c, and station s.
 const LINE: &str = r#"cycle = 125000

@@ -4,7 +4,7 @@ use cqf_addressing::{
     read_stream_addresses,
 };
 use cqf_model::Limits;
-use cqf_output::{Buffer, Told, Writer, told_text};
+use cqf_output::{Buffer, CheckedSink, Writer, written_text};
 use std::alloc::Global;
 
 /// Three streams, the second without any key of addressing.
@@ -161,11 +161,11 @@ fn mac_text(alloc: Global) -> Option<Vec<u8>> {
     let Ok(buffer) = Buffer::new(alloc) else {
         return None;
     };
-    let mut told = Told::new(Vec::new(alloc));
-    let mut writer = Writer::new(&mut told, buffer);
+    let mut reported = CheckedSink::new(Vec::new(alloc));
+    let mut writer = Writer::new(&mut reported, buffer);
     put_mac(&mut writer, mac);
-    let _told = writer.close();
-    told_text(told).ok()
+    let _reported = writer.close();
+    written_text(reported).ok()
 }
 
 #[test]

@@ -161,6 +161,37 @@ const FULL: &[Step] = &[
     Step::Seal(5),
 ];
 
+/// The line, whose gates leave 22 octets of each frame out.
+const UNCOUNTED: &str = "cycle = 125000
+guard = 5000
+gate-overhead = 22
+bridges = [\"a\", \"b\", \"c\"]
+stations = [\"s\"]
+links = [
+    { from = \"a\", to = \"b\", rate = 1000, delay = 500 },
+    { from = \"b\", to = \"c\", rate = 1000, delay = 500 },
+    { from = \"c\", to = \"s\", rate = 1000, delay = 500 },
+]
+";
+
+/// Streams over it. A frame of 64 octets has 42 reserved ones, and costs 84. So 1,500 octets cost 1,500 + 35 · 42 and leave 12,030, and 6,024
+/// octets cost 6,024 + 143 · 42, which is all of them. An octet more costs an octet more.
+const OVER_UNCOUNTED: &[Case] = &[(
+    &[Step::Admit(("x", 1500, WHOLE), Ok((0, 0)))],
+    &[
+        Step::Held(&[2970; 3]),
+        Step::Admit(("y", 6025, WHOLE), Err(HALF_LEFT)),
+        Step::Admit(("y", 6024, WHOLE), Ok((1, 0))),
+        Step::Held(&[15_000; 3]),
+        Step::Admit(("z", 64, WHOLE), Err(FULL_UP)),
+    ],
+)];
+
+const HALF_LEFT: Refused = Refused::BudgetShort {
+    link: 0,
+    left: 12_030,
+};
+
 /// Streams over the ring, none a tree.
 const OVER_RING: &[Case] = &[(
     &[],
@@ -386,14 +417,14 @@ fn ends_in(asked: &Admission, entries: usize, reply: Reply) -> bool {
 }
 
 /// Returns whether an entry is at this index of a full history.
-fn is_of_full(place: usize, entry: &Entry) -> bool {
+fn is_of_full(index: usize, entry: &Entry) -> bool {
     match &entry.call {
         Call::Admit(_) | Call::AdmitPaced(_) => false,
         Call::Withdraw(name) => {
             let is_refused = entry.reply == Reply::Refused(Refused::NotHeld);
-            is_refused && place < 100_000 && name.as_str() == "q"
+            is_refused && index < 100_000 && name.as_str() == "q"
         }
-        Call::Seal => entry.reply == Reply::Sealed && place >= 100_000,
+        Call::Seal => entry.reply == Reply::Sealed && index >= 100_000,
     }
 }
 
@@ -404,7 +435,7 @@ fn is_full(asked: &Admission) -> bool {
         && entries
             .iter()
             .enumerate()
-            .all(|(place, entry)| is_of_full(place, entry))
+            .all(|(index, entry)| is_of_full(index, entry))
 }
 
 /// Returns whether a step has its result.
@@ -457,9 +488,9 @@ fn first_wrong(alloc: Global, text: &str, cases: &[Case]) -> Option<usize> {
     let Ok(domain) = Domain::read(alloc, text.as_bytes()) else {
         return Some(0);
     };
-    for place in 0..cases.len() {
-        if !comes_out(alloc, &domain, &cases[place]) {
-            return Some(place);
+    for index in 0..cases.len() {
+        if !comes_out(alloc, &domain, &cases[index]) {
+            return Some(index);
         }
     }
     None
@@ -468,6 +499,11 @@ fn first_wrong(alloc: Global, text: &str, cases: &[Case]) -> Option<usize> {
 #[test]
 fn streams_on_a_line_are_held_within_its_budget_until_they_have_left(rt: HostRuntime) {
     assert_eq!(rt; first_wrong(rt.alloc(), line(), OVER_LINE), None);
+}
+
+#[test]
+fn octets_that_gates_leave_out_are_held_too(rt: HostRuntime) {
+    assert_eq!(rt; first_wrong(rt.alloc(), UNCOUNTED, OVER_UNCOUNTED), None);
 }
 
 #[test]
@@ -500,7 +536,7 @@ const BEFORE: &[Look] = &[
 ];
 
 /// The queries to that of cycle 1, from which on x is withdrawn, and y is held.
-const BEHIND: &[Look] = &[
+const AFTER: &[Look] = &[
     Look::Rows(2),
     Look::Named("x", 0, true),
     Look::Named("x", 1, false),
@@ -515,7 +551,7 @@ fn stay(alloc: Global, asked: &mut Admission, table: Table) -> bool {
     };
     let goes_on = is_answer(asked.withdraw(0, "x"), Ok((0, 1)))
         && admits(alloc, asked, &("y", 64, WHOLE), Ok((1, 1)))
-        && seals(alloc, asked, 1, BEHIND);
+        && seals(alloc, asked, 1, AFTER);
     let kept = is_table(&copy, 0, BEFORE) && is_table(&table, 0, BEFORE);
     drop(table);
     goes_on && kept && is_table(&copy, 0, BEFORE)

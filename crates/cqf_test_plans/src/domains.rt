@@ -4,7 +4,7 @@ use cqf_network::{NetworkDomain, NetworkFault};
 use std::alloc::Global;
 
 /// Two bridges, a station that listens and talks, and one that only talks.
-const SKETCH: &str = "cycle = [250000, 125000]
+const NETWORK: &str = "cycle = [250000, 125000]
 guard = 4000
 bridges = [\"a\", \"b\"]
 stations = [\"s\", \"t\"]
@@ -25,7 +25,7 @@ fn prints(alloc: Global, fault: NetworkFault, wanted: &str) -> bool {
 
 /// Returns whether the network file with a part of its text replaced gets this answer.
 fn answers(alloc: Global, old: &str, new: &str, wanted: &str) -> bool {
-    let Ok(changed) = SKETCH.replacen(alloc, old, new, 1) else {
+    let Ok(changed) = NETWORK.replacen(alloc, old, new, 1) else {
         return false;
     };
     match NetworkDomain::read(alloc, changed.as_bytes(), PROFILE, None) {
@@ -97,7 +97,7 @@ fn a_changed_network_is_refused_by_its_first_fault(rt: HostRuntime) {
 /// Of a link in both directions, the domain has each that leaves a bridge; the others are talkers' links.
 #[test]
 fn links_are_numbered_there_before_back(rt: HostRuntime) {
-    match NetworkDomain::read(rt.alloc(), SKETCH.as_bytes(), PROFILE, None) {
+    match NetworkDomain::read(rt.alloc(), NETWORK.as_bytes(), PROFILE, None) {
         Ok(domain) => {
             assert!(rt; domain.candidates() == [250_000, 125_000].as_slice());
             assert!(rt; domain.links().len() == 3);
@@ -124,7 +124,7 @@ fn opens_at(alloc: Global, text: &str, cycle: u64) -> bool {
 /// Returns whether the network file, with its candidates in the opposite order and a part of its text replaced, has a domain with this
 /// cycle time.
 fn turned_opens_at(alloc: Global, old: &str, new: &str, cycle: u64) -> bool {
-    let Ok(turned) = SKETCH.replacen(alloc, "[250000, 125000]", "[125000, 250000]", 1) else {
+    let Ok(turned) = NETWORK.replacen(alloc, "[250000, 125000]", "[125000, 250000]", 1) else {
         return false;
     };
     match turned.replacen(alloc, old, new, 1) {
@@ -136,7 +136,7 @@ fn turned_opens_at(alloc: Global, old: &str, new: &str, cycle: u64) -> bool {
 /// A candidate that isn't longer than a guard band isn't open.
 #[test]
 fn the_plan_has_the_first_open_cycle(rt: HostRuntime) {
-    assert!(rt; opens_at(rt.alloc(), SKETCH, 250_000));
+    assert!(rt; opens_at(rt.alloc(), NETWORK, 250_000));
     assert!(rt; turned_opens_at(rt.alloc(), "", "", 125_000));
     assert!(rt; turned_opens_at(rt.alloc(), "guard = 4000", "guard = 125000", 250_000));
     assert!(rt;

@@ -118,7 +118,7 @@ const FAULTS: &[(&str, &str, &str)] = &[
 ];
 
 #[test]
-fn streams_come_to_their_edge_bridges_behind_access_links(rt: HostRuntime) {
+fn streams_come_to_their_edge_bridges_after_access_links(rt: HostRuntime) {
     for (old, new, wanted) in TERMS {
         assert!(rt; comes(rt.alloc(), old, new, *wanted), "{old} to {new}");
     }

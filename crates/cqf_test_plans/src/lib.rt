@@ -18,12 +18,12 @@ mod order;
 #[cfg(test)]
 mod pages;
 #[cfg(test)]
+mod paths;
+#[cfg(test)]
+mod reported;
+#[cfg(test)]
 mod scripts;
 #[cfg(test)]
 mod streams;
 #[cfg(test)]
-mod told;
-#[cfg(test)]
 mod topology;
-#[cfg(test)]
-mod ways;

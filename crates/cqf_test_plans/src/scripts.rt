@@ -142,15 +142,15 @@ fn first_wrong(alloc: Global) -> Option<usize> {
     if !add_requests(alloc, &mut requests) {
         return Some(0);
     }
-    for place in 0..CASES.len() {
-        if !is_answered(alloc, requests.as_slice(), &CASES[place]) {
-            return Some(place);
+    for index in 0..CASES.len() {
+        if !is_answered(alloc, requests.as_slice(), &CASES[index]) {
+            return Some(index);
         }
     }
     None
 }
 
 #[test]
-fn scripts_are_read_or_their_first_fault_is_told(rt: HostRuntime) {
+fn scripts_are_read_or_their_first_fault_is_reported(rt: HostRuntime) {
     assert_eq!(rt; first_wrong(rt.alloc()), None);
 }

@@ -143,6 +143,25 @@ const LOOSE_CHANGES: &[(&str, &str, &str)] = &[
         "guard = 0\nsync = -1",
         "BadValue guard",
     ),
+    ("sync = 500", "gate-overhead = 22", "read"),
+    ("sync = 500", "gate-overhead = 0", "read"),
+    ("sync = 500", "gate-overhead = 23", "BadValue gate-overhead"),
+    ("sync = 500", "gate-overhead = -1", "BadValue gate-overhead"),
+    (
+        "sync = 500",
+        "gate-overhead = \"22\"",
+        "BadValue gate-overhead",
+    ),
+    (
+        "sync = 500",
+        "gate-overhead = 23\nsync = -1",
+        "BadValue sync",
+    ),
+    (
+        "sync = 500\nbridges = [\"a\"",
+        "gate-overhead = 23\nbridges = [\"A\"",
+        "BadValue gate-overhead",
+    ),
     (
         "sync = 500\nbridges = [\"a\"",
         "sync = -1\nbridges = [\"A\"",
@@ -205,7 +224,7 @@ fn a_changed_loose_domain_is_refused_by_its_first_fault(rt: HostRuntime) {
     }
 }
 
-/// Returns whether a domain is that one.
+/// Returns whether a domain is that one, with the key below.
 fn is_loose(domain: &Domain) -> bool {
     let first = Link {
         from: 0,
@@ -215,12 +234,21 @@ fn is_loose(domain: &Domain) -> bool {
         least: 400,
         guard: Some(2000),
     };
-    domain.sync() == Nanos(500) && domain.links() == 2 && domain.link(0) == first
+    domain.sync() == Nanos(500)
+        && domain.overhead() == 22
+        && domain.links() == 2
+        && domain.link(0) == first
 }
 
-/// Returns whether that domain, with a guard band of its own for the first link, is read and copied.
+/// The keys of that domain's times, and one more: its gates leave 22 octets of each frame out.
+const WITH_OVERHEAD: &str = "sync = 500\ngate-overhead = 22";
+
+/// Returns whether that domain is read and copied, with that key and with a guard band of its own for the first link.
 fn is_loose_read(alloc: Global) -> bool {
-    let Ok(text) = LOOSE.replacen(alloc, "600]", "600], guard = 2000", 1) else {
+    let Ok(short) = LOOSE.replacen(alloc, "sync = 500", WITH_OVERHEAD, 1) else {
+        return false;
+    };
+    let Ok(text) = short.replacen(alloc, "600]", "600], guard = 2000", 1) else {
         return false;
     };
     let Ok(domain) = Domain::read(alloc, text.as_bytes()) else {
@@ -359,6 +387,7 @@ fn is_line(domain: &Domain) -> bool {
     domain.cycle_time() == Nanos(125_000)
         && domain.guard() == Nanos(5000)
         && domain.sync() == Nanos(0)
+        && domain.overhead() == 0
         && domain.bridge_name(2).as_str() == "c"
         && domain.station_name(0).as_str() == "s"
         && domain.link(2) == LAST
@@ -675,7 +704,7 @@ const PACED: &[(&str, &str, &str)] = &[
 ];
 
 #[test]
-fn cycles_of_streams_are_read_behind_octets(rt: HostRuntime) {
+fn cycles_of_streams_are_read_after_octets(rt: HostRuntime) {
     for (text, wanted, unpaced) in PACED {
         assert!(rt; is_refused_so(rt.alloc(), text, wanted, unpaced), "{text}");
     }

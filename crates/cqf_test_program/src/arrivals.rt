@@ -87,7 +87,7 @@ fn is_answered(alloc: Global, text: &[u8], wanted: Result<&[Arrival], TableFault
 }
 
 #[test]
-fn arrivals_are_read_or_their_first_fault_is_told(rt: HostRuntime) {
+fn arrivals_are_read_or_their_first_fault_is_written(rt: HostRuntime) {
     for (text, wanted) in CASES {
         assert!(rt; is_answered(rt.alloc(), text, *wanted));
     }

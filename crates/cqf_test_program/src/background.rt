@@ -94,6 +94,6 @@ fn answers_over(rt: &impl Abort, alloc: Global, text: &str) -> bool {
 }
 
 #[test]
-fn frames_are_read_or_their_first_fault_is_told(rt: HostRuntime) {
+fn frames_are_read_or_their_first_fault_is_written(rt: HostRuntime) {
     assert!(rt; answers_over(&rt, rt.alloc(), one_link()));
 }

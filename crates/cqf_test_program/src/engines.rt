@@ -3,7 +3,7 @@
 
 ghost use Rattle.std.specs.Prelude.{⊤};
 
-use cqf_program_engine::{Heard, Sink, Source, Told, engine};
+use cqf_program_engine::{CheckedSink, Heard, Sink, Source, engine};
 use std::alloc::Global;
 use std::io;
 use std::io::{ErrorKind, Read, Write};
@@ -20,7 +20,7 @@ const RUN: &str =
     %%\n0 admit x\n%%\nat,bridge,stream,octets\n0,a,x,64\n";
 
 /// Its output.
-const TOLD: &str = "0 admit x accepted 0 0\n1 seal\n1 seal\n1 seal\n1 seal\n1 seal\n%%\n\
+const WRITTEN: &str = "0 admit x accepted 0 0\n1 seal\n1 seal\n1 seal\n1 seal\n1 seal\n%%\n\
     what,cycle,where,frame,octets,detail\n\
     start,1,a>b,1,64,125000\nstart,2,b>c,1,64,250000\nstart,3,c>s,1,64,375000\n";
 
@@ -150,7 +150,7 @@ struct End {
 /// All is written.
 const DONE: End = End {
     status: 0,
-    output: TOLD,
+    output: WRITTEN,
     is_refused: false,
     faults: Some(""),
 };
@@ -180,13 +180,18 @@ const REFUSED: End = End {
 };
 
 /// Whether a run ended as expected.
-fn is_end(status: u8, output: &Told<Narrow>, faults: &Told<Narrow>, wanted: End) -> bool {
+fn is_end(
+    status: u8,
+    output: &CheckedSink<Narrow>,
+    faults: &CheckedSink<Narrow>,
+    wanted: End,
+) -> bool {
     let line = faults.writer().taken.as_slice();
-    let is_told = match wanted.faults {
+    let is_written = match wanted.faults {
         Some(text) => line == text.as_bytes(),
         None => line.is_empty() == (status == 0),
     };
-    is_told
+    is_written
         && status == wanted.status
         && output.is_refused() == wanted.is_refused
         && output.writer().taken.as_slice() == wanted.output.as_bytes()
@@ -204,12 +209,12 @@ fn ends<R: Source + Drop>(
 ) -> bool {
     let (room, refusal, room_for_faults) = writers;
     let mut input = Heard::new(alloc, input);
-    let mut output = Told::new(Narrow {
+    let mut output = CheckedSink::new(Narrow {
         room,
         refusal,
         taken: Vec::new(alloc),
     });
-    let mut faults = Told::new(Narrow {
+    let mut faults = CheckedSink::new(Narrow {
         room: room_for_faults,
         refusal: Refusal::Fails,
         taken: Vec::new(alloc),
@@ -288,7 +293,7 @@ fn read_ends(
 }
 
 #[test]
-fn a_reader_that_fails_at_each_place_is_told(rt: HostRuntime) {
+fn a_reader_that_fails_at_each_place_is_written(rt: HostRuntime) {
     for reads in 0..READS {
         assert!(rt;
             read_ends(&rt, rt.alloc(), &[], reads, INPUT_FAULT),
@@ -347,15 +352,15 @@ fn leaves_each_front(
 }
 
 #[test]
-fn a_writer_that_refuses_at_each_place_is_told(rt: HostRuntime) {
+fn a_writer_that_refuses_at_each_place_is_written(rt: HostRuntime) {
     for refusal in [Refusal::Fails, Refusal::TakesNothing] {
-        assert!(rt; leaves_each_front(&rt, rt.alloc(), WORDS, refusal, TOLD));
+        assert!(rt; leaves_each_front(&rt, rt.alloc(), WORDS, refusal, WRITTEN));
         assert!(rt; leaves_each_front(&rt, rt.alloc(), REPORT, refusal, SUMS));
     }
 }
 
 #[test]
-fn a_flush_that_fails_is_told(rt: HostRuntime) {
+fn a_flush_that_fails_is_written(rt: HostRuntime) {
     let writers = (WIDE, Refusal::FailsWhenFlushed, WIDE);
     assert!(rt; ends(&rt, rt.alloc(), &[], RUN.as_bytes(), writers, OUTPUT_FAULT));
 }

@@ -8,7 +8,13 @@ mod arrivals;
 #[cfg(test)]
 mod background;
 #[cfg(test)]
+mod candidates;
+#[cfg(test)]
 mod engines;
+#[cfg(test)]
+mod help;
+#[cfg(test)]
+mod links;
 #[cfg(test)]
 mod offers;
 #[cfg(test)]

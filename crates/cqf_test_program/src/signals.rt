@@ -2,7 +2,7 @@
 
 ghost use Rattle.std.specs.Prelude.{⊤};
 
-use cqf_program_engine::{Heard, Sink, Source, Told, engine};
+use cqf_program_engine::{CheckedSink, Heard, Sink, Source, engine};
 use std::io;
 use std::io::{ErrorKind, Read, Write};
 
@@ -88,11 +88,11 @@ fn reads_and_writes_that_signals_interrupt_are_made_again(rt: HostRuntime) {
             tried: false,
         },
     );
-    let mut output = Told::new(Interrupting {
+    let mut output = CheckedSink::new(Interrupting {
         taken: Vec::new(alloc),
         tried: false,
     });
-    let mut faults = Told::new(Vec::new(alloc));
+    let mut faults = CheckedSink::new(Vec::new(alloc));
     let words = ["line", "--cycles", "3"];
     let status = engine(&rt, alloc, &words, &mut input, &mut output, &mut faults);
     assert!(rt; status == 0);

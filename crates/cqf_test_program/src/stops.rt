@@ -16,7 +16,7 @@ fn a_refusal_names_the_part_and_the_fault(rt: HostRuntime) {
 }
 
 #[test]
-fn want_of_memory_is_told_by_its_status_alone(rt: HostRuntime) {
+fn want_of_memory_is_written_by_its_status_alone(rt: HostRuntime) {
     let stop = Stop::memory(rt.alloc());
     assert!(rt; ends(&stop, 3, ""));
 }

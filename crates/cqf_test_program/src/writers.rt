@@ -2,7 +2,7 @@
 
 ghost use Rattle.std.specs.Prelude.{⊤};
 
-use cqf_output::{Buffer, Sink, Told, Writer};
+use cqf_output::{Buffer, CheckedSink, Sink, Writer};
 use std::alloc::Global;
 use std::io;
 use std::io::{ErrorKind, Write};
@@ -60,19 +60,19 @@ impl Sink for Refuses {
 }
 
 /// Writes `many` numbers from 100,000 on, each on its own line.
-fn tell_numbers<W: Sink>(told: &mut Told<W>, buffer: Buffer, many: u64) {
-    let mut writer = Writer::new(told, buffer);
+fn write_numbers<W: Sink>(reported: &mut CheckedSink<W>, buffer: Buffer, many: u64) {
+    let mut writer = Writer::new(reported, buffer);
     for number in 0..many {
         writer.put_number(number.saturating_add(100_000));
         writer.put_byte(b'\n');
     }
-    let _told = writer.close();
+    let _written = writer.close();
 }
 
 /// Returns what a writer writes for pieces of each kind.
 fn pieces(alloc: Global, long: &[u8]) -> Result<Vec<u8>, Fail> {
-    let mut told = Told::new(Vec::new(alloc));
-    let mut writer = Writer::new(&mut told, Buffer::new(alloc)?);
+    let mut reported = CheckedSink::new(Vec::new(alloc));
+    let mut writer = Writer::new(&mut reported, Buffer::new(alloc)?);
     writer.put(b"at ");
     writer.put_number(0u8);
     writer.put_byte(b',');
@@ -80,12 +80,12 @@ fn pieces(alloc: Global, long: &[u8]) -> Result<Vec<u8>, Fail> {
     writer.put_byte(b'\n');
     writer.put(long);
     writer.put(b"end\n");
-    let _told = writer.close();
-    Ok(told.into_writer())
+    let _written = writer.close();
+    Ok(reported.into_writer())
 }
 
 #[test]
-fn pieces_are_told_in_their_order(rt: HostRuntime) -> Result<(), Fail> {
+fn pieces_are_written_in_their_order(rt: HostRuntime) -> Result<(), Fail> {
     assert!(rt;
         pieces(rt.alloc(), b"")?.as_slice() == b"at 0,18446744073709551615\nend\n".as_slice()
     );
@@ -94,7 +94,7 @@ fn pieces_are_told_in_their_order(rt: HostRuntime) -> Result<(), Fail> {
 
 /// A text that is longer than the longest piece is written between what was put before and after it.
 #[test]
-fn long_text_is_told_past_the_buffer(rt: HostRuntime) -> Result<(), Fail> {
+fn long_text_is_written_past_the_buffer(rt: HostRuntime) -> Result<(), Fail> {
     let text = pieces(rt.alloc(), &[b'x'; 700])?;
     assert_eq!(rt; text.len(), 730);
     assert!(rt;
@@ -107,25 +107,25 @@ fn long_text_is_told_past_the_buffer(rt: HostRuntime) -> Result<(), Fail> {
 
 /// 20,000 lines of 7 bytes are three buffers: two of some 65,540 bytes, and the rest.
 #[test]
-fn text_is_told_in_buffers(rt: HostRuntime) -> Result<(), Fail> {
-    let mut told = Told::new(Refuses::new(9));
-    tell_numbers(&mut told, Buffer::new(rt.alloc())?, 20_000);
-    assert!(rt; !told.is_refused());
-    assert_eq!(rt; told.writer().writes, 3);
-    assert_eq!(rt; told.writer().bytes, 140_000);
-    assert_eq!(rt; told.writer().flushes, 1);
+fn text_is_written_in_buffers(rt: HostRuntime) -> Result<(), Fail> {
+    let mut reported = CheckedSink::new(Refuses::new(9));
+    write_numbers(&mut reported, Buffer::new(rt.alloc())?, 20_000);
+    assert!(rt; !reported.is_refused());
+    assert_eq!(rt; reported.writer().writes, 3);
+    assert_eq!(rt; reported.writer().bytes, 140_000);
+    assert_eq!(rt; reported.writer().flushes, 1);
     Ok(())
 }
 
 /// After a refused write there is no other write, and no flush.
 #[test]
-fn nothing_is_told_behind_a_refusal(rt: HostRuntime) -> Result<(), Fail> {
+fn nothing_is_written_after_a_refusal(rt: HostRuntime) -> Result<(), Fail> {
     for at in 0..3 {
-        let mut told = Told::new(Refuses::new(at));
-        tell_numbers(&mut told, Buffer::new(rt.alloc())?, 20_000);
-        assert!(rt; told.is_refused());
-        assert_eq!(rt; told.writer().writes, at + 1);
-        assert_eq!(rt; told.writer().flushes, 0);
+        let mut reported = CheckedSink::new(Refuses::new(at));
+        write_numbers(&mut reported, Buffer::new(rt.alloc())?, 20_000);
+        assert!(rt; reported.is_refused());
+        assert_eq!(rt; reported.writer().writes, at + 1);
+        assert_eq!(rt; reported.writer().flushes, 0);
     }
     Ok(())
 }

@@ -1,6 +1,6 @@
 //! Background frames in the runs of small histories: when they start, computed by hand.
 use crate::cases::{Case, first_wrong};
-use crate::ways::Wanted;
+use crate::paths::Wanted;
 use cqf_test_fixtures::{line, one_link};
 
 /// The one stream over the one link.
@@ -119,7 +119,7 @@ const OVER_LINE: &[Case] = &[Case {
 }];
 
 #[test]
-fn background_starts_behind_the_stream(rt: HostRuntime) {
+fn background_starts_after_the_stream(rt: HostRuntime) {
     assert_eq!(rt; first_wrong(rt.alloc(), one_link(), OVER_LINK), None);
 }
 

@@ -9,7 +9,7 @@ use cqf_admission::Admission;
 use cqf_instants::Pass;
 use cqf_instants_run::pass_of_history;
 use cqf_model::{Dropped, Offer, Reason, Started};
-use cqf_output::{Buffer, Told, Writer};
+use cqf_output::{Buffer, CheckedSink, Writer};
 use cqf_program_scenario::ExactBook;
 use cqf_report::{offers_are_read_in_order, read_offers};
 use cqf_test_fixtures::fork;
@@ -36,8 +36,8 @@ drop,1,b,2,100,unknown
 ";
 
 /// Returns what is put of a pass, with a background frame and a drop; nothing if an allocation fails.
-fn told_of(alloc: Global, domain: &Domain, pass: Pass, buffer: Buffer) -> Vec<u8>
-    requires { pass.told ≡ 0 }
+fn reported_of(alloc: Global, domain: &Domain, pass: Pass, buffer: Buffer) -> Vec<u8>
+    requires { pass.reported ≡ 0 }
 {
     let frame = Started {
         cycle: Cycle(0),
@@ -57,15 +57,21 @@ fn told_of(alloc: Global, domain: &Domain, pass: Pass, buffer: Buffer) -> Vec<u8
     if background.push(frame).is_err() || drops.push(offer).is_err() {
         return Vec::new(alloc);
     }
-    let mut told = Told::new(Vec::new(alloc));
-    let mut writer = Writer::new(&mut told, buffer);
+    let mut reported = CheckedSink::new(Vec::new(alloc));
+    let mut writer = Writer::new(&mut reported, buffer);
     ExactBook::new(pass, background, drops).put(&mut writer, domain);
-    let _told = writer.close();
-    told.into_writer()
+    let _reported = writer.close();
+    reported.into_writer()
 }
 
 /// Returns whether this text is put of a run over `cycles` cycles of an administration, with these offers.
-fn tells(alloc: Global, admission: &Admission, offers: &[Offer], cycles: u32, wanted: &[u8]) -> bool
+fn reports(
+    alloc: Global,
+    admission: &Admission,
+    offers: &[Offer],
+    cycles: u32,
+    wanted: &[u8],
+) -> bool
     requires offers { AreOffers admission.now.domain offers.now }
     requires order { StandInOrder offers.now }
     requires few { length offers.now ≤ most_offers }
@@ -80,7 +86,7 @@ fn tells(alloc: Global, admission: &Admission, offers: &[Offer], cycles: u32, wa
         return false;
     };
     match pass_of_history(alloc, domain, cycles, rows, offers, edge_verdicts) {
-        Ok(pass) => told_of(alloc, domain, pass, buffer).as_slice() == wanted,
+        Ok(pass) => reported_of(alloc, domain, pass, buffer).as_slice() == wanted,
         Err(_) => false,
     }
 }
@@ -93,7 +99,7 @@ fn comes_out(alloc: Global, domain: &Domain) -> bool {
     };
     let admission = &made.admission;
     match read_offers(alloc, admission.domain(), OFFERS.as_bytes()) {
-        Ok(offers) => tells(alloc, admission, offers.as_slice(), 4, TEXT.as_bytes()),
+        Ok(offers) => reports(alloc, admission, offers.as_slice(), 4, TEXT.as_bytes()),
         Err(_) => false,
     }
 }

@@ -5,7 +5,7 @@ ghost use Rattle.cqf_laws_coverage.specs.Judged.{StandInOrder};
 ghost use Rattle.cqf_model.specs.Run.{AreOffers};
 
 use crate::administrations::{Administration, administered};
-use crate::ways::{Wanted, agree};
+use crate::paths::{Wanted, agree};
 use cqf_model::{Background, MOST_ROWS, Offer};
 use cqf_report::{offers_are_read_in_order, read_offers};
 use cqf_test_fixtures::{Backing, are_background, background_of};
@@ -77,9 +77,9 @@ pub(crate) fn first_wrong(alloc: Global, text: &str, cases: &[Case]) -> Option<u
     let Ok(domain) = Domain::read(alloc, text.as_bytes()) else {
         return Some(0);
     };
-    for place in 0..cases.len() {
-        if !comes_out(alloc, &domain, &cases[place]) {
-            return Some(place);
+    for index in 0..cases.len() {
+        if !comes_out(alloc, &domain, &cases[index]) {
+            return Some(index);
         }
     }
     None

@@ -1,7 +1,7 @@
 //! Runs over bridges in layers: four equal bridges, two bridges that each receive from two of them, and a hub that receives from these two.
 //! So frames that tie at one layer arrive at the next in the order given by the first, and tie there again.
 use crate::cases::{Case, first_wrong};
-use crate::ways::Wanted;
+use crate::paths::Wanted;
 use cqf_model::Reason;
 use cqf_test_fixtures::Begun;
 

@@ -14,13 +14,15 @@ mod books;
 #[cfg(test)]
 mod cases;
 #[cfg(test)]
-mod depths;
+mod hop_numbers;
 #[cfg(test)]
 mod layers;
 #[cfg(test)]
 mod making;
 #[cfg(test)]
 mod orders;
+#[cfg(test)]
+mod paths;
 #[cfg(test)]
 mod plans;
 #[cfg(test)]
@@ -33,7 +35,5 @@ mod tables;
 mod ties;
 #[cfg(test)]
 mod turns;
-#[cfg(test)]
-mod ways;
 #[cfg(test)]
 mod written;

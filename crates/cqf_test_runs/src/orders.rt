@@ -79,7 +79,7 @@ const PAGES: &[Written] = &[
 const TRIES: u32 = 3000;
 
 /// Returns the next pseudo-random number after a number. It is a linear congruential generator; the high bits are used.
-fn behind(number: u64) -> u64 {
+fn following(number: u64) -> u64 {
     number
         .wrapping_mul(6_364_136_223_846_793_005)
         .wrapping_add(1_442_695_040_888_963_407)
@@ -87,8 +87,8 @@ fn behind(number: u64) -> u64 {
 
 /// Returns one of the events of bridges and links, or the next call, which is chosen twice as often as each of the others.
 fn chosen(number: u64, made: usize) -> Act {
-    let place = ((number >> 33) % 16) as usize;
-    match SIDE_BY_SIDE.iter().chain(NEVER).nth(place) {
+    let index = ((number >> 33) % 16) as usize;
+    match SIDE_BY_SIDE.iter().chain(NEVER).nth(index) {
         Some(act) => *act,
         None => match CALLS.get(made) {
             Some(call) => *call,
@@ -109,7 +109,7 @@ fn try_all(alloc: Global, world: &mut World, seed: u64) -> Option<(usize, usize)
     let mut made = 0;
     let mut done = 0;
     for _try in 0..TRIES {
-        number = behind(number);
+        number = following(number);
         let act = chosen(number, made);
         if happens(alloc, world, act)? {
             done += 1;

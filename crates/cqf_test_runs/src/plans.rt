@@ -1,6 +1,6 @@
 //! Runs of the plans of `examples/`: the robot cell, the vehicle, the studio, and the stream that replaces another one.
 use crate::cases::{Case, first_wrong};
-use crate::ways::Wanted;
+use crate::paths::Wanted;
 use cqf_model::Reason;
 
 /// The robot cell, as `factory-cell-plan.toml` has it.

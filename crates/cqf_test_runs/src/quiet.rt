@@ -1,6 +1,6 @@
 //! Runs with cycles in which nothing happens: the events after these cycles, computed by hand.
 use crate::cases::{Case, first_wrong};
-use crate::ways::Wanted;
+use crate::paths::Wanted;
 use cqf_test_fixtures::line;
 
 /// Over the line. The first frame is sent on link 0 in cycle 1, on link 1 in cycle 2 and on link 2 in cycle 3; the second one, of cycle 20,

@@ -1,6 +1,6 @@
 //! Starts in the runs of small histories, computed by hand.
 use crate::cases::{Case, first_wrong};
-use crate::ways::Wanted;
+use crate::paths::Wanted;
 use cqf_model::Reason;
 use cqf_test_fixtures::{fork, line};
 
@@ -119,6 +119,61 @@ seal
     },
 ];
 
+/// The line, whose gates leave 22 octets of each frame out.
+const UNCOUNTED: &str = r#"cycle = 125000
+guard = 5000
+gate-overhead = 22
+bridges = ["a", "b", "c"]
+stations = ["s"]
+links = [
+    { from = "a", to = "b", rate = 1000, delay = 500 },
+    { from = "b", to = "c", rate = 1000, delay = 500 },
+    { from = "c", to = "s", rate = 1000, delay = 500 },
+]
+"#;
+
+/// A gate counts 42 of 64 octets, 84 of 106 and 62 of 84. So 84 reserved octets are those of two frames of 64, or of one of 106; a frame that
+/// has 62 counted ones leaves none for one of 64. Whole frames go over the links, each 8 (64 + 20) ns after one of 64 octets.
+const OVER_UNCOUNTED: &[Case] = &[Case {
+    streams: r#"streams = [
+    { name = "x", octets = 84, path = ["a", "b", "c", "s"] },
+]"#,
+    script: "0 admit x\n",
+    offers: "at,bridge,stream,octets
+0,a,x,64
+5,a,x,64
+6,a,x,64
+125000,a,x,107
+125001,a,x,106
+125002,a,x,64
+250000,a,x,84
+250001,a,x,64
+",
+    background: &[],
+    cycles: 4,
+    wanted: Wanted {
+        many: 9,
+        starts: &[
+            (1, 0, 1, 64, 125_000),
+            (1, 0, 2, 64, 125_672),
+            (2, 0, 5, 106, 250_000),
+            (2, 1, 1, 64, 250_000),
+            (2, 1, 2, 64, 250_672),
+            (3, 0, 7, 84, 375_000),
+            (3, 1, 5, 106, 375_000),
+            (3, 2, 1, 64, 375_000),
+            (3, 2, 2, 64, 375_672),
+        ],
+        background: &[],
+        drops: &[
+            (0, 0, 3, 64, Reason::Octets),
+            (1, 0, 4, 107, Reason::Octets),
+            (1, 0, 6, 64, Reason::Octets),
+            (2, 0, 8, 64, Reason::Octets),
+        ],
+    },
+}];
+
 /// Over the line that branches.
 const OVER_FORK: &[Case] = &[
     // at b a frame is sent on both links
@@ -179,6 +234,11 @@ const OVER_FORK: &[Case] = &[
 #[test]
 fn starts_over_the_line(rt: HostRuntime) {
     assert_eq!(rt; first_wrong(rt.alloc(), line(), OVER_LINE), None);
+}
+
+#[test]
+fn starts_of_frames_whose_octets_gates_leave_out(rt: HostRuntime) {
+    assert_eq!(rt; first_wrong(rt.alloc(), UNCOUNTED, OVER_UNCOUNTED), None);
 }
 
 #[test]

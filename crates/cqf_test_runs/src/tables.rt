@@ -111,9 +111,9 @@ fn first_wrong(alloc: Global, plan: &Plan, offers: &[Offer]) -> Option<usize> {
     if offers.len() > 1_000_000 || !are_offers(plan.domain(), offers) {
         return Some(0);
     }
-    for place in 0..CASES.len() {
-        if !comes_out_by(alloc, plan, offers, CASES[place]) {
-            return Some(place);
+    for index in 0..CASES.len() {
+        if !comes_out_by(alloc, plan, offers, CASES[index]) {
+            return Some(index);
         }
     }
     None

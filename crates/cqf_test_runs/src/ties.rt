@@ -1,7 +1,7 @@
 //! Runs in which frames arrive at a bridge at the same instant. Those that arrive over links go by the number of their link. Those that are
 //! offered there follow all of these, by index.
 use crate::cases::{Case, first_wrong};
-use crate::ways::Wanted;
+use crate::paths::Wanted;
 use cqf_model::Reason;
 
 /// Four equal bridges that feed a hub: links 0 c>e, 1 a>e, 2 d>e and 3 b>e, and 4 e>s.
@@ -222,7 +222,7 @@ const OVER_TWO_RATES: &[Case] = &[Case {
 }];
 
 #[test]
-fn frames_of_one_instant_go_by_link_and_offers_behind_them(rt: HostRuntime) {
+fn frames_of_one_instant_go_by_link_and_offers_after_them(rt: HostRuntime) {
     assert_eq!(rt; first_wrong(rt.alloc(), HUB, OVER_HUB), None);
 }
 

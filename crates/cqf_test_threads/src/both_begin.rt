@@ -70,7 +70,7 @@ impl Together {
 }
 
 impl Pace for Together {
-    fn before_call(&self, _admin: usize, _place: usize) {}
+    fn before_call(&self, _admin: usize, _index: usize) {}
 
     fn before_step(&self, bridge: usize, cycle: Cycle) {
         match (self.cycles.get(cycle.0 as usize), bridge) {

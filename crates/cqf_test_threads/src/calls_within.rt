@@ -62,8 +62,8 @@ impl Within {
 }
 
 impl Pace for Within {
-    fn before_call(&self, admin: usize, place: usize) {
-        match (admin, place) {
+    fn before_call(&self, admin: usize, index: usize) {
+        match (admin, index) {
             (0, 0) => self.call_first(&self.zero.first, &self.one.first),
             (1, 0) => self.call_first(&self.one.first, &self.zero.first),
             (0, 1) => self.zero.second.raise(),

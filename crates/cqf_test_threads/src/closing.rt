@@ -186,8 +186,8 @@ fn forget_first(seats: &mut Vec<Seat>) -> bool {
 }
 
 /// Replaces a seat by another desk's seat.
-fn exchange(own: &mut [Seat], others: &mut [Seat], place: usize, other: usize) -> bool {
-    match (own.get_mut(place), others.get_mut(other)) {
+fn exchange(own: &mut [Seat], others: &mut [Seat], index: usize, other: usize) -> bool {
+    match (own.get_mut(index), others.get_mut(other)) {
         (Some(ours), Some(theirs)) => {
             std::mem::swap(ours, theirs);
             true
@@ -242,7 +242,7 @@ fn change_by<R: Wait>(
 ) -> bool {
     match change {
         Change::Missing => forget_first(seats),
-        Change::Unused(place, other) => exchange(seats.as_mut_slice(), others, place, other),
+        Change::Unused(index, other) => exchange(seats.as_mut_slice(), others, index, other),
         Change::Both(turned) => exchange_both(rt, other, seats.as_mut_slice(), others, turned),
         Change::Stranger => seals_as_a_stranger(rt, desk, others),
     }
@@ -326,7 +326,7 @@ const CASES: &[(&[Change], Option<CloseFault>)] = &[
 ];
 
 /// Returns whether a desk over the line closes as expected after these changes.
-fn closes_behind<R: Wait>(
+fn closes_after<R: Wait>(
     rt: &R,
     alloc: Global,
     changes: &[Change],
@@ -343,10 +343,10 @@ fn closes_behind<R: Wait>(
 
 #[test]
 fn a_desk_closes_with_its_own_seats_alone(rt: HostRuntime) {
-    for (place, (changes, fault)) in CASES.iter().enumerate() {
+    for (index, (changes, fault)) in CASES.iter().enumerate() {
         assert!(rt;
-            closes_behind(&rt, rt.alloc(), changes, *fault),
-            "case {place}"
+            closes_after(&rt, rt.alloc(), changes, *fault),
+            "case {index}"
         );
     }
 }

@@ -103,13 +103,13 @@ fn answers_all<R: Wait>(
 }
 
 /// Returns whether the starts are on these links in these cycles, each of this many octets.
-fn are_starts(starts: &[Started], octets: u32, places: &[(u32, u16)]) -> bool {
-    if starts.len() != places.len() {
+fn are_starts(starts: &[Started], octets: u32, indices: &[(u32, u16)]) -> bool {
+    if starts.len() != indices.len() {
         return false;
     }
-    for place in 0..starts.len() {
-        let (cycle, link) = places[place];
-        if starts[place] != started(cycle, link, octets) {
+    for index in 0..starts.len() {
+        let (cycle, link) = indices[index];
+        if starts[index] != started(cycle, link, octets) {
             return false;
         }
     }
@@ -117,13 +117,13 @@ fn are_starts(starts: &[Started], octets: u32, places: &[(u32, u16)]) -> bool {
 }
 
 /// Returns whether the drops are those of these cycles and bridges.
-fn are_drops(drops: &[Dropped], places: &[(u32, u16)]) -> bool {
-    if drops.len() != places.len() {
+fn are_drops(drops: &[Dropped], indices: &[(u32, u16)]) -> bool {
+    if drops.len() != indices.len() {
         return false;
     }
-    for place in 0..drops.len() {
-        let (cycle, bridge) = places[place];
-        if drops[place] != dropped(cycle, bridge, 7) {
+    for index in 0..drops.len() {
+        let (cycle, bridge) = indices[index];
+        if drops[index] != dropped(cycle, bridge, 7) {
             return false;
         }
     }
@@ -205,8 +205,8 @@ enum Wrong {
 }
 
 /// Replaces the share at one index by the share at an index of the others.
-fn put_other(shares: &mut [Share], place: usize, others: &mut [Share], other: usize) {
-    if let (Some(share), Some(another)) = (shares.get_mut(place), others.get_mut(other)) {
+fn put_other(shares: &mut [Share], index: usize, others: &mut [Share], other: usize) {
+    if let (Some(share), Some(another)) = (shares.get_mut(index), others.get_mut(other)) {
         swap(share, another);
     }
 }
@@ -236,9 +236,9 @@ fn make_wrong<R: Wait>(
     match wrong {
         Wrong::Missing => shares.truncate(2),
         Wrong::Twice => put_other(shares.as_mut_slice(), 2, others, 1),
-        Wrong::Unused(places) => {
-            for place in places {
-                put_other(shares.as_mut_slice(), *place, others, *place);
+        Wrong::Unused(indices) => {
+            for index in indices {
+                put_other(shares.as_mut_slice(), *index, others, *index);
             }
         }
         Wrong::OnAnotherLink => {
@@ -371,11 +371,11 @@ const CASES: &[Case] = &[
 
 #[test]
 fn a_book_closes_with_its_own_shares_alone(rt: HostRuntime) {
-    for (place, case) in CASES.iter().enumerate() {
-        assert!(rt; is_so(&rt, rt.alloc(), case, By::Close), "case {place}");
+    for (index, case) in CASES.iter().enumerate() {
+        assert!(rt; is_so(&rt, rt.alloc(), case, By::Close), "case {index}");
         assert!(rt;
             is_so(&rt, rt.alloc(), case, By::Pages),
-            "case {place} by pages"
+            "case {index} by pages"
         );
     }
 }
@@ -509,7 +509,7 @@ fn fills_in_threads<R: Threads + Wait + Sync>(rt: &R, alloc: Global, pages: Page
 }
 
 /// Returns whether they do so if the book begins with the page of bridge 1 and cycle 0.
-fn fills_behind_one_page<R: Threads + Wait + Sync>(rt: &R, alloc: Global, by: By) -> bool {
+fn fills_after_one_page<R: Threads + Wait + Sync>(rt: &R, alloc: Global, by: By) -> bool {
     match Pages::new(alloc, 3, 3) {
         Ok(mut pages) => {
             let begins = takes_first(alloc, &mut pages);
@@ -522,8 +522,8 @@ fn fills_behind_one_page<R: Threads + Wait + Sync>(rt: &R, alloc: Global, by: By
 
 #[test]
 fn three_threads_write_one_book(rt: HostRuntime) {
-    assert!(rt; fills_behind_one_page(&rt, rt.alloc(), By::Close));
-    assert!(rt; fills_behind_one_page(&rt, rt.alloc(), By::Pages));
+    assert!(rt; fills_after_one_page(&rt, rt.alloc(), By::Close));
+    assert!(rt; fills_after_one_page(&rt, rt.alloc(), By::Pages));
 }
 
 /// Faults, and how they print.

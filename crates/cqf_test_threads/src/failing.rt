@@ -109,7 +109,7 @@ fn gives<R: Wait>(
     rt: &R,
     alloc: Global,
     tables: &[Table],
-    is_told: bool,
+    is_reported: bool,
     end: &mut PipeIn<Carried<Table>>,
 ) -> bool
     requires { length end.old.items ≡ 0 }
@@ -118,7 +118,7 @@ fn gives<R: Wait>(
     if !add_copies(alloc, tables, &mut bundle) {
         return false;
     }
-    if is_told && bundle.push_back(Carried::Stop).is_err() {
+    if is_reported && bundle.push_back(Carried::Stop).is_err() {
         return false;
     }
     match bundle.pop_front() {
@@ -138,14 +138,14 @@ fn give_tables<R: Wait>(
     requires { All (λ end. end.items ≡ []) ends.items }
 {
     let few = tables.get(..GIVEN).unwrap_or(&[]);
-    let is_told = matches!(stopped, Stopped::ByStop);
+    let is_reported = matches!(stopped, Stopped::ByStop);
     let mut given = true;
-    let mut place: usize = 0;
+    let mut index: usize = 0;
     for mut end in ends {
-        let is_second = place == 1;
+        let is_second = index == 1;
         let own = if is_second { few } else { tables };
-        given &= gives(rt, alloc, own, is_second && is_told, &mut end);
-        place = place.saturating_add(1);
+        given &= gives(rt, alloc, own, is_second && is_reported, &mut end);
+        index = index.saturating_add(1);
     }
     given
 }
@@ -168,7 +168,7 @@ fn fault_of<R: Threads + Wait + Sync>(
                 Ok(working) => {
                     let mut faults = Faults::none();
                     let _done = join_workers(rt, alloc, working, &mut faults);
-                    faults.told()
+                    faults.reported()
                 }
                 Err(fault) => Some(fault),
             }

@@ -7,7 +7,7 @@ use std::alloc::Global;
 use std::sync::Wait;
 
 /// Returns whether a Stop arrives, and nothing after it.
-fn is_told<T: Drop, R: Wait>(rt: &R, end: &mut PipeOut<Carried<T>>) -> bool {
+fn is_reported<T: Drop, R: Wait>(rt: &R, end: &mut PipeOut<Carried<T>>) -> bool {
     match end.take(rt) {
         Some(Carried::Stop) => end.take(rt).is_none(),
         _ => false,
@@ -15,7 +15,7 @@ fn is_told<T: Drop, R: Wait>(rt: &R, end: &mut PipeOut<Carried<T>>) -> bool {
 }
 
 /// Returns whether two workers get such a notice for their tables, past one that has ended.
-fn workers_are_told<R: Wait>(rt: &R, alloc: Global) -> Result<bool, Memory> {
+fn workers_are_reported<R: Wait>(rt: &R, alloc: Global) -> Result<bool, Memory> {
     let (one, mut first) = pipe::<Carried<Table>>(alloc)?;
     let (other, ended) = pipe::<Carried<Table>>(alloc)?;
     let (another, mut last) = pipe::<Carried<Table>>(alloc)?;
@@ -23,11 +23,11 @@ fn workers_are_told<R: Wait>(rt: &R, alloc: Global) -> Result<bool, Memory> {
     let mut tables = [one, other, another];
     stop_tables(rt, &mut tables);
     drop(tables);
-    Ok(is_told(rt, &mut first) && is_told(rt, &mut last))
+    Ok(is_reported(rt, &mut first) && is_reported(rt, &mut last))
 }
 
 /// Returns whether two threads that take from a worker get such a notice, past one that has ended.
-fn takers_are_told<R: Wait>(rt: &R, alloc: Global) -> Result<bool, Memory> {
+fn takers_are_reported<R: Wait>(rt: &R, alloc: Global) -> Result<bool, Memory> {
     let (one, mut first) = pipe::<Carried<u8>>(alloc)?;
     let (other, ended) = pipe::<Carried<u8>>(alloc)?;
     let (another, mut last) = pipe::<Carried<u8>>(alloc)?;
@@ -45,11 +45,11 @@ fn takers_are_told<R: Wait>(rt: &R, alloc: Global) -> Result<bool, Memory> {
     ];
     stop_each(rt, &mut outs);
     drop(outs);
-    Ok(is_told(rt, &mut first) && is_told(rt, &mut last))
+    Ok(is_reported(rt, &mut first) && is_reported(rt, &mut last))
 }
 
 #[test]
-fn each_that_still_takes_is_told_once(rt: HostRuntime) {
-    assert!(rt; matches!(workers_are_told(&rt, rt.alloc()), Ok(true)));
-    assert!(rt; matches!(takers_are_told(&rt, rt.alloc()), Ok(true)));
+fn each_that_still_takes_is_reported_once(rt: HostRuntime) {
+    assert!(rt; matches!(workers_are_reported(&rt, rt.alloc()), Ok(true)));
+    assert!(rt; matches!(takers_are_reported(&rt, rt.alloc()), Ok(true)));
 }

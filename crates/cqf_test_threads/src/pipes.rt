@@ -73,11 +73,11 @@ fn puts_three_at_once<R: Wait>(rt: &R, alloc: Global, into: &mut PipeIn<u32>) ->
     requires { length into.old.items ≡ 0 }
     ensures { into.new.pipe ≡ into.old.pipe }
 {
-    let mut behind = VecDeque::new(alloc);
-    if behind.push_back(2).is_err() || behind.push_back(3).is_err() || behind.len() > 2 {
+    let mut following = VecDeque::new(alloc);
+    if following.push_back(2).is_err() || following.push_back(3).is_err() || following.len() > 2 {
         return false;
     }
-    into.put_with(rt, 1, behind).is_ok() && into.put(rt, 4).is_ok()
+    into.put_with(rt, 1, following).is_ok() && into.put(rt, 4).is_ok()
 }
 
 /// Returns whether items that were put at once, and one after them, come out one by one and in order, and those left are counted.
@@ -113,11 +113,11 @@ fn come_back_together<R: Wait>(rt: &R, alloc: Global) -> bool {
     match pipe::<u32>(alloc) {
         Ok((mut into, out)) => {
             drop(out);
-            let mut behind = VecDeque::new(alloc);
-            if behind.push_back(8).is_err() || behind.len() > 1 {
+            let mut following = VecDeque::new(alloc);
+            if following.push_back(8).is_err() || following.len() > 1 {
                 return false;
             }
-            match into.put_with(rt, 7, behind) {
+            match into.put_with(rt, 7, following) {
                 Ok(()) => false,
                 Err((first, others)) => {
                     first == 7 && others.len() == 1 && others.get(0) == Some(&8)

@@ -7,7 +7,7 @@ use cqf_model::{Book, Offer, Receipt, Refused, Reply};
 use cqf_plain::run;
 use cqf_test_fixtures::{are_offers, line};
 use cqf_topology::Domain;
-use cqf_units::{Cycle, Name, Nanos};
+use cqf_units::{Name, Nanos};
 use cqf_worker::{Account, Free};
 use std::alloc::Global;
 use std::sync::Wait;

@@ -23,8 +23,8 @@ abbrev pub first_line : List ℕ → List ℕ
 first_line text = take (position_or_len is_line_feed text + 1) text
 
 -- the text after the first line
-abbrev pub behind_first_line : List ℕ → List ℕ
-behind_first_line text = drop (position_or_len is_line_feed text + 1) text
+abbrev pub after_first_line : List ℕ → List ℕ
+after_first_line text = drop (position_or_len is_line_feed text + 1) text
 
 -- the parts, with more text at the front of the first one
 abbrev pub prepend : List ℕ → List (List ℕ) → List (List ℕ)
@@ -56,10 +56,10 @@ first_line-feed text h =
 
 -- the first line and the other ones, if it has a line feed
 whole_lines-first : (text : List ℕ) → position_or_len is_line_feed text < length text →
-    whole_lines text ≡ first_line text ∷ whole_lines (behind_first_line text)
+    whole_lines text ≡ first_line text ∷ whole_lines (after_first_line text)
 whole_lines-first text h = ap with_line_feeds (slice_split_first is_line_feed text 0 h)
     ∙ with_line_feeds-cons _ _ (slice_split-some (after_first is_line_feed text))
-    ∙ ap (λ line. line ∷ whole_lines (behind_first_line text)) (sym (first_line-feed text h))
+    ∙ ap (λ line. line ∷ whole_lines (after_first_line text)) (sym (first_line-feed text h))
 
 -- a divider line begins a new part
 groups-divider : (line : List ℕ) (lines : List (List ℕ)) → is_divider line ≡ true →
@@ -76,34 +76,34 @@ first_line-alone : (text : List ℕ) → length text ≤ position_or_len is_line
 first_line-alone text h = grind (arith, common_steps)
 
 -- no text follows the only line
-behind-alone : (text : List ℕ) → length text ≤ position_or_len is_line_feed text → behind_first_line text ≡ []
-behind-alone text h = grind (arith, common_steps)
+following-alone : (text : List ℕ) → length text ≤ position_or_len is_line_feed text → after_first_line text ≡ []
+following-alone text h = grind (arith, common_steps)
 
 -- the parts of a single line
 parts_of-alone : (text : List ℕ) → length text ≤ position_or_len is_line_feed text → parts_of text ≡ map concat (slice_split is_divider (text ∷ []))
 parts_of-alone text h = ap (λ pieces. map concat (slice_split is_divider (with_line_feeds pieces))) (slice_split-alone is_line_feed text h)
 
 -- the parts, if the first line is a divider
-pub parts_of-divider : (text : List ℕ) → is_divider (first_line text) ≡ true → parts_of text ≡ [] ∷ parts_of (behind_first_line text)
+pub parts_of-divider : (text : List ℕ) → is_divider (first_line text) ≡ true → parts_of text ≡ [] ∷ parts_of (after_first_line text)
 parts_of-divider text h = elim (cases_lt (position_or_len is_line_feed text) (length text)) [
   | inl feed ↦ ap (λ lines. map concat (slice_split is_divider lines)) (whole_lines-first text feed)
-      ∙ groups-divider (first_line text) (whole_lines (behind_first_line text)) h
+      ∙ groups-divider (first_line text) (whole_lines (after_first_line text)) h
   | inr alone ↦
       let line : is_divider text ≡ true = ap is_divider (sym (first_line-alone text alone)) ∙ h in
       parts_of-alone text alone ∙ groups-divider text [] line
-      ∙ ap (λ rest. [] ∷ parts_of rest) (sym (behind-alone text alone))
+      ∙ ap (λ rest. [] ∷ parts_of rest) (sym (following-alone text alone))
 ]
 
 -- the parts, if the first line isn't a divider
-pub parts_of-other : (text : List ℕ) → is_divider (first_line text) ≡ false → parts_of text ≡ prepend (first_line text) (parts_of (behind_first_line text))
+pub parts_of-other : (text : List ℕ) → is_divider (first_line text) ≡ false → parts_of text ≡ prepend (first_line text) (parts_of (after_first_line text))
 parts_of-other text h = elim (cases_lt (position_or_len is_line_feed text) (length text)) [
   | inl feed ↦ ap (λ lines. map concat (slice_split is_divider lines)) (whole_lines-first text feed)
-      ∙ groups-other (first_line text) (whole_lines (behind_first_line text)) h
+      ∙ groups-other (first_line text) (whole_lines (after_first_line text)) h
   | inr alone ↦
       let line : is_divider text ≡ false = ap is_divider (sym (first_line-alone text alone)) ∙ h in
       parts_of-alone text alone ∙ groups-other text [] line
-      ∙ ap (λ rest. prepend text (parts_of rest)) (sym (behind-alone text alone))
-      ∙ ap (λ front. prepend front (parts_of (behind_first_line text))) (sym (first_line-alone text alone))
+      ∙ ap (λ rest. prepend text (parts_of rest)) (sym (following-alone text alone))
+      ∙ ap (λ front. prepend front (parts_of (after_first_line text))) (sym (first_line-alone text alone))
 ]
 
 -- the text has no percent sign
@@ -174,38 +174,38 @@ Passed-start input =
 
 -- a line that isn't a divider is passed
 line-passed : (input rest : List ℕ) → Passed input (front_of input rest) rest → is_divider (first_line rest) ≡ false →
-    Passed input (front_of input (behind_first_line rest)) (behind_first_line rest)
+    Passed input (front_of input (after_first_line rest)) (after_first_line rest)
 line-passed input rest p h =
     let line = first_line rest in
-    let behind = behind_first_line rest in
+    let following = after_first_line rest in
     let front = front_of input rest in
-    let whole : line ++ behind ≡ rest = take-append-drop (position_or_len is_line_feed rest + 1) rest in
-    let further : Passed input (front ++ line) behind = record {
-      cut = p.cut ∙ ap (λ x. front ++ x) (sym whole) ∙ sym (append_assoc front line behind);
-      parts = p.parts ∙ ap (prepend front) (parts_of-other rest h) ∙ prepend-append front line (parts_of behind);
+    let whole : line ++ following ≡ rest = take-append-drop (position_or_len is_line_feed rest + 1) rest in
+    let further : Passed input (front ++ line) following = record {
+      cut = p.cut ∙ ap (λ x. front ++ x) (sym whole) ∙ sym (append_assoc front line following);
+      parts = p.parts ∙ ap (prepend front) (parts_of-other rest h) ∙ prepend-append front line (parts_of following);
     } in
-    subst (λ (x : List ℕ). Passed input x behind) (sym (front_is input (front ++ line) behind further)) further
+    subst (λ (x : List ℕ). Passed input x following) (sym (front_is input (front ++ line) following further)) further
 
 -- at a divider, the front is a part
 divider-passed : (input rest : List ℕ) → Passed input (front_of input rest) rest → is_divider (first_line rest) ≡ true →
-    parts_of input ≡ front_of input rest ∷ parts_of (behind_first_line rest)
+    parts_of input ≡ front_of input rest ∷ parts_of (after_first_line rest)
 divider-passed input rest p h =
     p.parts ∙ ap (prepend (front_of input rest)) (parts_of-divider rest h)
-    ∙ ap (λ x. x ∷ parts_of (behind_first_line rest)) (append-nil (front_of input rest))
+    ∙ ap (λ x. x ∷ parts_of (after_first_line rest)) (append-nil (front_of input rest))
 
 -- the next line is passed if it isn't a divider
-pub Passed-line : (input rest line behind : List ℕ) → Passed input (front_of input rest) rest → line ≡ first_line rest → behind ≡ behind_first_line rest →
-    false ≡ is_divider line → Passed input (front_of input behind) behind
-Passed-line input rest line behind p line_is behind_is h =
+pub Passed-line : (input rest line following : List ℕ) → Passed input (front_of input rest) rest → line ≡ first_line rest → following ≡ after_first_line rest →
+    false ≡ is_divider line → Passed input (front_of input following) following
+Passed-line input rest line following p line_is after_is h =
     let other : is_divider (first_line rest) ≡ false = ap is_divider (sym line_is) ∙ sym h in
-    subst (λ (x : List ℕ). Passed input (front_of input x) x) (sym behind_is) (line-passed input rest p other)
+    subst (λ (x : List ℕ). Passed input (front_of input x) x) (sym after_is) (line-passed input rest p other)
 
 -- a divider ends the first part
-pub Passed-divider : (input rest line behind : List ℕ) → Passed input (front_of input rest) rest → line ≡ first_line rest → behind ≡ behind_first_line rest →
-    true ≡ is_divider line → parts_of input ≡ front_of input rest ∷ parts_of behind
-Passed-divider input rest line behind p line_is behind_is h =
+pub Passed-divider : (input rest line following : List ℕ) → Passed input (front_of input rest) rest → line ≡ first_line rest → following ≡ after_first_line rest →
+    true ≡ is_divider line → parts_of input ≡ front_of input rest ∷ parts_of following
+Passed-divider input rest line following p line_is after_is h =
     let divider : is_divider (first_line rest) ≡ true = ap is_divider (sym line_is) ∙ sym h in
-    divider-passed input rest p divider ∙ ap (λ x. front_of input rest ∷ parts_of x) (sym behind_is)
+    divider-passed input rest p divider ∙ ap (λ x. front_of input rest ∷ parts_of x) (sym after_is)
 
 -- the last part ends with the input
 pub Passed-end : (input : List ℕ) → Passed input (front_of input []) [] → parts_of input ≡ input ∷ []

@@ -5,7 +5,7 @@ ghost use Rattle.cqf_text.specs.Decimal.{decimal_in, in_range};
 /// The largest number of digits of a number, including leading zeros.
 const MOST_DIGITS: usize = 20;
 
-/// The largest number of digits that always denote a number of 64 bits.
+/// The largest number of digits that always denote a number below 2^64.
 const SAFE_DIGITS: usize = 19;
 
 /// Returns the number with one more digit, or `None` if it doesn't fit 64 bits.
@@ -16,7 +16,7 @@ fn with_digit(number: u64, digit: u8) -> Option<u64>
     number.checked_mul(10)?.checked_add(u64::from(digit))
 }
 
-/// Returns the number if it is in the range.
+/// Returns the number if it is from `least` to `most`, otherwise `None`.
 fn ranged(number: u64, least: u64, most: u64) -> Option<u64>
     ensures { result ≡ in_range least most number }
 {
@@ -27,7 +27,7 @@ fn ranged(number: u64, least: u64, most: u64) -> Option<u64>
     }
 }
 
-/// Returns the number that the bytes denote, if it is in the range. There are at most 19 bytes, so no step overflows 64 bits.
+/// Returns the number that the bytes denote, if it is in the range. There are 1 to 19 bytes, so no step overflows 64 bits.
 fn read_short(bytes: &[u8], least: u64, most: u64) -> Option<u64>
     requires some { 0 < length bytes.now }
     requires few { length bytes.now ≤ 19 }
@@ -43,8 +43,8 @@ fn read_short(bytes: &[u8], least: u64, most: u64) -> Option<u64>
     ranged(number, least, most)
 }
 
-/// Returns the number that the bytes denote, if it is in the range. There are at most 20 bytes, and each step is
-/// checked to fit 64 bits.
+/// Returns the number that the bytes denote, if it is in the range. There are 1 to 20 bytes, and each step is checked
+/// to fit 64 bits.
 fn read_long(bytes: &[u8], least: u64, most: u64) -> Option<u64>
     requires some { 0 < length bytes.now }
     requires few { length bytes.now ≤ 20 }

@@ -38,7 +38,8 @@ fn split_whole_line(text: &[u8]) -> (&[u8], &[u8])
     }
 }
 
-/// Returns the first part of the input, and the text after the divider that ends it, or `None` if the part is the last one.
+/// Returns the first part of the input, and the text after the divider that ends it, or `None` for that text if the part is
+/// the last one.
 fn split_part(input: &[u8]) -> (&[u8], Option<&[u8]>)
     ensures parts { MatchOption result.1 (parts_of input.now ≡ result.0.now ∷ []) (λ rest. parts_of input.now ≡ result.0.now ∷ parts_of rest.now) }
     ensures shorter { MatchOption result.1 ⊤ (λ rest. length rest.now < length input.now) }
@@ -48,17 +49,17 @@ fn split_part(input: &[u8]) -> (&[u8], Option<&[u8]>)
     }
     let mut rest = input;
     while !rest.is_empty() {
-        let (line, behind) = split_whole_line(rest);
+        let (line, following) = split_whole_line(rest);
         if divides(line) {
-            return (&input[..input.len() - rest.len()], Some(behind));
+            return (&input[..input.len() - rest.len()], Some(following));
         }
-        rest = behind;
+        rest = following;
     }
     (input, None)
 }
 
 /// Returns the parts of an input: the text before the first line that is exactly `%%`, between two such lines, and
-/// after the last one. The last `%%` may lack its line feed; an empty part follows it all the same. An empty input is
+/// after the last one. The last `%%` may lack its line feed, and is then followed by an empty part. An empty input is
 /// one empty part. The line feed before a divider belongs to the part before it. Returns `Memory` if an allocation
 /// fails.
 pub fn parts(alloc: Global, input: &[u8]) -> Result<Vec<&[u8]>, Memory>
@@ -67,9 +68,9 @@ pub fn parts(alloc: Global, input: &[u8]) -> Result<Vec<&[u8]>, Memory>
     let mut parts = Vec::new(alloc);
     let mut rest = Some(input);
     while let Some(text) = rest {
-        let (part, behind) = split_part(text);
+        let (part, following) = split_part(text);
         parts.push(part)?;
-        rest = behind;
+        rest = following;
     }
     Ok(parts)
 }

@@ -22,12 +22,12 @@ use Rattle.cqf_topology.specs.declared.faults.DomainFault.TheVariants as fault
 use Rattle.cqf_lists.specs.Results.{and_then, refuse}
 use Rattle.cqf_topology.specs.Fields.{and_first, read_at, whole_document, tables_of_key, number_from, names_at}
 use Rattle.cqf_topology.specs.LinkTimes.{AreReadTimes, has_long_delay, has_long_gap, has_long_guard, has_long_sync, times_of}
-use Rattle.cqf_topology.specs.DomainText.{DomainText, IsReadable, HasNames, IsNumberedDomain, IsDomain, NoLinkTwice, is_among, first_taken, place_of, apart}
+use Rattle.cqf_topology.specs.DomainText.{DomainText, IsReadable, HasNames, IsNumberedDomain, IsDomain, NoLinkTwice, is_among, first_taken, index_of, apart}
 use Rattle.cqf_topology.specs.DomainText.{joined, if_some, link_read, link_keys, link_with, domain_keys, domain_from, read_text, checked}
-use Rattle.cqf_topology.specs.DomainText.{joined_link, sync_from, with_links, with_these}
+use Rattle.cqf_topology.specs.DomainText.{joined_link, overhead_from, sync_from, with_links, with_these}
 use Rattle.cqf_topology.specs.JoinedLink.{HasSmallEnds, IsSmallNode}
 use Rattle.cqf_topology.proofs.Distinct.{first_taken-None}
-use Rattle.cqf_topology.proofs.Ordered.{links-read, sync-range}
+use Rattle.cqf_topology.proofs.Ordered.{links-read, overhead-range, sync-range}
 use Rattle.cqf_topology.proofs.Passed.{Passes}
 use Rattle.cqf_topology.proofs.Refusals.{and_then-Ok, refuse-Ok, ok_or-Ok, number-range, names-named, if_some-Ok}
 
@@ -37,20 +37,23 @@ domain_from-readable limits table d h =
     let (cycle_time, at_cycle, h1) = and_then-Ok (read_at Cycle (number_from 10000 10000000) table) _ d h in
     let (guard, at_guard, h2) = and_then-Ok (read_at Guard (number_from 1 10000000) table) _ d h1 in
     let (sync, at_sync, h3) = and_then-Ok (sync_from table) _ d h2 in
-    let (bridges, at_bridges, h4) = and_then-Ok (and_then (names_at Bridges table) (if_some Bridges)) _ d h3 in
-    let (stations, at_stations, h5) = and_then-Ok (names_at Stations table) _ d h4 in
-    let (links, at_links, h6) = and_then-Ok (tables_of_key Links link_read table) _ d h5 in
+    let (overhead, at_overhead, h4) = and_then-Ok (overhead_from table) _ d h3 in
+    let (bridges, at_bridges, h5) = and_then-Ok (and_then (names_at Bridges table) (if_some Bridges)) _ d h4 in
+    let (stations, at_stations, h6) = and_then-Ok (names_at Stations table) _ d h5 in
+    let (links, at_links, h7) = and_then-Ok (tables_of_key Links link_read table) _ d h6 in
     let (names, named, some) = and_then-Ok (names_at Bridges table) (if_some Bridges) bridges at_bridges in
     let some_is = if_some-Ok Bridges names bridges some in
     let cycle_range = number-range Cycle 10000 10000000 table cycle_time at_cycle in
     let guard_range = number-range Guard 1 10000000 table guard at_guard in
-    let d' : DomainText = record { limits = limits; cycle_time = cycle_time; guard = guard; sync = sync; bridges = bridges; stations = stations; links = links } in
+    let d' : DomainText =
+    record { limits = limits; cycle_time = cycle_time; guard = guard; sync = sync; overhead = overhead; bridges = bridges; stations = stations; links = links } in
     let is : d' ≡ d = cc in
     subst IsReadable is (record {
       cycle_least = cycle_range.0;
       cycle_most = cycle_range.1;
       guard_some = guard_range.0;
       sync_most = sync-range table sync at_sync;
+      overhead_most = overhead-range table overhead at_overhead;
       some_bridge = some_is.1;
       bridges_named = subst (All (λ name. IsTrue (is_name name))) some_is.0 (names-named Bridges table names named);
       stations_named = names-named Stations table stations at_stations;
@@ -181,17 +184,17 @@ pub record HasEnds (d : Domain) (link : Link) : Type 0 where
   pub not_to_itself : link.to ≢ Bridge link.from
 
 -- the index of a name is below the number of names
-pub place-within : (name : List ℕ) (names : List (List ℕ)) (i : ℕ) → place_of name names ≡ Some i → i < length names
-place-within name names i h = (position-Some _ names i [] h).0
+pub index-within : (name : List ℕ) (names : List (List ℕ)) (i : ℕ) → index_of name names ≡ Some i → i < length names
+index-within name names i h = (position-Some _ names i [] h).0
 
 -- the node of a name is one of the domain's
-node-within : (d : Domain) (name : List ℕ) (n : Node) → node_or (place_of name d.bridges) (place_of name d.stations) ≡ Some n → IsNode d n
-node-within d name n h = by (place_of name d.bridges) (place_of name d.stations) refl refl h
+node-within : (d : Domain) (name : List ℕ) (n : Node) → node_or (index_of name d.bridges) (index_of name d.stations) ≡ Some n → IsNode d n
+node-within d name n h = by (index_of name d.bridges) (index_of name d.stations) refl refl h
   where
     -- the node is one of the domain's, whether it is a bridge or a station
-    by : (b s : Option ℕ) → place_of name d.bridges ≡ b → place_of name d.stations ≡ s → node_or b s ≡ Some n → IsNode d n
-    by (Some b) s at_b at_s h = let e : Bridge b ≡ n = cc in subst (IsNode d) e (place-within name d.bridges b at_b)
-    by None (Some s) at_b at_s h = let e : Station s ≡ n = cc in subst (IsNode d) e (place-within name d.stations s at_s)
+    by : (b s : Option ℕ) → index_of name d.bridges ≡ b → index_of name d.stations ≡ s → node_or b s ≡ Some n → IsNode d n
+    by (Some b) s at_b at_s h = let e : Bridge b ≡ n = cc in subst (IsNode d) e (index-within name d.bridges b at_b)
+    by None (Some s) at_b at_s h = let e : Station s ≡ n = cc in subst (IsNode d) e (index-within name d.stations s at_s)
     by None None at_b at_s h = absurd (cc)
 
 -- a link between nodes that are apart has its ends
@@ -218,10 +221,10 @@ apart-ends d name l from to link from_there to_there h = by (same_node to (Bridg
 -- a link that is joined has its ends
 joined_link-ends : (d : Domain) (l : DraftLink) (link : Link) → joined_link d.bridges d.stations l ≡ Ok link → HasEnds d link
 joined_link-ends d l link h =
-    let (from, at_from, h1) = and_then-Ok (ok_or (place_of l.from d.bridges) (fault.UnknownName l.from)) _ link h in
-    let (to, at_to, h2) = and_then-Ok (ok_or (node_or (place_of l.to d.bridges) (place_of l.to d.stations)) (fault.UnknownName l.to)) _ link h1 in
+    let (from, at_from, h1) = and_then-Ok (ok_or (index_of l.from d.bridges) (fault.UnknownName l.from)) _ link h in
+    let (to, at_to, h2) = and_then-Ok (ok_or (node_or (index_of l.to d.bridges) (index_of l.to d.stations)) (fault.UnknownName l.to)) _ link h1 in
     apart-ends d l.to l from to link
-    (place-within l.from d.bridges from (ok_or-Ok _ (fault.UnknownName l.from) from at_from))
+    (index-within l.from d.bridges from (ok_or-Ok _ (fault.UnknownName l.from) from at_from))
     (node-within d l.to to (ok_or-Ok _ (fault.UnknownName l.to) to at_to)) h2
 
 -- and its delays are those of the text, which are in order
@@ -237,8 +240,8 @@ apart-ordered name l from to link read h = by (same_node to (Bridge from)) h
 joined_link-ordered : (bridges stations : List (List ℕ)) (l : DraftLink) (link : Link) → AreReadTimes l.times →
     joined_link bridges stations l ≡ Ok link → link.least ≤ link.delay
 joined_link-ordered bridges stations l link read h =
-    let (from, at_from, h1) = and_then-Ok (ok_or (place_of l.from bridges) (fault.UnknownName l.from)) _ link h in
-    let (to, at_to, h2) = and_then-Ok (ok_or (node_or (place_of l.to bridges) (place_of l.to stations)) (fault.UnknownName l.to)) _ link h1 in
+    let (from, at_from, h1) = and_then-Ok (ok_or (index_of l.from bridges) (fault.UnknownName l.from)) _ link h in
+    let (to, at_to, h2) = and_then-Ok (ok_or (node_or (index_of l.to bridges) (index_of l.to stations)) (fault.UnknownName l.to)) _ link h1 in
     apart-ordered l.to l from to link read h2
 
 module _ (bridges stations : List (List ℕ)) (P : Link → Type 0) where
@@ -275,15 +278,15 @@ pub joined-ends : (d : Domain) (ls : List DraftLink) (links : List Link) → joi
 joined-ends d ls = joined-each d.bridges d.stations (HasEnds d) ls (λ k l inside. joined_link-ends d l)
 
 -- what holds of all elements holds of the element at an index
-of_place : {A : Type 0} (P : A → Type 0) (xs : List A) → All P xs → (k : ℕ) (x : A) → slice_get xs k ≡ Some x → P x
-of_place P xs all k x at = subst P (get_or_from_slice_get xs k x x at) (all k x (slice_get_within xs k x at))
+of_index : {A : Type 0} (P : A → Type 0) (xs : List A) → All P xs → (k : ℕ) (x : A) → slice_get xs k ≡ Some x → P x
+of_index P xs all k x at = subst P (get_or_from_slice_get xs k x x at) (all k x (slice_get_within xs k x at))
 
 -- and its delays in order
 joined-ordered : (bridges stations : List (List ℕ)) (ls : List DraftLink) → All (λ (l : DraftLink). AreReadTimes l.times) ls →
     (links : List Link) → joined bridges stations ls ≡ Ok links → (k : ℕ) (link : Link) → slice_get links k ≡ Some link → link.least ≤ link.delay
 joined-ordered bridges stations ls read =
     joined-each bridges stations (λ link. link.least ≤ link.delay) ls (λ k l inside link.
-    joined_link-ordered bridges stations l link (of_place (λ (l : DraftLink). AreReadTimes l.times) ls read k l inside))
+    joined_link-ordered bridges stations l link (of_index (λ (l : DraftLink). AreReadTimes l.times) ls read k l inside))
 
 -- the number of a node fits two octets
 small-node : (d : Domain) (n : Node) → length d.bridges ≤ 1024 → length d.stations ≤ 4096 → IsNode d n → IsSmallNode n
@@ -299,7 +302,7 @@ joined-small t bridges stations links n few few_too k link inside =
   where
     -- a domain of these names and links
     d : Domain
-    d = record { limits = t.limits; cycle_time = 0; guard = 0; sync = 0; bridges = bridges; stations = stations; links = links }
+    d = record { limits = t.limits; cycle_time = 0; guard = 0; sync = 0; overhead = 0; bridges = bridges; stations = stations; links = links }
 
     -- its links are those of the text, joined
     there : joined bridges stations t.links ≡ Ok links
@@ -315,6 +318,7 @@ checked-accepted t bridges stations links n once p =
         cycle_most = n.readable.cycle_most;
         guard_some = n.readable.guard_some;
         guard_short = p.short;
+        overhead_short = n.readable.overhead_most;
         some_bridge = n.readable.some_bridge;
         few_bridges = p.few_bridges;
         few_stations = p.few_stations;

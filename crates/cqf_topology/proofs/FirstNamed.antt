@@ -50,21 +50,21 @@ module _ {X : Type 0} (text : X → List ℕ) (under : List ℕ → Option ℕ) 
       by false is = or_nothing (under name) ∙ ap (λ b. or_else (under name) (cond b (Some (length xs)) None)) (sym is)
 
   -- an element whose name is new takes the next index
-  pub new_name : (then : List ℕ → Option ℕ) (place : ℕ) → under (text x) ≡ None → place ≡ length xs →
-      ((name : List ℕ) → then name ≡ cond (pointwise nat_eq (text x) name) (Some place) (under name)) →
+  pub new_name : (then : List ℕ → Option ℕ) (index : ℕ) → under (text x) ≡ None → index ≡ length xs →
+      ((name : List ℕ) → then name ≡ cond (pointwise nat_eq (text x) name) (Some index) (under name)) →
       (name : List ℕ) → then name ≡ position (λ y. is_text (text y) name) after
-  new_name then place none at is name =
-      is name ∙ ap (λ t. cond t (Some place) (under name)) (pointwise-is_text (text x) name ∙ is_text_either name (text x))
+  new_name then index none at is name =
+      is name ∙ ap (λ t. cond t (Some index) (under name)) (pointwise-is_text (text x) name ∙ is_text_either name (text x))
       ∙ by (is_text (text x) name) refl ∙ sym (placed name)
     where
       by : (b : Bool) → is_text (text x) name ≡ b →
-          cond (is_text (text x) name) (Some place) (under name) ≡ or_else (under name) (cond (is_text (text x) name) (Some (length xs)) None)
+          cond (is_text (text x) name) (Some index) (under name) ≡ or_else (under name) (cond (is_text (text x) name) (Some (length xs)) None)
       by true same =
           let own : text x ≡ name = is_text_same (text x) name same in
           let free : under name ≡ None = subst (λ n. under n ≡ None) own none in
-          ap (λ t. cond t (Some place) (under name)) same ∙ ap (λ n. Some n) at
+          ap (λ t. cond t (Some index) (under name)) same ∙ ap (λ n. Some n) at
           ∙ sym (ap (λ o. or_else o (cond (is_text (text x) name) (Some (length xs)) None)) free
           ∙ ap (λ t. cond t (Some (length xs)) None) same)
       by false other =
-          ap (λ t. cond t (Some place) (under name)) other ∙ or_nothing (under name)
+          ap (λ t. cond t (Some index) (under name)) other ∙ or_nothing (under name)
           ∙ ap (λ t. or_else (under name) (cond t (Some (length xs)) None)) (sym other)

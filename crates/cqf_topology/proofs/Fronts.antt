@@ -14,8 +14,8 @@ module _ {V A E : Type 0} (one : V → Result A E) (each : List V → Result (Li
     (by_one : (v : V) (vs : List V) → each (v ∷ vs) ≡ and_first (one v) (each vs))
     (values : List V) (k : ℕ) (v : V) (inside : k < length values) (at : v ≡ get_or values k v) (done : List A) where
   -- what is read from an index on: the element there, and then the rest
-  from-place : each (drop k values) ≡ and_first (one v) (each (drop (k + 1) values))
-  from-place =
+  from-index : each (drop k values) ≡ and_first (one v) (each (drop (k + 1) values))
+  from-index =
       ap each (drop-cons values k v inside) ∙ by_one (get_or values k v) (drop (suc k) values)
       ∙ (λ i. and_first (one (sym at i)) (each (drop (sym (add-one k) i) values)))
 
@@ -24,11 +24,11 @@ module _ {V A E : Type 0} (one : V → Result A E) (each : List V → Result (Li
       with_front done' (each (drop (k + 1) values)) ≡ with_front done (each (drop k values))
   read-more x done' good more =
       ap (λ front. with_front front (each (drop (k + 1) values))) more ∙ front-more done x (each (drop (k + 1) values))
-      ∙ ap (λ r. with_front done (and_first r (each (drop (k + 1) values)))) (sym good) ∙ ap (with_front done) (sym from-place)
+      ∙ ap (λ r. with_front done (and_first r (each (drop (k + 1) values)))) (sym good) ∙ ap (with_front done) (sym from-index)
 
   -- if the element wasn't read, its fault is the fault of all
   pub read-fault : (e : E) → one v ≡ Err e → with_front done (each (drop k values)) ≡ Err e
-  read-fault e bad = ap (with_front done) (from-place ∙ ap (λ r. and_first r (each (drop (k + 1) values))) bad)
+  read-fault e bad = ap (with_front done) (from-index ∙ ap (λ r. and_first r (each (drop (k + 1) values))) bad)
 
 -- at the end all was read
 pub read-all : {V A E : Type 0} (each : List V → Result (List A) E) → each [] ≡ Ok [] → (values : List V) (k : ℕ) → length values ≤ k → (done : List A)

@@ -8,7 +8,7 @@ pub mod Accepted
 pub mod Nodes
 pub mod Distinct
 pub mod Repeats
-pub mod Told
+pub mod Written
 pub mod Passed
 pub mod Fronts
 pub mod Copies

@@ -15,7 +15,7 @@ use Rattle.cqf_model.specs.Domain.{same_node}
 use Rattle.cqf_topology.specs.DomainText.{NoLinkTwice, same_ends}
 use Rattle.cqf_topology.specs.JoinedLink.{are_same_ends, ends_of}
 use Rattle.cqf_topology.proofs.HeldEnds.{held-next, list_any-ends}
-use Rattle.cqf_topology.proofs.Told.{leads-only}
+use Rattle.cqf_topology.proofs.Written.{leads-only}
 
 -- nodes are compared as the definitions compare them
 node_eq-same : (a b : Node) → node.eq a b ≡ same_node a b
@@ -72,9 +72,9 @@ turned-number a b = by (a == b) (b == a) refl refl
     by false false e f = refl
 
 -- the index of ends among those of links
-pub place-of-ends : (from : ℕ) (to : Node) (links : List Link)
+pub index-of-ends : (from : ℕ) (to : Node) (links : List Link)
     → position (λ y. number.eq from y.0 && node.eq to y.1) (map ends_of links) ≡ position (λ (link : Link). (link.from == from) && same_node link.to to) links
-place-of-ends from to links =
+index-of-ends from to links =
     position-map (λ y. number.eq from y.0 && node.eq to y.1) ends_of links ∙ ap (λ test. position test links) (λ i. λ (link : Link). same link i)
   where
     turned : (a b : Node) → node.eq a b ≡ same_node b a

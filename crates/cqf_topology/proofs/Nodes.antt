@@ -5,14 +5,14 @@ use Rattle.std.proofs.lemmas.List.Quantifiers.{position-Some}
 use Rattle.cqf_units.specs.Name.{is_name}
 use Rattle.cqf_model.proofs.Texts.{is_text_same}
 use Rattle.cqf_model.specs.Domain.{Domain, is_text, node_or, node_named}
-use Rattle.cqf_topology.specs.DomainText.{IsDomain, place_of}
+use Rattle.cqf_topology.specs.DomainText.{IsDomain, index_of}
 
 -- a text that isn't a name has no index among names
-place_of-other : (text : List ℕ) (names : List (List ℕ)) → All (λ name. IsTrue (is_name name)) names → is_name text ≡ false → place_of text names ≡ None
-place_of-other text names named other = by (place_of text names) refl
+index_of-other : (text : List ℕ) (names : List (List ℕ)) → All (λ name. IsTrue (is_name name)) names → is_name text ≡ false → index_of text names ≡ None
+index_of-other text names named other = by (index_of text names) refl
   where
     -- any index that is found leads to a contradiction
-    by : (o : Option ℕ) → place_of text names ≡ o → o ≡ None
+    by : (o : Option ℕ) → index_of text names ≡ o → o ≡ None
     by None at = refl
     by (Some i) at =
         let found = position-Some (λ name. is_text name text) names i [] at in
@@ -23,4 +23,4 @@ place_of-other text names named other = by (place_of text names) refl
 -- what isn't a name names no node
 pub node_named-other : (d : Domain) → IsDomain d → (text : List ℕ) → is_name text ≡ false → node_named d text ≡ None
 node_named-other d good text other =
-    (λ i. node_or (place_of-other text d.bridges good.bridges_named other i) (place_of-other text d.stations good.stations_named other i))
+    (λ i. node_or (index_of-other text d.bridges good.bridges_named other i) (index_of-other text d.stations good.stations_named other i))

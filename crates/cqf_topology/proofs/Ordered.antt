@@ -4,28 +4,38 @@ use Rattle.std.specs.Option.{option_and_then, option_map, unwrap_or}
 use Rattle.std.specs.Prelude.{IfSome}
 use Rattle.toml.specs.Data.{Data, Items, Members, as_array, as_integer, as_table, item, no_items}
 use Rattle.cqf_lists.specs.Results.{and_then}
-use Rattle.cqf_model.specs.Limits.{longest_cycle}
+use Rattle.cqf_model.specs.Limits.{longest_cycle, most_overhead}
 use Rattle.cqf_topology.specs.declared.draft.DraftLink.{DraftLink}
-use Rattle.cqf_topology.specs.declared.keys.Key.TheVariants.{Sync, Links, From, To, Rate, Delay, Guard}
+use Rattle.cqf_topology.specs.declared.keys.Key.{Key}
+use Rattle.cqf_topology.specs.declared.keys.Key.TheVariants.{GateOverhead, Sync, Links, From, To, Rate, Delay, Guard}
 use Rattle.cqf_topology.specs.declared.times.LinkTimes.{LinkTimes}
 use Rattle.cqf_topology.specs.declared.toml_faults.TomlFault.{TomlFault}
 use Rattle.cqf_topology.specs.declared.toml_faults.TomlFault.TheVariants.{BadValue}
 use Rattle.cqf_topology.specs.Fields.{are_tables, name_from, number_from, number_if, read_at, tables_from, tables_of_key, value_at, within_range}
-use Rattle.cqf_topology.specs.DomainText.{link_read, sync_from}
+use Rattle.cqf_topology.specs.DomainText.{link_read, overhead_from, sync_from}
 use Rattle.cqf_topology.specs.LinkTimes.{AreReadTimes, delays_by, delays_from, delays_in_order, delays_of_two, rate_from, times_read}
 use Rattle.cqf_topology.proofs.Refusals.{and_then-Ok, and_then-Some, each_from-All, number_if-range, ok_or-Ok, within_range-Some}
 
--- how far clocks may be apart
-pub sync-range : (table : Members) (sync : ℕ) → sync_from table ≡ Ok sync → sync ≤ longest_cycle
-sync-range table sync h =
-    let (found, read, rest) = and_then-Ok (number_if Sync 0 10000000 table) _ sync h in
-    by found (number_if-range Sync 0 10000000 table found read) rest
+-- the range of a number that is 0 if its key is missing
+zero_or-range : (key : Key) (most : ℕ) (table : Members) (number : ℕ) → and_then (number_if key 0 most table) (λ o. Ok (unwrap_or o 0)) ≡ Ok number →
+    number ≤ most
+zero_or-range key most table number h =
+    let (found, read, rest) = and_then-Ok (number_if key 0 most table) _ number h in
+    by found (number_if-range key 0 most table found read) rest
   where
     -- whether the key is there or not
-    by : (o : Option ℕ) → IfSome o (λ n. (0 ≤ n) × (n ≤ 10000000)) →
-        ◌≡◌ {A = Result ℕ TomlFault} (Ok (unwrap_or o 0)) (Ok sync) → sync ≤ longest_cycle
-    by None range h = let same : 0 ≡ sync = cc in subst (λ n. n ≤ longest_cycle) same (omega arith)
-    by (Some n) range h = let same : n ≡ sync = cc in subst (λ n. n ≤ longest_cycle) same range.1
+    by : (o : Option ℕ) → IfSome o (λ n. (0 ≤ n) × (n ≤ most)) →
+        ◌≡◌ {A = Result ℕ TomlFault} (Ok (unwrap_or o 0)) (Ok number) → number ≤ most
+    by None range h = let same : 0 ≡ number = cc in subst (λ n. n ≤ most) same (omega arith)
+    by (Some n) range h = let same : n ≡ number = cc in subst (λ n. n ≤ most) same range.1
+
+-- how far clocks may be apart
+pub sync-range : (table : Members) (sync : ℕ) → sync_from table ≡ Ok sync → sync ≤ longest_cycle
+sync-range table sync h = zero_or-range Sync 10000000 table sync h
+
+-- and how many octets of a frame gates may leave uncounted
+pub overhead-range : (table : Members) (overhead : ℕ) → overhead_from table ≡ Ok overhead → overhead ≤ most_overhead
+overhead-range table overhead h = zero_or-range GateOverhead 22 table overhead h
 
 -- what a map of an option gives comes from a value of that option
 map-Some : {A B : Type 0} (f : A → B) (o : Option A) (y : B) → option_map f o ≡ Some y → (x : A) × (o ≡ Some x) × (f x ≡ y)

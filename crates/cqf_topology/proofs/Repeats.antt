@@ -4,7 +4,7 @@ use Rattle.std.proofs.Common.{ap, sym, subst, ◌∙◌, append_assoc, length-ap
 use Rattle.std.specs.List.{list_any}
 use Rattle.std.proofs.lemmas.Bool.{cases_lt, true≢false}
 use Rattle.std.proofs.lemmas.Option.{slice_get_within}
-use Rattle.cqf_lists.proofs.Places.{slice_get_behind}
+use Rattle.cqf_lists.proofs.Indices.{slice_get_after}
 
 -- an element of the first part is in the whole list at the same index
 at-left : {X : Type 0} (xs ys : List X) (j : ℕ) (a : X) → slice_get xs j ≡ Some a → slice_get (xs ++ ys) j ≡ Some a
@@ -54,19 +54,19 @@ module _ {X : Type 0} (same : X → X → Bool) where
     pub a : X
     pub b : X
     pub at_twin : slice_get xs twin ≡ Some a
-    pub at_place : slice_get xs k ≡ Some b
+    pub at_index : slice_get xs k ≡ Some b
     pub equal : same b a ≡ true
 
   -- from the index `from` on, none before `k` repeats, and the one at `k` does
   pub record IsFirst (xs : List X) (from k : ℕ) : Type 0 where
-    pub behind : from ≤ k
+    pub following : from ≤ k
     pub repeats : Repeats xs k
     pub least : (i : ℕ) → from ≤ i → i < k → ¬ Repeats xs i
 
   -- the element right after the first part repeats none of it
   fresh : (earlier xs : List X) (x : X) → list_any (same x) earlier ≡ false → ¬ Repeats (earlier ++ x ∷ xs) (length earlier)
   fresh earlier xs x none r =
-      let is : x ≡ r.b = some-inj (sym (slice_get_behind earlier x xs (length earlier) refl) ∙ r.at_place) in
+      let is : x ≡ r.b = some-inj (sym (slice_get_after earlier x xs (length earlier) refl) ∙ r.at_index) in
       let there : slice_get earlier r.twin ≡ Some r.a = at-front earlier (x ∷ xs) r.twin r.a r.earlier r.at_twin in
       let differs : same x r.a ≡ false = none-at (same x) earlier none r.twin r.a there in
       true≢false (sym r.equal ∙ ap (λ y. same y r.a) (sym is) ∙ differs)
@@ -88,17 +88,17 @@ module _ {X : Type 0} (same : X → X → Bool) where
           → cond b (Some (length earlier)) (first_repeat (earlier ++ x ∷ []) xs) ≡ Some k → IsFirst (earlier ++ x ∷ xs) (length earlier) k
       by true e rest h =
           let (j, a, inside, at, is) = any-at (same x) earlier e in
-          let place : length earlier ≡ k = cc in
-          subst (IsFirst (earlier ++ x ∷ xs) (length earlier)) place (record {
-            behind = omega arith;
+          let index : length earlier ≡ k = cc in
+          subst (IsFirst (earlier ++ x ∷ xs) (length earlier)) index (record {
+            following = omega arith;
             repeats = record {
               twin = j;
               earlier = inside;
               a = a;
               b = x;
               at_twin = at-left earlier (x ∷ xs) j a at;
-              at_place =
-                  slice_get_behind earlier x xs (length earlier) refl;
+              at_index =
+                  slice_get_after earlier x xs (length earlier) refl;
               equal = is;
             };
             least = λ i from before. absurd (omega (arith, from, before));
@@ -107,7 +107,7 @@ module _ {X : Type 0} (same : X → X → Bool) where
           let more = subst (λ ys. IsFirst ys (length (earlier ++ x ∷ [])) k) (append_assoc earlier (x ∷ []) xs) (rest h) in
           let one = longer earlier x in
           record {
-            behind = omega (arith, more.behind, one);
+            following = omega (arith, more.following, one);
             repeats = more.repeats;
             least = λ i from before. elim (cases_lt (length earlier) i) [
               | inl later ↦ more.least i (omega (arith, later, one)) before
@@ -118,7 +118,7 @@ module _ {X : Type 0} (same : X → X → Bool) where
 
   -- if no index is returned, no element repeats
   pub first_repeat-None : (earlier xs : List X) → first_repeat earlier xs ≡ None → (i : ℕ) → length earlier ≤ i → ¬ Repeats (earlier ++ xs) i
-  first_repeat-None earlier [] h = λ i from r. past (earlier ++ []) i r.b (omega (arith, length-append earlier [], from)) r.at_place
+  first_repeat-None earlier [] h = λ i from r. past (earlier ++ []) i r.b (omega (arith, length-append earlier [], from)) r.at_index
     where
       past : (ys : List X) (i : ℕ) (y : X) → length ys ≤ i → slice_get ys i ≡ Some y → ⊥
       past ys i y beyond e = let inside = slice_get_within ys i y e in omega (arith, inside, beyond)

@@ -11,7 +11,7 @@ use Rattle.cqf_model.specs.declared.topology.Node.TheVariants.{Bridge}
 use Rattle.cqf_model.specs.Domain.{Domain, IsAccepted, is_text, node_or, same_node}
 use Rattle.cqf_topology.specs.declared.draft.DraftLink.{DraftLink}
 use Rattle.cqf_topology.specs.declared.keys.Key.{Key}
-use Rattle.cqf_topology.specs.declared.keys.Key.TheVariants.{Cycle, Guard, Sync, Bridges, Stations, Links, From, To, Rate, Delay}
+use Rattle.cqf_topology.specs.declared.keys.Key.TheVariants.{Cycle, Guard, Sync, GateOverhead, Bridges, Stations, Links, From, To, Rate, Delay}
 use Rattle.cqf_topology.specs.declared.times.LinkTimes.{LinkTimes}
 use Rattle.cqf_topology.specs.declared.toml_faults.TomlFault.{TomlFault}
 use Rattle.cqf_topology.specs.declared.toml_faults.TomlFault.TheVariants as early
@@ -21,7 +21,7 @@ use Rattle.cqf_lists.specs.Results.{and_then, refuse}
 use Rattle.cqf_topology.specs.Fields.{and_first, whole_document, read_at, tables_of_key, number_from, number_if, name_from, names_at}
 use Rattle.cqf_topology.specs.LinkTimes.{AreReadTimes, has_long_delay, has_long_gap, has_long_guard, has_long_sync, times_of, times_read}
 use Rattle.cqf_model.specs.declared.limits.Limits.{Limits}
-use Rattle.cqf_model.specs.Limits.{bridges_within, links_within, longest_cycle, profile, stations_within}
+use Rattle.cqf_model.specs.Limits.{bridges_within, links_within, longest_cycle, most_overhead, profile, stations_within}
 
 -- the keys that a domain text must have, and those that each of its links must have, in reading order
 abbrev pub domain_keys : List Key
@@ -31,12 +31,13 @@ abbrev pub link_keys : List Key
 link_keys = From ∷ To ∷ Rate ∷ Delay ∷ []
 
 -- what a domain text says, before it is checked whether a network can be like that: the limits within which it is read, times in
--- nanoseconds, names, and links with the names of their ends
+-- nanoseconds, the octets of a frame that gates don't count, names, and links with the names of their ends
 pub record DomainText : Type 0 where
   pub limits : Limits
   pub cycle_time : ℕ
   pub guard : ℕ
   pub sync : ℕ
+  pub overhead : ℕ
   pub bridges : List (List ℕ)
   pub stations : List (List ℕ)
   pub links : List DraftLink
@@ -63,16 +64,30 @@ with_front done (Err e) = Err e
 abbrev pub sync_from : Members → Result ℕ TomlFault
 sync_from table = and_then (number_if Sync 0 10000000 table) (λ sync. Ok (unwrap_or sync 0))
 
+-- the octets of a frame that gates don't count, by a domain's table: 0 if the key is missing
+abbrev pub overhead_from : Members → Result ℕ TomlFault
+overhead_from table = and_then (number_if GateOverhead 0 22 table) (λ overhead. Ok (unwrap_or overhead 0))
+
 -- a domain's table
 abbrev pub domain_from : Limits → Members → Result DomainText TomlFault
 domain_from limits table =
     and_then (read_at Cycle (number_from 10000 10000000) table) (λ cycle_time.
     and_then (read_at Guard (number_from 1 10000000) table) (λ guard.
     and_then (sync_from table) (λ sync.
+    and_then (overhead_from table) (λ overhead.
     and_then (and_then (names_at Bridges table) (if_some Bridges)) (λ bridges.
     and_then (names_at Stations table) (λ stations.
     and_then (tables_of_key Links link_read table) (λ links.
-    Ok (record { limits = limits; cycle_time = cycle_time; guard = guard; sync = sync; bridges = bridges; stations = stations; links = links })))))))
+    Ok (record {
+      limits = limits;
+      cycle_time = cycle_time;
+      guard = guard;
+      sync = sync;
+      overhead = overhead;
+      bridges = bridges;
+      stations = stations;
+      links = links;
+    }))))))))
 
 -- whether a name is among some names; and the first of `names` that is among `earlier` or occurs earlier in `names` itself
 abbrev pub is_among : List ℕ → List (List ℕ) → Bool
@@ -98,15 +113,15 @@ apart name link from to =
     else Ok (link_with from to link.times)
 
 -- the index of a name in a list of names
-abbrev pub place_of : List ℕ → List (List ℕ) → Option ℕ
-place_of name names = position (λ other. is_text other name) names
+abbrev pub index_of : List ℕ → List (List ℕ) → Option ℕ
+index_of name names = position (λ other. is_text other name) names
 
 -- a link of the text with the numbers of its ends, or the first of its names that is no such end: `from` must name a bridge, and `to` a
 -- node other than that bridge
 abbrev pub joined_link : List (List ℕ) → List (List ℕ) → DraftLink → Result Link DomainFault
 joined_link bridges stations link =
-    and_then (ok_or (place_of link.from bridges) (fault.UnknownName link.from)) (λ from.
-    and_then (ok_or (node_or (place_of link.to bridges) (place_of link.to stations)) (fault.UnknownName link.to)) (λ to.
+    and_then (ok_or (index_of link.from bridges) (fault.UnknownName link.from)) (λ from.
+    and_then (ok_or (node_or (index_of link.to bridges) (index_of link.to stations)) (fault.UnknownName link.to)) (λ to.
     apart link.to link from to))
 
 -- the links of the text with the numbers of their ends, or the first fault
@@ -152,7 +167,16 @@ is_too_many limits bridges stations links =
 -- the domain that the text describes, with these links
 abbrev pub with_these : DomainText → List Link → Domain
 with_these d links =
-    record { limits = d.limits; cycle_time = d.cycle_time; guard = d.guard; sync = d.sync; bridges = d.bridges; stations = d.stations; links = links }
+    record {
+      limits = d.limits;
+      cycle_time = d.cycle_time;
+      guard = d.guard;
+      sync = d.sync;
+      overhead = d.overhead;
+      bridges = d.bridges;
+      stations = d.stations;
+      links = links;
+    }
 
 -- the domain that the text describes, or the first check that it fails, each check made over the whole text before the next
 abbrev pub with_links : DomainText → List Link → Result Domain DomainFault
@@ -201,6 +225,7 @@ pub record IsReadable (d : DomainText) : Type 0 where
   pub cycle_most : d.cycle_time ≤ longest_cycle
   pub guard_some : 0 < d.guard
   pub sync_most : d.sync ≤ longest_cycle
+  pub overhead_most : d.overhead ≤ most_overhead
   pub some_bridge : 0 < length d.bridges
   pub bridges_named : All (λ name. IsTrue (is_name name)) d.bridges
   pub stations_named : All (λ name. IsTrue (is_name name)) d.stations
@@ -233,9 +258,18 @@ abbrev pub IsOnlyLink : Domain → ℕ → Node → Option ℕ → Type 0
 IsOnlyLink d from to found = (number : ℕ) (link : Link) → slice_get d.links number ≡ Some link → link.from ≡ from → link.to ≡ to → found ≡ Some number
 
 -- the domain with these parts
-abbrev pub domain_with : Limits → ℕ → ℕ → ℕ → List (List ℕ) → List (List ℕ) → List Link → Domain
-domain_with limits cycle_time guard sync bridges stations links =
-    record { limits = limits; cycle_time = cycle_time; guard = guard; sync = sync; bridges = bridges; stations = stations; links = links }
+abbrev pub domain_with : Limits → ℕ → ℕ → ℕ → ℕ → List (List ℕ) → List (List ℕ) → List Link → Domain
+domain_with limits cycle_time guard sync overhead bridges stations links =
+    record {
+      limits = limits;
+      cycle_time = cycle_time;
+      guard = guard;
+      sync = sync;
+      overhead = overhead;
+      bridges = bridges;
+      stations = stations;
+      links = links;
+    }
 
 -- the facts that a domain's text gives beyond being accepted: clocks are no further apart than a text can say, each name has the form of a
 -- name, no two names are equal, and no two links have the same ends

@@ -8,7 +8,7 @@ use Rattle.toml.specs.Data.{Data, as_str, as_integer, as_array, as_table, Items,
 use Rattle.toml.specs.Parse.{parse_document}
 use Rattle.cqf_units.specs.Name.{is_name}
 use Rattle.cqf_topology.specs.declared.keys.Key.{Key}
-use Rattle.cqf_topology.specs.declared.keys.Key.TheVariants.{Cycle, Guard, Sync, Bridges, Stations, Links, From, To}
+use Rattle.cqf_topology.specs.declared.keys.Key.TheVariants.{Cycle, Guard, Sync, GateOverhead, Bridges, Stations, Links, From, To}
 use Rattle.cqf_topology.specs.declared.keys.Key.TheVariants.{Rate, Delay, Streams, Name, Octets, Path, Paths}
 use Rattle.cqf_topology.specs.declared.keys.Key.TheVariants.{Deadline, Every, Phase}
 use Rattle.cqf_topology.specs.declared.toml_faults.TomlFault.{TomlFault}
@@ -24,6 +24,7 @@ abbrev pub key_text : Key → List ℕ
 key_text Cycle = codes "cycle"
 key_text Guard = codes "guard"
 key_text Sync = codes "sync"
+key_text GateOverhead = codes "gate-overhead"
 key_text Bridges = codes "bridges"
 key_text Stations = codes "stations"
 key_text Links = codes "links"

@@ -2,7 +2,7 @@
 ghost use Rattle.std.specs.Prelude.{◌≡◌, ◌&&◌, None};
 ghost use Rattle.std.specs.List.{list_any};
 ghost use Rattle.cqf_model.specs.Domain.{leaves};
-ghost use Rattle.cqf_model.specs.Table.{begins_at, same_way};
+ghost use Rattle.cqf_model.specs.Table.{begins_at, same_ingress};
 
 use crate::domain::Domain;
 use cqf_model::{Hop, Row};
@@ -14,9 +14,9 @@ fn leaves(domain: &Domain, link: u16, bridge: u16) -> bool
     link < domain.links() && domain.link(link).from == bridge
 }
 
-/// Returns whether a hop is the first of its tree at a bridge.
+/// Returns whether a hop begins its tree at a bridge: it follows no other hop, and its link leaves the bridge.
 fn begins(domain: &Domain, hop: &Hop, bridge: u16) -> bool
-    ensures { result ≡ (same_way hop.now.from None && leaves domain.now hop.now.link bridge) }
+    ensures { result ≡ (same_ingress hop.now.from None && leaves domain.now hop.now.link bridge) }
 {
     match hop.from {
         None => leaves(domain, hop.link, bridge),
@@ -24,15 +24,15 @@ fn begins(domain: &Domain, hop: &Hop, bridge: u16) -> bool
     }
 }
 
-/// Returns whether one of the hops is the first of its tree at a bridge.
+/// Returns whether one of the hops begins its tree at a bridge.
 fn one_begins(domain: &Domain, hops: &[Hop], bridge: u16) -> bool
-    ensures { result ≡ list_any (λ hop. same_way hop.from None && leaves domain.now hop.link bridge) hops.now }
+    ensures { result ≡ list_any (λ hop. same_ingress hop.from None && leaves domain.now hop.link bridge) hops.now }
 {
     hops.iter().any(|hop| begins(domain, hop, bridge))
 }
 
-/// Returns whether a row's stream begins at a bridge: a hop of its tree that follows no other hop leaves over a link of this bridge. No
-/// stream begins at a bridge that the domain lacks.
+/// Returns whether a row's stream begins at a bridge: the link of a hop of its tree that follows no other hop leaves the bridge. No stream
+/// begins at a bridge that the domain lacks.
 pub fn begins_at(domain: &Domain, row: &Row, bridge: u16) -> bool
     ensures { result ≡ begins_at domain.now row.now bridge }
 {

@@ -1,7 +1,8 @@
 //! A domain of bridges and stations.
 ghost use Rattle.std.specs.Arc.{arc_value};
-ghost use Rattle.std.specs.Prelude.{◌≡◌, ◌<◌, ◌↔◌, length, slice_get, Some, IfOk, true};
+ghost use Rattle.std.specs.Prelude.{◌≡◌, ◌<◌, ◌≤◌, ◌↔◌, length, slice_get, Some, IfOk, true};
 ghost use Rattle.cqf_model.specs.Domain.{IsAccepted, node_named, link_between};
+ghost use Rattle.cqf_model.specs.Limits.{most_overhead};
 ghost use Rattle.cqf_topology.specs.Fields.{Gives};
 ghost use Rattle.cqf_topology.specs.DomainText.{IsDomain, IsOnlyLink, IsReadable, HasBridges, HasNames, IsNumberedDomain};
 ghost use Rattle.cqf_topology.specs.DomainText.{with_links, with_these, checked, domain_of_text, domain_within, domain_with};
@@ -21,14 +22,15 @@ use std::alloc::Global;
 use std::marker::Model;
 use std::sync::Arc;
 
-/// A domain: its limits, its cycle time, its guard band, how far its clocks can be apart, its bridges and stations by name and by number,
-/// and its directed links by number. It is accepted: cyclic queuing and forwarding works on it.
+/// A domain: its limits, its cycle time, its guard band, how far its clocks can be apart, the octets of a frame that its gates don't count, its
+/// bridges and stations by name and by number, and its directed links by number. It is accepted: cyclic queuing and forwarding works on it.
 #[derive(Debug, Drop)]
 pub struct Domain {
     limits: Limits,
     cycle_time: u32,
     guard: u32,
     sync: u32,
+    overhead: u32,
     bridges: NameList,
     stations: NameList,
     links: LinkList,
@@ -40,13 +42,14 @@ impl Model for Domain {
 
     ghost Value = { DomainValue };
 
-    ghost view = { λ d. record { limits = d.limits; cycle_time = d.cycle_time; guard = d.guard; sync = d.sync; bridges = d.bridges.keys; stations = d.stations.keys; links = d.links.items } };
+    ghost view = { λ d. record { limits = d.limits; cycle_time = d.cycle_time; guard = d.guard; sync = d.sync; overhead = d.overhead; bridges = d.bridges.keys; stations = d.stations.keys; links = d.links.items } };
 
     ghost invariant = { λ d. IsDomain (record {
       limits = d.limits;
       cycle_time = d.cycle_time;
       guard = d.guard;
       sync = d.sync;
+      overhead = d.overhead;
       bridges = d.bridges.keys;
       stations = d.stations.keys;
       links = d.links.items;
@@ -105,14 +108,16 @@ fn checked_links(
 }
 
 impl Domain {
-    /// Returns the domain that a text describes if no limits are set, or the first fault of the text. Unknown keys are ignored.
+    /// Returns the domain that a text describes, within the limits of a plan for which none are set, or the first fault of the text.
+    /// Unknown keys are ignored. Returns `Memory` if an allocation fails.
     pub fn read(alloc: Global, text: &[u8]) -> Result<Domain, DomainFault>
         ensures { Gives DomainFault.Memory (λ domain. domain) result (domain_of_text text.now) }
     {
         Domain::read_within(alloc, text, Limits::of_profile())
     }
 
-    /// Returns the domain that a text describes within these limits, or the first fault of the text.
+    /// Returns the domain that a text describes within these limits, or the first fault of the text. Unknown keys are ignored. Returns
+    /// `Memory` if an allocation fails.
     pub fn read_within(alloc: Global, text: &[u8], limits: Limits) -> Result<Domain, DomainFault>
         ensures { Gives DomainFault.Memory (λ domain. domain) result (domain_within limits text.now) }
     {
@@ -156,31 +161,34 @@ impl Domain {
             cycle_time: draft.cycle_time(),
             guard: draft.guard(),
             sync: draft.sync(),
+            overhead: draft.overhead(),
             bridges,
             stations,
             links,
         })
     }
 
-    /// Returns the domain with these parts, which must make an accepted one: limits, times in nanoseconds, bridges and stations by number,
-    /// and links by number.
+    /// Returns the domain with these parts, which must make an accepted one: limits, times in nanoseconds, the octets of a frame that gates
+    /// don't count, bridges and stations by number, and links by number.
     pub fn of_parts(
         limits: Limits,
         cycle_time: u32,
         guard: u32,
         sync: u32,
+        overhead: u32,
         bridges: NameList,
         stations: NameList,
         links: LinkList,
     ) -> Domain
-        requires { IsDomain (domain_with limits cycle_time guard sync bridges.keys stations.keys links.items) }
-        ensures { result ≡ domain_with limits cycle_time guard sync bridges.keys stations.keys links.items }
+        requires { IsDomain (domain_with limits cycle_time guard sync overhead bridges.keys stations.keys links.items) }
+        ensures { result ≡ domain_with limits cycle_time guard sync overhead bridges.keys stations.keys links.items }
     {
         Domain {
             limits,
             cycle_time,
             guard,
             sync,
+            overhead,
             bridges,
             stations,
             links,
@@ -197,8 +205,8 @@ impl Domain {
     /// Returns the cycle time, 10,000 to 10,000,000 ns: all bridges divide time into cycles of this length (IEEE 802.1Q, Annex T).
     ///
     /// The domain is accepted. Each guard band is shorter than the cycle. On each link, the greatest delay plus the distance of clocks is
-    /// less than the guard band, and the gap after a frame is at most the guard band. Clocks are no further apart than a shortest frame and
-    /// the link's least delay take together.
+    /// less than the guard band, and the gap after a frame is at most the guard band. Clocks are no further apart than a shortest frame,
+    /// with its preamble, and the link's least delay take together.
     pub fn cycle_time(&self) -> Nanos
         ensures value { result.0 ≡ self.now.cycle_time }
         ensures accepted { IsAccepted self.now }
@@ -217,18 +225,27 @@ impl Domain {
         let _ = &self.limits;
     }
 
-    /// Returns the guard band of each link that has none of its own: no transmission gate is open during this last part of a cycle.
+    /// Returns the guard band of each link that has none of its own, at least 1 ns and shorter than the cycle: no transmission gate is open
+    /// during this last part of a cycle.
     pub fn guard(&self) -> Nanos
         ensures { result.0 ≡ self.now.guard }
     {
         Nanos(u64::from(self.guard))
     }
 
-    /// Returns how far any two clocks of the domain can be apart.
+    /// Returns how far any two clocks of the domain can be apart, 0 to 10,000,000 ns.
     pub fn sync(&self) -> Nanos
         ensures { result.0 ≡ self.now.sync }
     {
         Nanos(u64::from(self.sync))
+    }
+
+    /// Returns how many octets of each frame its gates don't count, at most 22.
+    pub fn overhead(&self) -> u32
+        ensures value { result ≡ self.now.overhead }
+        ensures short { result ≤ most_overhead }
+    {
+        self.overhead
     }
 
     /// Returns the number of bridges, at least 1. They are numbered from 0.
@@ -252,7 +269,7 @@ impl Domain {
         self.links.len() as u16
     }
 
-    /// Returns the name of the bridge with this number.
+    /// Returns the name of the bridge with this number, which is below [`Domain::bridges`].
     pub fn bridge_name(&self, bridge: u16) -> &Name
         requires { bridge < length self.now.bridges }
         ensures { slice_get self.now.bridges bridge ≡ Some result.now }
@@ -260,7 +277,7 @@ impl Domain {
         &self.bridges.as_slice()[usize::from(bridge)]
     }
 
-    /// Returns the name of the station with this number.
+    /// Returns the name of the station with this number, which is below [`Domain::stations`].
     pub fn station_name(&self, station: u16) -> &Name
         requires { station < length self.now.stations }
         ensures { slice_get self.now.stations station ≡ Some result.now }
@@ -268,7 +285,7 @@ impl Domain {
         &self.stations.as_slice()[usize::from(station)]
     }
 
-    /// Returns the link with this number.
+    /// Returns the link with this number, which is below [`Domain::links`].
     pub fn link(&self, link: u16) -> Link
         requires { link < length self.now.links }
         ensures { slice_get self.now.links link ≡ Some result }
@@ -312,6 +329,7 @@ impl Domain {
             cycle_time: self.cycle_time,
             guard: self.guard,
             sync: self.sync,
+            overhead: self.overhead,
             bridges,
             stations,
             links,
@@ -327,7 +345,7 @@ impl Domain {
         Ok(shared)
     }
 
-    /// Returns whether another domain has the same limits, times, nodes and links.
+    /// Returns whether another domain has the same limits, times, gate overhead, nodes and links.
     pub fn is_same(&self, other: &Domain) -> bool
         ensures { (result ≡ true) ↔ (self.now ≡ other.now) }
     {

@@ -4,13 +4,13 @@ ghost use Rattle.toml.specs.View.{view, table_view, items_view};
 ghost use Rattle.toml.specs.Data.{as_table};
 ghost use Rattle.cqf_lists.specs.Results.{and_then};
 ghost use Rattle.cqf_topology.specs.Fields.{Gives, tables_of_key, tables_from, names_at};
-ghost use Rattle.cqf_topology.specs.DomainText.{link_read, if_some, with_front, domain_from, read_text, sync_from};
+ghost use Rattle.cqf_topology.specs.DomainText.{link_read, if_some, with_front, domain_from, overhead_from, read_text, sync_from};
 
 use crate::{
     Key, LinkTimes, TomlFault, are_all_tables, array_at, name_at, names_at, number_at, number_if,
     read_document, times_at,
 };
-use cqf_model::{LONGEST_CYCLE, Limits};
+use cqf_model::{LONGEST_CYCLE, Limits, MOST_OVERHEAD};
 use cqf_units::Name;
 use std::alloc::Global;
 use std::marker::Model;
@@ -24,14 +24,15 @@ pub(crate) struct DraftLink {
     pub times: LinkTimes,
 }
 
-/// A domain as its text describes it: the limits within which it is read, times in nanoseconds, names, and links with the names of their
-/// ends.
+/// A domain as its text describes it: the limits within which it is read, times in nanoseconds, the octets of a frame that gates don't
+/// count, names, and links with the names of their ends.
 #[derive(Drop)]
 pub(crate) struct Draft {
     limits: Limits,
     cycle_time: u32,
     guard: u32,
     sync: u32,
+    overhead: u32,
     bridges: Vec<Name>,
     stations: Vec<Name>,
     links: Vec<DraftLink>,
@@ -42,46 +43,60 @@ impl Model for Draft {
 
     ghost Value = { DomainText };
 
-    ghost view = { λ d. record { limits = d.limits; cycle_time = d.cycle_time; guard = d.guard; sync = d.sync; bridges = d.bridges.items; stations = d.stations.items; links = d.links.items } };
+    ghost view = { λ d. record { limits = d.limits; cycle_time = d.cycle_time; guard = d.guard; sync = d.sync; overhead = d.overhead; bridges = d.bridges.items; stations = d.stations.items; links = d.links.items } };
 }
 
 impl Draft {
+    /// Returns the limits within which the text was read.
     pub fn limits(&self) -> Limits
         ensures { result ≡ self.now.limits }
     {
         self.limits
     }
 
+    /// Returns the cycle time, in nanoseconds.
     pub fn cycle_time(&self) -> u32
         ensures { result ≡ self.now.cycle_time }
     {
         self.cycle_time
     }
 
+    /// Returns the guard band, in nanoseconds.
     pub fn guard(&self) -> u32
         ensures { result ≡ self.now.guard }
     {
         self.guard
     }
 
+    /// Returns by how much clocks may differ, in nanoseconds.
     pub fn sync(&self) -> u32
         ensures { result ≡ self.now.sync }
     {
         self.sync
     }
 
+    /// Returns how many octets of each frame gates don't count.
+    pub fn overhead(&self) -> u32
+        ensures { result ≡ self.now.overhead }
+    {
+        self.overhead
+    }
+
+    /// Returns the names of the bridges, in order.
     pub fn bridges(&self) -> &[Name]
         ensures { result.now ≡ self.now.bridges }
     {
         self.bridges.as_slice()
     }
 
+    /// Returns the names of the stations, in order.
     pub fn stations(&self) -> &[Name]
         ensures { result.now ≡ self.now.stations }
     {
         self.stations.as_slice()
     }
 
+    /// Returns the links, in order.
     pub fn links(&self) -> &[DraftLink]
         ensures { result.now ≡ self.now.links }
     {
@@ -183,6 +198,17 @@ pub fn sync_at(table: &Table) -> Result<u32, TomlFault>
     Ok(sync.unwrap_or(0))
 }
 
+/// Returns how many octets of each frame gates don't count, by a domain's table. Returns 0 if the key is missing.
+///
+/// # Errors
+/// `BadValue` with `gate-overhead` if its value isn't an integer from 0 to 22.
+pub fn overhead_at(table: &Table) -> Result<u32, TomlFault>
+    ensures { result ≡ overhead_from (table_view table.now) }
+{
+    let overhead = number_if(table, Key::GateOverhead, 0, MOST_OVERHEAD)?;
+    Ok(overhead.unwrap_or(0))
+}
+
 /// Reads a domain's table.
 fn read_table(alloc: Global, table: &Table, limits: Limits) -> Result<Draft, TomlFault>
     ensures { Gives TomlFault.Memory (λ draft. draft) result (domain_from limits (table_view table.now)) }
@@ -190,6 +216,7 @@ fn read_table(alloc: Global, table: &Table, limits: Limits) -> Result<Draft, Tom
     let cycle_time = number_at(table, Key::Cycle, 10_000, LONGEST_CYCLE)?;
     let guard = number_at(table, Key::Guard, 1, LONGEST_CYCLE)?;
     let sync = sync_at(table)?;
+    let overhead = overhead_at(table)?;
     let bridges = read_bridges(alloc, table)?;
     let stations = names_at(alloc, table, Key::Stations)?;
     let links = read_links(alloc, table)?;
@@ -198,6 +225,7 @@ fn read_table(alloc: Global, table: &Table, limits: Limits) -> Result<Draft, Tom
         cycle_time,
         guard,
         sync,
+        overhead,
         bridges,
         stations,
         links,

@@ -88,7 +88,7 @@ impl From<Memory> for DomainFault {
     }
 }
 
-/// Converts a failed allocation for a value likewise.
+/// Converts a failed allocation of a value into a fault.
 impl<T: Drop> From<AllocFailed<T>> for DomainFault {
     ghost use Rattle.cqf_topology.specs.declared.faults.DomainFault.TheVariants as variant;
 

@@ -4,7 +4,7 @@ ghost use Rattle.std.specs.List.{list_any};
 ghost use Rattle.cqf_model.specs.Domain.{node_or};
 ghost use Rattle.cqf_lists.specs.Results.{refuse};
 ghost use Rattle.cqf_topology.specs.Fields.{Gives};
-ghost use Rattle.cqf_topology.specs.DomainText.{is_among, first_taken, numbered_with, place_of, joined_link, joined};
+ghost use Rattle.cqf_topology.specs.DomainText.{is_among, first_taken, numbered_with, index_of, joined_link, joined};
 ghost use Rattle.cqf_topology.specs.DomainText.{first_twice, first_long_delay, first_long_gap, first_long_guard, first_long_sync};
 ghost use Rattle.cqf_topology.specs.LinkTimes.{has_long_delay, has_long_gap, has_long_guard, has_long_sync, times_of};
 ghost use Rattle.cqf_topology.specs.JoinedLink.{node_of, ends_held, ends_of, are_same_ends, IsSmallNode, HasSmallEnds};
@@ -95,7 +95,7 @@ pub fn numbered_names(
 
 /// Returns the node with this name, or `None` if neither a bridge nor a station has it.
 pub fn end_of_name(bridges: &NameList, stations: &NameList, name: &Name) -> Option<End>
-    ensures { option_map node_of result ≡ node_or (place_of name.now bridges.now.keys) (place_of name.now stations.now.keys) }
+    ensures { option_map node_of result ≡ node_or (index_of name.now bridges.now.keys) (index_of name.now stations.now.keys) }
 {
     if let Some(bridge) = bridges.number_of(name) {
         return Some(End::Bridge(bridge));

@@ -1,8 +1,8 @@
 //! Domains and streams, read from TOML texts, and the keys and values of such texts.
 //!
-//! - [`Domain`] is an accepted domain: its cycle time and guard band, how far its clocks can be apart, its bridges and stations by name and
-//!   number, and its directed links. [`Domain::read`] returns the domain that a text describes, or a [`DomainFault`], its first fault.
-//!   [`Domain::read_within`] does the same within given limits instead of the default ones.
+//! - [`Domain`] is an accepted domain: its cycle time and guard band, how far its clocks can be apart, the octets of a frame that its gates
+//!   don't count, its bridges and stations by name and number, and its directed links. [`Domain::read`] returns the domain that a text
+//!   describes, or a [`DomainFault`], its first fault. [`Domain::read_within`] does the same within given limits instead of the default ones.
 //! - [`Request`] is a request for a stream. [`read_streams`] returns those of a text, or a [`StreamsFault`]. [`PacedRequest`] is a request
 //!   for a stream that isn't offered in each cycle, read by [`read_paced_streams`]. [`Planned`] is a request with a deadline, read by
 //!   [`read_planned_streams`].
@@ -27,7 +27,8 @@
 //!
 //! is a domain of one bridge and one station, joined by link 0 from bridge 0 to station 0. With `delay = 5000` it is refused with
 //! `DelayTooLong 0`. With `sync = 500` two of its clocks can be 500 ns apart. `delay = [400, 600]` is a delay that varies. A domain is
-//! refused if its guard band is too short for both: `sync = 4600` with `delay = 500` gives `DelayTooLong 0`.
+//! refused if its guard band is too short for both: `sync = 4600` with `delay = 500` gives `DelayTooLong 0`. With `gate-overhead = 18` its
+//! stream gates leave 18 octets of each frame uncounted.
 //!
 //! ```text
 //! cycle = 125000
@@ -62,7 +63,7 @@ pub use beginning::begins_at;
 pub use cqf_model::{Link, Node};
 pub use documents::read_document;
 pub use domain::Domain;
-pub use draft::sync_at;
+pub use draft::{overhead_at, sync_at};
 pub use faults::DomainFault;
 pub use fields::{
     are_all_tables, array_at, name_at, names_at, number_at, number_if, number_or, value_at,

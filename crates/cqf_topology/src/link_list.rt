@@ -44,7 +44,7 @@ fn ends_of(alloc: Global, links: &[Link]) -> Result<IndexSet<(u16, Node)>, Memor
 }
 
 impl LinkList {
-    /// Returns these links, numbered by their indexes, or `Memory` if an allocation fails.
+    /// Returns these links, numbered by their indexes, or `Memory` if an allocation fails. No two of them have the same ends.
     pub fn new(alloc: Global, links: Vec<Link>) -> Result<LinkList, Memory>
         requires { NoLinkTwice links.items }
         ensures { IfOk result (λ list. list.items ≡ links.items) }
@@ -67,7 +67,7 @@ impl LinkList {
         self.links.as_slice()
     }
 
-    /// Returns the number of the link from a bridge to a node.
+    /// Returns the number of the link from a bridge to a node, or `None` if no link leads from the bridge to the node.
     pub fn number_of(&self, from: u16, to: Node) -> Option<usize>
         ensures number { result ≡ position (λ link. (link.from == from) && same_node link.to to) self.now.items }
         ensures within { IfSome result (λ number. number < length self.now.items) }

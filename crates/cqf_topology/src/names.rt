@@ -1,14 +1,14 @@
 //! Names by number.
 ghost use Rattle.std.specs.Prelude.{◌≡◌, ◌<◌, [], ◌∷◌, ◌++◌, false, IfOk, IfSome, OnErr, OnOk, length};
-ghost use Rattle.cqf_topology.specs.DomainText.{is_among, place_of};
+ghost use Rattle.cqf_topology.specs.DomainText.{index_of, is_among};
 
 use cqf_units::{Memory, Name};
 use std::alloc::Global;
 use std::collections::BTreeMap;
 use std::marker::Model;
 
-/// Names, each once, numbered from 0 in the order in which they were added. A lookup uses their sorted order: its time grows
-/// with the logarithm of the number of names, whichever names they are.
+/// Names, each once, numbered from 0 in the order in which they were added. A lookup uses their sorted order: its time grows with the
+/// logarithm of the number of names, regardless of the names.
 #[derive(Debug, Drop)]
 pub struct NameList {
     names: Vec<Name>,
@@ -30,7 +30,7 @@ impl Model for NameList {
 }
 
 impl NameList {
-    /// Returns no names. This takes no memory.
+    /// Returns an empty list. Requests no memory.
     pub fn new(alloc: Global) -> NameList
         ensures { result.keys ≡ [] }
     {
@@ -63,7 +63,7 @@ impl NameList {
 
     /// Returns the name's number, or `None` if it isn't among these names.
     pub fn number_of(&self, name: &Name) -> Option<usize>
-        ensures number { result ≡ place_of name.now self.now.keys }
+        ensures number { result ≡ index_of name.now self.now.keys }
         ensures within { IfSome result (λ number. number < length self.now.keys) }
     {
         self.numbers.get(name).copied()

@@ -22,9 +22,10 @@ pub struct PacedRequest {
     pub name: String,
     /// The reservation, in octets in each of the stream's own cycles.
     pub octets: u32,
-    /// The stream is offered in one of every this many cycles (IEEE Std 802.1Q-2018, 46.2.3.5: Interval; here in cycles).
+    /// The period, in cycles: the stream is offered in one of every `every` cycles (IEEE Std 802.1Q-2018, 46.2.3.5: Interval; here in
+    /// cycles).
     pub every: u32,
-    /// The first of the stream's own cycles (46.2.3.5: EarliestTransmitOffset; here in cycles).
+    /// The first of the stream's own cycles, counted from cycle 0 (46.2.3.5: EarliestTransmitOffset; here in cycles).
     pub phase: u32,
     /// The branches of the stream's tree, one for each listener: the names of the branch's bridges, in order, followed by the name of the
     /// listener's station.
@@ -50,7 +51,7 @@ impl PacedRequest {
         })
     }
 
-    /// Returns this request, whose stream is offered in each cycle, as a plain one.
+    /// Returns this request as a plain one. Its stream is offered in each cycle: `every` is 1 and `phase` is 0.
     pub fn into_request(self) -> Request
         requires every { self.every ≡ 1 }
         requires phase { self.phase ≡ 0 }

@@ -16,8 +16,8 @@ use toml::{Table, Value};
 #[derive(Debug, Drop)]
 pub struct Planned {
     pub request: PacedRequest,
-    /// The longest time from a frame's offer until each listener has received the whole frame, in nanoseconds, at least 1. `None` if the
-    /// text gives no deadline.
+    /// The longest time from a frame's offer until each listener has received the whole frame, in nanoseconds, at least 1 (IEEE Std
+    /// 802.1Q-2018, 46.2.3.6: MaxLatency). `None` if the text gives no deadline.
     pub deadline: Option<u32>,
 }
 

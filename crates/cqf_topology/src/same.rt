@@ -71,7 +71,7 @@ fn have_same_links(one: &Domain, other: &Domain) -> bool
     true
 }
 
-/// Returns whether two domains have the same limits, times, nodes and links.
+/// Returns whether two domains have the same limits, times, gate overhead, nodes and links.
 pub(crate) fn is_same_domain(one: &Domain, other: &Domain) -> bool
     ensures { (result ≡ true) ↔ (one.now ≡ other.now) }
 {
@@ -85,6 +85,9 @@ pub(crate) fn is_same_domain(one: &Domain, other: &Domain) -> bool
         return false;
     }
     if one.sync().0 != other.sync().0 {
+        return false;
+    }
+    if one.overhead() != other.overhead() {
         return false;
     }
     if !have_same_bridges(one, other) {

@@ -24,7 +24,7 @@ pub struct LinkTimes {
 }
 
 impl LinkTimes {
-    /// Returns the link's guard band, given the domain's.
+    /// Returns the link's guard band, in nanoseconds: its own if it has one, otherwise the domain's, `guard`.
     pub fn guard_within(self, guard: u32) -> u32
         ensures { result ≡ guard_within guard self }
     {
@@ -60,7 +60,7 @@ impl LinkTimes {
     }
 }
 
-/// Returns the rate with this number of Mb/s.
+/// Returns the rate with this number of Mb/s, or `None` if no rate has it.
 fn rate_of_number(number: i64) -> Option<Rate>
     ensures { result ≡ rate_of number }
 {
@@ -142,7 +142,7 @@ fn delays_at(table: &Table) -> Result<(u32, u32), TomlFault>
 /// integers, the least delay first; and `guard`, an integer from 1 to 10,000,000, if it is there.
 ///
 /// # Errors
-/// `BadValue` with the first of these keys that has another value, or of `rate` and `delay` that is missing.
+/// `BadValue` with the first of these keys that has another value, or that is missing although it is `rate` or `delay`.
 pub fn times_at(table: &Table) -> Result<LinkTimes, TomlFault>
     ensures { result ≡ times_read (table_view table.now) }
 {

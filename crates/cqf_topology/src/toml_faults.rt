@@ -46,7 +46,7 @@ impl From<Memory> for TomlFault {
     }
 }
 
-/// Converts a failed allocation for a value likewise.
+/// Converts a failed allocation of a value into a fault.
 impl<T: Drop> From<AllocFailed<T>> for TomlFault {
     ghost use Rattle.cqf_topology.specs.declared.toml_faults.TomlFault.TheVariants as variant;
 

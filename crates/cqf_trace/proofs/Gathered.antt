@@ -155,12 +155,12 @@ module _ (d : Domain) (bridge_traces : List BridgeTrace) (left after : List (Vec
 its_bridge : (d : Domain) (link : ℕ) (found : Link) → slice_get d.links link ≡ Some found → found.from ≡ bridge_of d link
 its_bridge d link found at = sym (ap (λ (o : Option Link). option_map_or (λ (l : Link). l.from) o 0) at)
 
-pub none_missing : (d : Domain) (bridge_traces : List BridgeTrace) (left seen : List (Vec Trace Global)) (count behind : ℕ) (found : Link) (taken : List Trace) →
-    IsAccepted d → count ≡ length d.links → behind < count → slice_get d.links (count - 1 - behind) ≡ Some found → seen ≡ left →
-    row_at seen found.from ≡ [] → IsGathering d bridge_traces left (length d.links - behind) taken → ⊥
-none_missing d bridge_traces left seen count behind found taken accepted all less at same none h =
-    some_left d bridge_traces left (length d.links - behind) (count - 1 - behind) found.from taken h (omega (arith, all, less)) (its_bridge d (count - 1 - behind) found at)
-    (accepted.links_good (count - 1 - behind) found at).from_bridge (omega (arith, all, less))
+pub none_missing : (d : Domain) (bridge_traces : List BridgeTrace) (left seen : List (Vec Trace Global)) (count following : ℕ) (found : Link) (taken : List Trace) →
+    IsAccepted d → count ≡ length d.links → following < count → slice_get d.links (count - 1 - following) ≡ Some found → seen ≡ left →
+    row_at seen found.from ≡ [] → IsGathering d bridge_traces left (length d.links - following) taken → ⊥
+none_missing d bridge_traces left seen count following found taken accepted all less at same none h =
+    some_left d bridge_traces left (length d.links - following) (count - 1 - following) found.from taken h (omega (arith, all, less)) (its_bridge d (count - 1 - following) found at)
+    (accepted.links_good (count - 1 - following) found at).from_bridge (omega (arith, all, less))
     (ap (λ (rows : List (Vec Trace Global)). row_at rows found.from) (sym same) ∙ none)
 
 -- rows that are written back have their new values
@@ -172,26 +172,26 @@ written_back left after len many is =
     ∙ ap (take len) (append-nil after)
     ∙ take_all len after (omega (arith, many, is))
 
-pub next_gathered : (d : Domain) (bridge_traces : List BridgeTrace) (left seen after : List (Vec Trace Global)) (count behind len : ℕ) (found : Link) (trace : Trace)
-    (links more : List Trace) → IsAccepted d → count ≡ length d.links → behind < count → slice_get d.links (count - 1 - behind) ≡ Some found →
+pub next_gathered : (d : Domain) (bridge_traces : List BridgeTrace) (left seen after : List (Vec Trace Global)) (count following len : ℕ) (found : Link) (trace : Trace)
+    (links more : List Trace) → IsAccepted d → count ≡ length d.links → following < count → slice_get d.links (count - 1 - following) ≡ Some found →
     seen ≡ left → len ≡ length left → TakesLast found.from seen after trace → more ≡ links ++ trace ∷ [] →
-    IsGathering d bridge_traces left (length d.links - behind) (reverse links) →
-    IsGathering d bridge_traces (take len (after ++ drop (length after) left)) (length d.links - (behind + 1)) (reverse more)
-next_gathered d bridge_traces left seen after count behind len found trace links more accepted all less at same is taking pushed h =
-    subst (λ (rows : List (Vec Trace Global)). IsGathering d bridge_traces rows (length d.links - (behind + 1)) (reverse more))
+    IsGathering d bridge_traces left (length d.links - following) (reverse links) →
+    IsGathering d bridge_traces (take len (after ++ drop (length after) left)) (length d.links - (following + 1)) (reverse more)
+next_gathered d bridge_traces left seen after count following len found trace links more accepted all less at same is taking pushed h =
+    subst (λ (rows : List (Vec Trace Global)). IsGathering d bridge_traces rows (length d.links - (following + 1)) (reverse more))
     (sym (written_back left after len takes.many is))
     (subst (λ (n : ℕ). IsGathering d bridge_traces after n (reverse more)) link_left
-    (subst (λ (traces : List Trace). IsGathering d bridge_traces after (count - 1 - behind) traces) (sym turned)
-    (one_gathered d bridge_traces left after (count - 1 - behind) found.from trace (reverse links) before (its_bridge d (count - 1 - behind) found at)
-    (accepted.links_good (count - 1 - behind) found at).from_bridge (omega (arith, all, less)) takes)))
+    (subst (λ (traces : List Trace). IsGathering d bridge_traces after (count - 1 - following) traces) (sym turned)
+    (one_gathered d bridge_traces left after (count - 1 - following) found.from trace (reverse links) before (its_bridge d (count - 1 - following) found at)
+    (accepted.links_good (count - 1 - following) found at).from_bridge (omega (arith, all, less)) takes)))
   where
-    one_more : length d.links - behind ≡ suc (count - 1 - behind)
+    one_more : length d.links - following ≡ suc (count - 1 - following)
     one_more = omega (arith, all, less)
 
-    link_left : count - 1 - behind ≡ length d.links - (behind + 1)
+    link_left : count - 1 - following ≡ length d.links - (following + 1)
     link_left = omega (arith, all, less)
 
-    before : IsGathering d bridge_traces left (suc (count - 1 - behind)) (reverse links)
+    before : IsGathering d bridge_traces left (suc (count - 1 - following)) (reverse links)
     before = subst (λ (n : ℕ). IsGathering d bridge_traces left n (reverse links)) one_more h
 
     takes : TakesLast found.from left after trace

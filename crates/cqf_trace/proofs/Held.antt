@@ -52,16 +52,16 @@ module _ (held : Trace → List Mark) where
       ∙ held_last front last link is (λ x there. apart x (contains_later trace.link (links_of front) x there))
 
   -- if the traces are numbered consecutively from some number on, each gives its own value
-  pub held_from : (traces : List Trace) (first place : ℕ) (d : Trace) → ((k : ℕ) → k < length traces → (get_or traces k d).link ≡ first + k) →
-      place < length traces → held_at held traces (first + place) ≡ held (get_or traces place d)
-  held_from [] first place d by inside = absurd (omega (arith, inside))
+  pub held_from : (traces : List Trace) (first index : ℕ) (d : Trace) → ((k : ℕ) → k < length traces → (get_or traces k d).link ≡ first + k) →
+      index < length traces → held_at held traces (first + index) ≡ held (get_or traces index d)
+  held_from [] first index d by inside = absurd (omega (arith, inside))
   held_from (trace ∷ traces) first zero d by inside = held_here trace traces (first + 0) (by zero (omega arith))
-  held_from (trace ∷ traces) first (suc place) d by inside =
+  held_from (trace ∷ traces) first (suc index) d by inside =
       let mine : trace.link ≡ first + 0 = by zero (omega arith) in
-      let same : first + suc place ≡ suc first + place = omega arith in
-      held_later trace traces (first + suc place) (λ e. omega (arith, e, mine))
+      let same : first + suc index ≡ suc first + index = omega arith in
+      held_later trace traces (first + suc index) (λ e. omega (arith, e, mine))
       ∙ ap (held_at held traces) same
-      ∙ held_from traces (suc first) place d (λ k below. by (suc k) (omega (arith, below)) ∙ further k) (omega (arith, inside))
+      ∙ held_from traces (suc first) index d (λ k below. by (suc k) (omega (arith, below)) ∙ further k) (omega (arith, inside))
     where
       -- one index further
       further : (k : ℕ) → first + suc k ≡ suc first + k

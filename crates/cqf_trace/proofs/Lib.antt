@@ -4,4 +4,4 @@ mod Segments
 pub mod Held
 mod Rows
 mod Gathered
-mod Told
+mod Reported

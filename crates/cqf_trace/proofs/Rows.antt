@@ -20,33 +20,33 @@ made_at f (x ∷ xs) zero none = refl
 made_at f (x ∷ xs) (suc k) none = made_at f xs k none
 
 -- a row inside the table
-pub row_here : {X : Type 0} (rows : List (Vec X Global)) (place : ℕ) (d : Vec X Global) → place < length rows → row_at rows place ≡ (get_or rows place d).items
-row_here {X} rows place d inside =
-    ap (λ (o : Option (Vec X Global)). option_map_or (λ (row : Vec X Global). row.items) o []) (slice_get-get_or rows place d inside)
+pub row_here : {X : Type 0} (rows : List (Vec X Global)) (index : ℕ) (d : Vec X Global) → index < length rows → row_at rows index ≡ (get_or rows index d).items
+row_here {X} rows index d inside =
+    ap (λ (o : Option (Vec X Global)). option_map_or (λ (row : Vec X Global). row.items) o []) (slice_get-get_or rows index d inside)
 
 -- a row loses its last trace
-pub taken_last : (before : List (Vec Trace Global)) (place bridge : ℕ) (old new : Vec Trace Global) (trace : Trace) → place ≡ bridge → place < length before →
-    old ≡ get_or before place old → old.items ≡ new.items ++ trace ∷ [] → TakesLast bridge before (set before place new) trace
-taken_last before place bridge old new trace is inside stands parts = record {
-  many = length-set before place new;
+pub taken_last : (before : List (Vec Trace Global)) (index bridge : ℕ) (old new : Vec Trace Global) (trace : Trace) → index ≡ bridge → index < length before →
+    old ≡ get_or before index old → old.items ≡ new.items ++ trace ∷ [] → TakesLast bridge before (set before index new) trace
+taken_last before index bridge old new trace is inside stands parts = record {
+  many = length-set before index new;
   last =
       ap (row_at before) (sym is)
-      ∙ row_here before place old inside
+      ∙ row_here before index old inside
       ∙ ap (λ (row : Vec Trace Global). row.items) (sym stands)
       ∙ parts
       ∙ ap (λ (traces : List Trace). traces ++ trace ∷ [])
-      (sym (ap (row_at (set before place new)) (sym is)
-      ∙ ap (λ (o : Option (Vec Trace Global)). option_map_or (λ (row : Vec Trace Global). row.items) o []) (slice_get-set_same before place new inside)));
+      (sym (ap (row_at (set before index new)) (sym is)
+      ∙ ap (λ (o : Option (Vec Trace Global)). option_map_or (λ (row : Vec Trace Global). row.items) o []) (slice_get-set_same before index new inside)));
   others = λ other apart.
       ap (λ (o : Option (Vec Trace Global)). option_map_or (λ (row : Vec Trace Global). row.items) o [])
-      (slice_get-set_other before place other new (λ same. apart (same ∙ is)));
+      (slice_get-set_other before index other new (λ same. apart (same ∙ is)));
 }
 
 -- a row with nothing to take
-pub nothing_there : (rows : List (Vec Trace Global)) (place bridge : ℕ) (old : Vec Trace Global) → place ≡ bridge → place < length rows →
-    old ≡ get_or rows place old → old.items ≡ [] → row_at rows bridge ≡ []
-nothing_there rows place bridge old is inside stands none =
-    ap (row_at rows) (sym is) ∙ row_here rows place old inside ∙ ap (λ (row : Vec Trace Global). row.items) (sym stands) ∙ none
+pub nothing_there : (rows : List (Vec Trace Global)) (index bridge : ℕ) (old : Vec Trace Global) → index ≡ bridge → index < length rows →
+    old ≡ get_or rows index old → old.items ≡ [] → row_at rows bridge ≡ []
+nothing_there rows index bridge old is inside stands none =
+    ap (row_at rows) (sym is) ∙ row_here rows index old inside ∙ ap (λ (row : Vec Trace Global). row.items) (sym stands) ∙ none
 
 -- ---- bridge traces that are taken apart, and those that remain
 

@@ -1,4 +1,4 @@
 pub mod Traces
 pub mod BridgeTraces
 -- contracts of the inner functions
-pub mod Telling
+pub mod Reporting

@@ -91,15 +91,15 @@ abbrev pub is_drop_in : ℕ → Dropped → Bool
 is_drop_in cycle drop = drop.cycle.0 == cycle
 
 -- the book's entries for a link's marks in one cycle
-abbrev pub told_on : Domain → ℕ → ℕ → List Mark → List Started
-told_on d cycle link marks = map (started_by d link) (filter (is_in d cycle) marks)
+abbrev pub reported_on : Domain → ℕ → ℕ → List Mark → List Started
+reported_on d cycle link marks = map (started_by d link) (filter (is_in d cycle) marks)
 
 -- the entries of one kind in one cycle, for the first `links` links in order, and those in the first `cycles` cycles for all links
-abbrev pub told_on_links : Domain → TransmissionKind → Traces → ℕ → ℕ → List Started
-told_on_links d kind traces cycle links = each_below (λ link. told_on d cycle link (marks_at kind traces link)) links
+abbrev pub reported_on_links : Domain → TransmissionKind → Traces → ℕ → ℕ → List Started
+reported_on_links d kind traces cycle links = each_below (λ link. reported_on d cycle link (marks_at kind traces link)) links
 
-abbrev pub told_in_cycles : Domain → TransmissionKind → Traces → ℕ → List Started
-told_in_cycles d kind traces cycles = each_below (λ cycle. told_on_links d kind traces cycle (length d.links)) cycles
+abbrev pub reported_in_cycles : Domain → TransmissionKind → Traces → ℕ → List Started
+reported_in_cycles d kind traces cycles = each_below (λ cycle. reported_on_links d kind traces cycle (length d.links)) cycles
 
 -- the drops in one cycle, for the first `bridges` bridges in order, and those in the first `cycles` cycles for all bridges
 abbrev pub drops_at_bridges : Traces → ℕ → ℕ → List Dropped
@@ -109,10 +109,10 @@ abbrev pub drops_in_cycles : Domain → Traces → ℕ → List Dropped
 drops_in_cycles d traces cycles = each_below (λ cycle. drops_at_bridges traces cycle (length d.bridges)) cycles
 
 -- the book that traces report over the first `cycles` cycles
-abbrev pub told_from : Domain → ℕ → Traces → Contents
-told_from d cycles traces = record {
-  starts = told_in_cycles d Stream traces cycles;
-  background = told_in_cycles d Background traces cycles;
+abbrev pub reported_from : Domain → ℕ → Traces → Contents
+reported_from d cycles traces = record {
+  starts = reported_in_cycles d Stream traces cycles;
+  background = reported_in_cycles d Background traces cycles;
   drops = drops_in_cycles d traces cycles;
 }
 
@@ -124,20 +124,20 @@ abbrev pub AreDropsByCycle : List Dropped → Type 0
 AreDropsByCycle drops = AllPairs (λ (a b : Dropped). a.cycle.0 ≤ b.cycle.0) drops
 
 -- what traces must satisfy so that their book can be written without sorting
-pub record MayBeTold (d : Domain) (traces : Traces) : Type 0 where
+pub record MayBeReported (d : Domain) (traces : Traces) : Type 0 where
   pub each_link : links_of traces.links.items ≡ first_links (length d.links)
   pub in_order : (kind : TransmissionKind) (link : ℕ) → link < length d.links → IsInOrder (marks_at kind traces link)
   pub each_bridge : length traces.drops.items ≡ length d.bridges
   pub drops : (bridge : ℕ) → bridge < length d.bridges → AreDropsByCycle (drops_at traces bridge)
 
 -- the index is where the cycles before `cycle` end: each mark before the index is of an earlier cycle, and no mark from the index on is
-pub record IsEndBefore (d : Domain) (cycle : ℕ) (marks : List Mark) (place : ℕ) : Type 0 where
-  pub within : place ≤ length marks
-  pub before : (k : ℕ) (m : Mark) → slice_get marks k ≡ Some m → k < place → cycle_of d m.start.0 < cycle
-  pub behind : (k : ℕ) (m : Mark) → slice_get marks k ≡ Some m → place ≤ k → cycle ≤ cycle_of d m.start.0
+pub record IsEndBefore (d : Domain) (cycle : ℕ) (marks : List Mark) (index : ℕ) : Type 0 where
+  pub within : index ≤ length marks
+  pub before : (k : ℕ) (m : Mark) → slice_get marks k ≡ Some m → k < index → cycle_of d m.start.0 < cycle
+  pub following : (k : ℕ) (m : Mark) → slice_get marks k ≡ Some m → index ≤ k → cycle ≤ cycle_of d m.start.0
 
 -- the same for drops
-pub record IsDropsEndBefore (cycle : ℕ) (drops : List Dropped) (place : ℕ) : Type 0 where
-  pub within : place ≤ length drops
-  pub before : (k : ℕ) (x : Dropped) → slice_get drops k ≡ Some x → k < place → x.cycle.0 < cycle
-  pub behind : (k : ℕ) (x : Dropped) → slice_get drops k ≡ Some x → place ≤ k → cycle ≤ x.cycle.0
+pub record IsDropsEndBefore (cycle : ℕ) (drops : List Dropped) (index : ℕ) : Type 0 where
+  pub within : index ≤ length drops
+  pub before : (k : ℕ) (x : Dropped) → slice_get drops k ≡ Some x → k < index → x.cycle.0 < cycle
+  pub following : (k : ℕ) (x : Dropped) → slice_get drops k ≡ Some x → index ≤ k → cycle ≤ x.cycle.0

@@ -57,8 +57,8 @@ pub fn gather(
     let mut links = Vec::new(alloc);
     let count = domain.links();
     // each bridge has the traces of its links by number, so its last trace is that of its greatest link
-    for behind in 0..count {
-        let bridge = domain.link(count - 1 - behind).from;
+    for following in 0..count {
+        let bridge = domain.link(count - 1 - following).from;
         match take_last(left.as_mut_slice(), bridge) {
             Some(trace) => links.push(trace)?,
             None => unreachable!(),

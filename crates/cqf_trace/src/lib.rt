@@ -7,7 +7,7 @@
 //! - [`end_of`] finds where the transmissions of a cycle end on a trace. So a book can be written cycle by cycle and link by link, and nothing
 //!   has to be sorted. [`book_of`] makes the book in this way.
 //!
-//! `specs/Traces.antt` defines which traces belong to a book (`AreTracesOf`), and which book traces report (`told_from`).
+//! `specs/Traces.antt` defines which traces belong to a book (`AreTracesOf`), and which book traces report (`reported_from`).
 //!
 //! ```text
 //! gather(alloc, &domain, bridge traces)           the trace of a>s, by its number, from the bridge trace of bridge a
@@ -17,12 +17,12 @@
 
 mod bridge_trace;
 mod gathering;
-mod telling;
+mod reporting;
 mod trace;
 mod traces;
 
 pub use bridge_trace::BridgeTrace;
 pub use gathering::gather;
-pub use telling::{book_of, drops_end_of, end_of, started_on};
+pub use reporting::{book_of, drops_end_of, end_of, started_on};
 pub use trace::{Mark, Trace};
 pub use traces::{Traces, TransmissionKind};

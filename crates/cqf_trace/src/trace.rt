@@ -25,7 +25,7 @@ pub struct Trace {
 }
 
 impl Trace {
-    /// Returns an empty trace for a link. It takes no memory yet.
+    /// Returns an empty trace for a link. Requests no memory.
     pub fn new(alloc: Global, link: u16) -> Trace
         ensures link { result.link ≡ link }
         ensures starts { result.starts.items ≡ [] }

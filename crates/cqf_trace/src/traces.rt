@@ -24,7 +24,8 @@ pub struct Traces {
 }
 
 impl Traces {
-    /// Returns the transmissions of one kind on a link, as its trace has them. The traces must be in order of their links' numbers.
+    /// Returns the transmissions of one kind on a link, as its trace has them. The traces must be in order of their links' numbers, and the
+    /// link must be one of them.
     pub fn marks(&self, kind: TransmissionKind, link: u16) -> &[Mark]
         requires inside { link < length self.now.links.items }
         requires by_number { StandByNumber self.now }

@@ -16,9 +16,9 @@ use Rattle.cqf_lists.specs.Lists.{each_below}
 use Rattle.cqf_lists.proofs.EachBelow.{contains_from_below, filter_below, filter_each, filter_none, filter_twice, length-singles, same_below}
 use Rattle.cqf_lists.proofs.Filters.{filter_alike}
 use Rattle.cqf_lists.proofs.Keys.{by_key}
-use Rattle.cqf_lists.proofs.Members.{all_from_members, contains_at, contains_from_filter, contains_none, contains_one, place_of_member}
+use Rattle.cqf_lists.proofs.Members.{all_from_members, contains_at, contains_from_filter, contains_none, contains_one, index_of_member}
 use Rattle.cqf_lists.proofs.Made.{contains_if}
-use Rattle.cqf_lists.proofs.Places.{slice_get_parts}
+use Rattle.cqf_lists.proofs.Indices.{slice_get_parts}
 use Rattle.cqf_units.proofs.Cycles.{cycle_below, cycle_is, cycles_ordered}
 use Rattle.cqf_model.specs.declared.frames.Offer.{Offer}
 use Rattle.cqf_model.specs.Domain.{is_text}
@@ -26,9 +26,9 @@ use Rattle.cqf_model.proofs.Texts.{is_text_itself, is_text_same}
 use Rattle.cqf_laws_timing.specs.Traffic.{BlocksConform, Conforms, ConformsByBlocks, IsTraffic, SkippingConforms, offers_named}
 use Rattle.cqf_traffic.specs.TrafficText.{IsTrafficText, TrafficText, promise_of}
 use Rattle.cqf_traffic.specs.declared.senders.TalkerStream.{TalkerStream}
-use Rattle.cqf_traffic.specs.Conforming.{AreNamedApart, OffersComeInTurns, OffersConform}
+use Rattle.cqf_traffic.specs.Conforming.{AreNamedApart, OffersComeInActiveCycles, OffersConform}
 use Rattle.cqf_traffic.specs.Offering.{block_before, block_of, blocks_before, frame_of, in_order, late_by, offers_before, on_grid, reached, sent_by}
-use Rattle.cqf_traffic.specs.Offering.{sent_from, sent_with, words_behind, words_of}
+use Rattle.cqf_traffic.specs.Offering.{sent_from, sent_with, words_after, words_of}
 
 -- ---- when blocks come
 
@@ -58,13 +58,13 @@ late_most jitter (Some g) = part_most (pcg32 g).0 jitter (word_small g)
 module _ (t : TrafficText) (words : Option Lcg) where
   -- a block comes no earlier than on the grid
   on_late : (i : ℕ) → on_grid t i ≤ reached t words (suc i)
-  on_late i = omega (arith, le-max_right (reached t words i) (on_grid t i + late_by t.jitter (words_behind words i)))
+  on_late i = omega (arith, le-max_right (reached t words i) (on_grid t i + late_by t.jitter (words_after words i)))
 
   -- it is late by at most the jitter
   reached_most : (i : ℕ) → reached t words (suc i) ≤ on_grid t i + t.jitter
   reached_most zero = max-le (omega arith) (omega (arith, late_most t.jitter words))
   reached_most (suc i) = max-le (omega (arith, reached_most i, mul-le-mul_right t.interval (one_on i)))
-      (omega (arith, late_most t.jitter (words_behind words (suc i))))
+      (omega (arith, late_most t.jitter (words_after words (suc i))))
     where
       one_on : (i : ℕ) → i ≤ suc i
       one_on i = omega arith
@@ -75,7 +75,7 @@ module _ (t : TrafficText) (words : Option Lcg) where
   rises (suc i) zero order = absurd (omega (arith, order))
   rises i (suc k) order = elim (cases_le i k order) [
     | inl e ↦ subst (λ n. reached t words i ≤ reached t words n) e (omega arith)
-    | inr l ↦ omega (arith, rises i k l, le-max_left (reached t words k) (on_grid t k + late_by t.jitter (words_behind words k)))
+    | inr l ↦ omega (arith, rises i k l, le-max_left (reached t words k) (on_grid t k + late_by t.jitter (words_after words k)))
   ]
     where
       -- the last, or one before it
@@ -107,8 +107,8 @@ module _ {X : Type 0} (g : ℕ → X) (frames : ℕ) where
         | inr here ↦
             let inside : here.0 < frames =
             omega (arith, slice_get_within (each_below (λ _. g n ∷ []) frames) here.0 a here.2, length-singles (λ _. g n) frames) in
-            let place : i ≡ n * frames + here.0 = omega (arith, here.1, copies_length n) in
-            let block : i / frames ≡ n = cycle_is frames n i (omega (arith, place)) (omega (arith, place, inside)) in
+            let index : i ≡ n * frames + here.0 = omega (arith, here.1, copies_length n) in
+            let block : i / frames ≡ n = cycle_is frames n i (omega (arith, index)) (omega (arith, index, inside)) in
             let from = contains_from_below (λ _. g n ∷ []) frames a (contains_at (each_below (λ _. g n ∷ []) frames) here.0 a here.2) in
             sym (contains_one (g n) a from.2) ∙ ap g (sym block)
       ]
@@ -177,8 +177,8 @@ module _ (until : ℕ) (sender : TalkerStream) (t : TrafficText) (words : Option
     by_blocks : ConformsByBlocks (promise_of t) all_frames
     by_blocks = record {
       sizes = all_from_members (λ (x : Offer). x.octets ≤ t.size) all_frames (λ x c.
-          let place = place_of_member all_frames x c in
-          omega (arith, ap (λ (y : Offer). y.octets) (stands place.0 x place.1)));
+          let index = index_of_member all_frames x c in
+          omega (arith, ap (λ (y : Offer). y.octets) (stands index.0 x index.1)));
       spaced = apart;
     }
 
@@ -276,8 +276,8 @@ named_in_order until name sent =
 -- so all that is offered of a stream keeps its talker's promise
 pub offers_conform : BlocksConform → SkippingConforms → OffersConform
 offers_conform blocks skips until seed senders sender t apart among is ranges =
-    let place = place_of_member senders sender among in
-    let own = only_its_own until seed sender 0 senders place.0 apart place.1 in
+    let index = index_of_member senders sender among in
+    let own = only_its_own until seed sender 0 senders index.0 apart index.1 in
     let words = words_of seed own.0 in
     let with : sent_by until seed own.0 sender ≡ sent_with until sender words (Some t) = ap (λ traffic. sent_with until sender words traffic) is in
     let all : offers_named sender.name (offers_before until seed senders) ≡ sent_with until sender words (Some t) =
@@ -290,36 +290,36 @@ offers_conform blocks skips until seed senders sender t apart among is ranges =
 in_turn : (t : TrafficText) (cycle_time every sync block at : ℕ) → 0 < cycle_time → t.interval % (every * cycle_time) ≡ 0 →
     sync ≤ t.offset % cycle_time → t.offset % cycle_time + t.jitter + sync < cycle_time → on_grid t block ≤ at + sync →
     at ≤ on_grid t block + t.jitter + sync → at / cycle_time % every ≡ t.offset / cycle_time % every
-in_turn t cycle_time every sync block at some whole behind_start within from upto =
+in_turn t cycle_time every sync block at some whole after_start within from upto =
     let first : ℕ = t.offset / cycle_time in
     let times : ℕ = t.interval / (every * cycle_time) in
     let begins : t.offset ≡ first * cycle_time + t.offset % cycle_time = sym (div-add-mod' t.offset cycle_time) in
     let long : t.interval ≡ times * (every * cycle_time) = omega (arith, div-add-mod' t.interval (every * cycle_time), whole) in
-    let behind : block * t.interval ≡ block * times * every * cycle_time = omega (arith, ap (λ n. block * n) long) in
-    let grid : t.offset + block * t.interval ≡ (first + block * times * every) * cycle_time + t.offset % cycle_time = omega (arith, begins, behind) in
+    let following : block * t.interval ≡ block * times * every * cycle_time = omega (arith, ap (λ n. block * n) long) in
+    let grid : t.offset + block * t.interval ≡ (first + block * times * every) * cycle_time + t.offset % cycle_time = omega (arith, begins, following) in
     ap (λ cycle. cycle % every)
-    (cycle_is cycle_time (first + block * times * every) at (omega (arith, grid, from, behind_start)) (omega (arith, grid, upto, within)))
+    (cycle_is cycle_time (first + block * times * every) at (omega (arith, grid, from, after_start)) (omega (arith, grid, upto, within)))
     ∙ add-mul-mod_self_right first (block * times) every
 
 -- so does each frame of a stream
-sent_in_turns : (until : ℕ) (sender : TalkerStream) (words : Option Lcg) (t : TrafficText) (cycle_time every sync : ℕ) → 0 < cycle_time →
+sent_in_active_cycles : (until : ℕ) (sender : TalkerStream) (words : Option Lcg) (t : TrafficText) (cycle_time every sync : ℕ) → 0 < cycle_time →
     t.interval % (every * cycle_time) ≡ 0 → sync ≤ t.offset % cycle_time → t.offset % cycle_time + t.jitter + sync < cycle_time → (x : Offer) →
     Contains (sent_with until sender words (Some t)) x → (at : ℕ) → x.at.0 ≤ at + sync → at ≤ x.at.0 + sync →
     at / cycle_time % every ≡ t.offset / cycle_time % every
-sent_in_turns until sender words t cycle_time every sync some whole behind within x c at no_sooner no_later =
+sent_in_active_cycles until sender words t cycle_time every sync some whole following within x c at no_sooner no_later =
     let by_talker : ℕ → ℕ = λ block. reached t words (suc block) in
     let block = contains_from_below (λ block. block_before until sender t (by_talker block)) (blocks_before until t) x c in
     let here = contains_if (nat_lt (by_talker block.0) until) (block_of sender t (by_talker block.0)) x block.2 in
     let comes : by_talker block.0 ≡ x.at.0 = ap (λ (y : Offer). y.at.0) (copied_once (frame_of sender t (by_talker block.0)) x t.frames here) in
     let late : on_grid t block.0 ≤ by_talker block.0 = on_late t words block.0 in
     let most : by_talker block.0 ≤ on_grid t block.0 + t.jitter = reached_most t words block.0 in
-    in_turn t cycle_time every sync block.0 at some whole behind within (omega (arith, comes, late, no_sooner)) (omega (arith, comes, most, no_later))
+    in_turn t cycle_time every sync block.0 at some whole following within (omega (arith, comes, late, no_sooner)) (omega (arith, comes, most, no_later))
 
 -- so does each frame of a stream among all that is offered
-pub offers_come_in_turns : OffersComeInTurns
-offers_come_in_turns until seed senders sender t cycle_time every sync apart among is some more whole behind within x c at no_sooner no_later =
-    let place = place_of_member senders sender among in
-    let own = only_its_own until seed sender 0 senders place.0 apart place.1 in
+pub offers_come_in_active_cycles : OffersComeInActiveCycles
+offers_come_in_active_cycles until seed senders sender t cycle_time every sync apart among is some more whole following within x c at no_sooner no_later =
+    let index = index_of_member senders sender among in
+    let own = only_its_own until seed sender 0 senders index.0 apart index.1 in
     let words = words_of seed own.0 in
     let sent : List Offer = sent_with until sender words (Some t) in
     let with : sent_by until seed own.0 sender ≡ sent = ap (λ traffic. sent_with until sender words traffic) is in
@@ -327,4 +327,4 @@ offers_come_in_turns until seed senders sender t cycle_time every sync apart amo
     named_in_order until sender.name (sent_from until seed 0 senders) ∙ ap (in_order until) (own.1 ∙ with) in
     let by_instant = contains_from_below (λ n. filter (λ (y : Offer). y.at.0 == n) sent) until x (subst (λ (xs : List Offer). Contains xs x) all c) in
     let there = (contains_from_filter (λ (y : Offer). y.at.0 == by_instant.0) sent x by_instant.2).0 in
-    sent_in_turns until sender words t cycle_time every sync some whole behind within x there at no_sooner no_later
+    sent_in_active_cycles until sender words t cycle_time every sync some whole following within x there at no_sooner no_later

@@ -7,7 +7,7 @@ use Rattle.cqf_model.specs.declared.frames.Offer.{Offer}
 use Rattle.cqf_traffic.specs.TrafficText.{TrafficText}
 use Rattle.cqf_traffic.specs.declared.senders.TalkerStream.{TalkerStream}
 use Rattle.cqf_traffic.specs.declared.talkers.Talker.{Talker}
-use Rattle.cqf_traffic.specs.Offering.{behind_word, block_before, late_by, on_grid, reached, sent_by, sent_from, words_behind}
+use Rattle.cqf_traffic.specs.Offering.{after_word, block_before, late_by, on_grid, reached, sent_by, sent_from, words_after}
 
 -- the frames of a block that comes in time
 abbrev pub block_at : ℕ → TalkerStream → TrafficText → Option Lcg → ℕ → List Offer
@@ -16,7 +16,7 @@ block_at until sender t words block = block_before until sender t (reached t wor
 -- the offers of the first blocks come after those from before, and the talker is at its next block
 pub record ArePut (until : ℕ) (sender : TalkerStream) (t : TrafficText) (words : Option Lcg) (before : List Offer) (block : ℕ) (talker : Talker) (list : List Offer) : Type 0 where
   pub traffic_is : talker.traffic ≡ t
-  pub words_are : talker.words ≡ words_behind words block
+  pub words_are : talker.words ≡ words_after words block
   pub reached_is : talker.reached ≡ reached t words block
   pub put : list ≡ before ++ each_below (block_at until sender t words) block
 
@@ -33,14 +33,14 @@ module _ (until : ℕ) (sender : TalkerStream) (t : TrafficText) (words : Option
   -- one more block
   pub one_put : (block : ℕ) (talker after : Talker) (list more : List Offer) (at : ℕ) → ArePut until sender t words before block talker list →
       at ≡ max talker.reached (on_grid talker.traffic block + late_by talker.traffic.jitter talker.words) →
-      after ≡ record talker { words = behind_word talker.words; reached = at } → more ≡ list ++ block_before until sender t at →
+      after ≡ record talker { words = after_word talker.words; reached = at } → more ≡ list ++ block_before until sender t at →
       ArePut until sender t words before (block + 1) after more
   one_put block talker after list more at p comes is put =
       let now : at ≡ reached t words (suc block) =
       comes ∙ (λ i. max (p.reached_is i) (on_grid (p.traffic_is i) block + late_by (p.traffic_is i).jitter (p.words_are i))) in
       let next : ArePut until sender t words before (suc block) after more = record {
         traffic_is = ap (λ (w : Talker). w.traffic) is ∙ p.traffic_is;
-        words_are = ap (λ (w : Talker). w.words) is ∙ ap behind_word p.words_are;
+        words_are = ap (λ (w : Talker). w.words) is ∙ ap after_word p.words_are;
         reached_is = ap (λ (w : Talker). w.reached) is ∙ now;
         put = put ∙ (λ i. p.put i ++ block_before until sender t (now i))
             ∙ append_assoc before (each_below (block_at until sender t words) block) (block_at until sender t words block);
@@ -61,8 +61,8 @@ pub sent_more : (until : ℕ) (seed : Option ℕ) (senders : List TalkerStream) 
     (list more : List Offer) → list ≡ sent_from until seed 0 (take k senders) → more ≡ list ++ sent_by until seed k s →
     more ≡ sent_from until seed 0 (take (k + 1) senders)
 sent_more until seed senders k s inside is list more before put =
-    let place : 0 + length (take k senders) ≡ k = omega (arith, length-take-le k senders (omega (arith, inside))) in
+    let index : 0 + length (take k senders) ≡ k = omega (arith, length-take-le k senders (omega (arith, inside))) in
     let one : take k senders ++ s ∷ [] ≡ take (k + 1) senders = ap (λ x. take k senders ++ x ∷ []) is ∙ sym (take_more senders k s inside) in
     put ∙ ap (λ (xs : List Offer). xs ++ sent_by until seed k s) before
-    ∙ ap (λ n. sent_from until seed 0 (take k senders) ++ sent_by until seed n s) (sym place)
+    ∙ ap (λ n. sent_from until seed 0 (take k senders) ++ sent_by until seed n s) (sym index)
     ∙ sym (sent_push until seed 0 (take k senders) s) ∙ ap (sent_from until seed 0) one

@@ -20,8 +20,8 @@ OffersConform = (until : ℕ) (seed : Option ℕ) (senders : List TalkerStream) 
 -- Each interval is a multiple of `every` cycles long. A frame that is late by the whole jitter comes in its cycle on the grid, even by a
 -- clock that differs from the talker's by up to `sync`. Then all that is offered of the stream comes, by such a clock, in every `every`-th
 -- cycle, counted from the cycle in which the stream's offers begin
-abbrev pub OffersComeInTurns : Type 0
-OffersComeInTurns = (until : ℕ) (seed : Option ℕ) (senders : List TalkerStream) (sender : TalkerStream) (t : TrafficText) (cycle_time every sync : ℕ) →
+abbrev pub OffersComeInActiveCycles : Type 0
+OffersComeInActiveCycles = (until : ℕ) (seed : Option ℕ) (senders : List TalkerStream) (sender : TalkerStream) (t : TrafficText) (cycle_time every sync : ℕ) →
     AreNamedApart senders → Contains senders sender → sender.traffic ≡ Some t → 0 < cycle_time → 0 < every →
     t.interval % (every * cycle_time) ≡ 0 → sync ≤ t.offset % cycle_time → t.offset % cycle_time + t.jitter + sync < cycle_time →
     (x : Offer) → Contains (offers_named sender.name (offers_before until seed senders)) x →

@@ -20,12 +20,12 @@ blocks_before until t = (until - t.offset + t.interval - 1) / t.interval
 abbrev pub words_of : Option ℕ → ℕ → Option Lcg
 words_of seed number = option_map (λ (s : ℕ). started 64 multiplier_64 (s * 2 ^ 32) (increment_of 64 number)) seed
 
-abbrev pub behind_word : Option Lcg → Option Lcg
-behind_word words = option_map (λ (g : Lcg). (pcg32 g).1) words
+abbrev pub after_word : Option Lcg → Option Lcg
+after_word words = option_map (λ (g : Lcg). (pcg32 g).1) words
 
-abbrev pub words_behind : Option Lcg → ℕ → Option Lcg
-words_behind words zero = words
-words_behind words (suc block) = behind_word (words_behind words block)
+abbrev pub words_after : Option Lcg → ℕ → Option Lcg
+words_after words zero = words
+words_after words (suc block) = after_word (words_after words block)
 
 -- how late the next word makes a block: from 0 to the jitter, with equal shares of all words; 0 without a word
 abbrev pub late_by : ℕ → Option Lcg → ℕ
@@ -35,7 +35,7 @@ late_by jitter (Some g) = (pcg32 g).0 * (jitter + 1) / 2 ^ 32
 -- the instant of the last of the first blocks: each may be late, but none comes before the previous one
 abbrev pub reached : TrafficText → Option Lcg → ℕ → ℕ
 reached t words zero = 0
-reached t words (suc block) = max (reached t words block) (on_grid t block + late_by t.jitter (words_behind words block))
+reached t words (suc block) = max (reached t words block) (on_grid t block + late_by t.jitter (words_after words block))
 
 -- a frame of a block, and all frames of a block
 abbrev pub frame_of : TalkerStream → TrafficText → ℕ → Offer

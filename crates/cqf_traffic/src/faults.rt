@@ -51,7 +51,7 @@ impl From<Memory> for FlowsFault {
     }
 }
 
-/// Converts a failed allocation for a value likewise.
+/// Converts a failed allocation of a value into a fault.
 impl<T: Drop> From<AllocFailed<T>> for FlowsFault {
     ghost use Rattle.cqf_topology.specs.declared.toml_faults.TomlFault.TheVariants as toml;
     ghost use Rattle.cqf_traffic.specs.declared.faults.FlowsFault.TheVariants as variant;

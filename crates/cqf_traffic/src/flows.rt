@@ -75,8 +75,8 @@ fn first_lack_among(values: &[Value]) -> Option<FlowsFault>
     None
 }
 
-/// The first key that a document's streams lack, as a fault: of each stream the keys that every stream has, and then those that its traffic
-/// owes.
+/// Returns the first key that a document's streams lack, as a fault, or `None` if no key is missing. The streams are examined one after the
+/// other: first the keys that every stream has, then those that its traffic must have.
 pub fn first_lack_of(table: &Table) -> Option<FlowsFault>
     ensures { result ≡ first_lack_of (table_view table.now) }
 {
@@ -96,10 +96,10 @@ pub(crate) fn read_traffic(table: &Table) -> Result<Option<Traffic>, FlowsFault>
     }
 }
 
-/// A stream's table, with its deadline and its traffic.
+/// Returns the stream of a table, with its deadline and its traffic.
 ///
 /// # Errors
-/// The fault of the first key with another value than it may have; `Memory` where a growth is refused.
+/// `BadValue` with the first key, in reading order, that is missing or has a wrong value. `Memory` if an allocation fails.
 pub fn read_flow(alloc: Global, table: &Table) -> Result<Flow, FlowsFault>
     ensures { Gives (FlowsFault.Streams StreamsFault.Memory) flow_text result (flow_from (table_view table.now)) }
 {

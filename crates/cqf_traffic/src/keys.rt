@@ -43,7 +43,7 @@ impl TrafficKey {
         }
     }
 
-    /// Returns the least number allowed at the key.
+    /// Returns the least number allowed at the key, in nanoseconds, frames or octets.
     pub fn least(self) -> u32
         ensures { result ≡ least_of self }
     {
@@ -54,7 +54,7 @@ impl TrafficKey {
         }
     }
 
-    /// Returns the greatest number allowed at the key.
+    /// Returns the greatest number allowed at the key, in nanoseconds, frames or octets.
     pub fn most(self) -> u32
         ensures { result ≡ most_of self }
     {

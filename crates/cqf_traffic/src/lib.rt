@@ -8,8 +8,8 @@
 //! - **Offered.** A [`TalkerStream`] is a stream as its talker sees it: its name, its edge bridge and its traffic. [`offers_before`]
 //!   returns what senders offer before an instant, given by [`Until`]: blocks of frames on a regular grid, or, with a seed, each late by
 //!   chance. [`are_few`] returns whether there are few enough for a run.
-//! - **Laws**, functions that do nothing: these offers keep each talker's promise ([`offers_conform`]), and those of a stream in step come
-//!   in its turns ([`offers_come_in_turns`]).
+//! - **Laws**, functions that do nothing: these offers keep each talker's promise ([`offers_conform`]), and those of a stream in step
+//!   arrive in the cycles of its pace ([`offers_come_in_active_cycles`]).
 //!
 //! ```text
 //! [[streams]]
@@ -40,7 +40,7 @@ pub use faults::FlowsFault;
 pub use flows::{Flow, first_lack_of as first_flow_lack, read_flow, read_flows};
 pub use grid::are_few;
 pub use keys::TrafficKey;
-pub use laws::{offers_come_in_turns, offers_conform};
+pub use laws::{offers_come_in_active_cycles, offers_conform};
 pub use making::offers_before;
 pub use owed::first_owed;
 pub use paced_flows::{PacedFlow, read_paced_flows};

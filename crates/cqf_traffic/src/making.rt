@@ -29,7 +29,7 @@ fn put_block(
     Ok(())
 }
 
-/// Appends them if the block comes before an instant.
+/// Appends a sender's frames of a block if the block comes before an instant.
 fn put_block_before(
     list: &mut Vec<Offer>,
     end: Nanos,

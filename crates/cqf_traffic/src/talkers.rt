@@ -1,6 +1,6 @@
 //! The instants of a talker's blocks.
 ghost use Rattle.std.specs.Prelude.{◌≡◌, ◌+◌, max};
-ghost use Rattle.cqf_traffic.specs.Offering.{behind_word, late_by, on_grid, words_of};
+ghost use Rattle.cqf_traffic.specs.Offering.{after_word, late_by, on_grid, words_of};
 
 use crate::Traffic;
 use cqf_units::Nanos;
@@ -40,7 +40,7 @@ impl Talker {
     /// Returns how late the next block is, at most the jitter, in nanoseconds. This takes a word.
     fn late(&mut self) -> u64
         ensures late { result ≡ late_by self.old.traffic.jitter self.old.words }
-        ensures next { self.new ≡ record self.old { words = behind_word self.old.words } }
+        ensures next { self.new ≡ record self.old { words = after_word self.old.words } }
     {
         let parts = self.traffic.jitter().0 + 1;
         match &mut self.words {
@@ -52,7 +52,7 @@ impl Talker {
     /// Returns the instant of the block with this number, which is the talker's next one.
     pub(crate) fn next(&mut self, block: u64) -> u128
         ensures at { result ≡ max self.old.reached (on_grid self.old.traffic block + late_by self.old.traffic.jitter self.old.words) }
-        ensures next { self.new ≡ record self.old { words = behind_word self.old.words; reached = result } }
+        ensures next { self.new ≡ record self.old { words = after_word self.old.words; reached = result } }
     {
         let grid = u128::from(self.traffic.offset().0)
             + u128::from(block) * u128::from(self.traffic.interval().0);

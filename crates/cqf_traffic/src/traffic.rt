@@ -7,7 +7,7 @@ ghost use Rattle.cqf_traffic.specs.TrafficText.{delayed_by, has_traffic, number_
 ghost use Rattle.cqf_traffic.specs.Keys.{bound_of, least_of, most_of};
 
 use crate::keys::{TRAFFIC_KEYS, TrafficKey};
-use cqf_units::{Nanos, Octets};
+use cqf_units::{Nanos, Octets, counted};
 use std::marker::Model;
 use toml::{Table, Value};
 
@@ -70,7 +70,7 @@ impl Traffic {
         Octets(self.size)
     }
 
-    /// How late a frame may be: at the hand-over up to 1,000,000,000 ns, at the edge bridge up to 4,000,000,000.
+    /// Returns how late a frame may be: at the hand-over up to 1,000,000,000 ns, at the edge bridge up to 4,000,000,000 ns.
     pub fn jitter(self) -> Nanos
         ensures value { result.0 ≡ self.jitter }
         ensures range { IsTrafficText self }
@@ -78,7 +78,8 @@ impl Traffic {
         Nanos(u64::from(self.jitter))
     }
 
-    /// When the stream's offers begin: at the hand-over up to 1,000,000,000 ns, at the edge bridge up to 2,000,000,000.
+    /// Returns the instant at which the stream's offers begin: at the hand-over up to 1,000,000,000 ns, at the edge bridge up to
+    /// 2,000,000,000 ns.
     pub fn offset(self) -> Nanos
         ensures value { result.0 ≡ self.offset }
         ensures range { IsTrafficText self }
@@ -97,8 +98,8 @@ impl Traffic {
         }
     }
 
-    /// The same promise with another jitter, up to 4,000,000,000 ns, and of offers that begin at another instant, up to 2,000,000,000 ns: so
-    /// it holds at the edge bridge, after the talker's access link.
+    /// Returns the same promise with another jitter, up to 4,000,000,000 ns, and with offers that begin at another instant, up to
+    /// 2,000,000,000 ns: the promise at the edge bridge, after the talker's access link.
     pub fn delayed_by(self, jitter: Nanos, offset: Nanos) -> Traffic
         requires jitter { jitter.0 ≤ bound_of TrafficKey.Jitter }
         requires offset { offset.0 ≤ bound_of TrafficKey.Offset }
@@ -119,13 +120,14 @@ impl Traffic {
         (u128::from(cycle_time.0) + u128::from(self.jitter) + interval - 1) / interval
     }
 
-    /// Returns what a cycle needs of the stream, in octets, given the cycle time: the most frames that it can hold, each of the greatest
-    /// size.
-    pub fn needed(self, cycle_time: Nanos) -> u128
-        ensures { result ≡ needed cycle_time.0 (promise_of self) }
+    /// Returns what a cycle needs of the stream, in octets, given the gate overhead and the cycle time: the octets that gates count of the most
+    /// frames that it can hold, each of the greatest size.
+    pub fn needed(self, overhead: u32, cycle_time: Nanos) -> u128
+        ensures { result ≡ needed overhead cycle_time.0 (promise_of self) }
     {
         let intervals = self.intervals_in(cycle_time);
-        intervals * u128::from(self.frames) * u128::from(self.size)
+        let octets = counted(Octets(overhead), Octets(self.size)).0;
+        intervals * u128::from(self.frames) * u128::from(octets)
     }
 }
 

@@ -1,3 +1,4 @@
+pub mod Costs
 pub mod NameText
 pub mod Cycles
 pub mod Times

@@ -21,11 +21,11 @@ ticks_of_octet Mb100000 = 2
 abbrev pub time_of : ℕ → ℕ → ℕ
 time_of octets octet_time = (octets * octet_time + 24) / 25
 
--- the octets of the wire that a frame takes: its own, 8 of preamble and start delimiter, and 12 of minimum gap (IEEE 802.3)
+-- the octets that a frame takes on the wire: its own, 8 of preamble and start delimiter, and 12 of minimum gap (IEEE 802.3)
 abbrev pub wire_of : ℕ → ℕ
 wire_of octets = octets + 20
 
--- the time that they take, in nanoseconds: the frame's slot
+-- a frame's slot: the time that its octets on the wire take, in nanoseconds
 abbrev pub slot_of : ℕ → ℕ → ℕ
 slot_of octets octet_time = time_of (wire_of octets) octet_time
 
@@ -37,10 +37,15 @@ ending_of start octets octet_time = start + time_of (octets + 8) octet_time
 abbrev pub idle_after : ℕ → ℕ → ℕ → ℕ
 idle_after start octets octet_time = start + slot_of octets octet_time
 
--- what a reservation costs once on each link of its tree, in octets a cycle: the reserved octets, and 20 octets of preamble, start
--- delimiter and gap for each frame of the shortest size (64 octets) that fits in them
-abbrev pub cost_of : ℕ → ℕ
-cost_of reserved = reserved + 20 * (reserved / 64)
+-- how many octets of a frame a stream gate counts: all but the gate overhead
+abbrev pub counted_of : ℕ → ℕ → ℕ
+counted_of overhead octets = octets - overhead
+
+-- the cost of a reservation, in octets per cycle, which it takes once of each link of its tree: the reserved octets, which are those that
+-- gates count; and for each frame of the shortest size (64 octets) that passes, the overhead that gates don't count, and 20 octets of
+-- preamble, start delimiter and gap
+abbrev pub cost_of : ℕ → ℕ → ℕ
+cost_of overhead reserved = reserved + (overhead + 20) * (reserved / (64 - overhead))
 
 -- an upper bound of the ticks that rounding a time up to whole nanoseconds adds
 abbrev pub rounding_of : ℕ → ℕ
@@ -56,7 +61,7 @@ shortest_of octet_time = 84 * octet_time + rounding_of octet_time
 abbrev pub span_of : ℕ → ℕ → ℕ
 span_of cost octet_time = cost * shortest_of octet_time / 2100
 
--- what reservations may cost on a link, in octets a cycle: frames with this total cost are sent in the cycle time less the guard band
+-- what reservations may cost on a link, in octets per cycle: frames with this total cost can be sent in the cycle time less the guard band
 abbrev pub budget_of : ℕ → ℕ → ℕ → ℕ
 budget_of cycle_time guard octet_time = (cycle_time - guard) * 2100 / shortest_of octet_time
 

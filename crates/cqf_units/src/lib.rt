@@ -3,7 +3,7 @@
 //!
 //! - [`Nanos`], [`Octets`], [`Rate`] and [`Cycle`] are plain quantities, each with its unit.
 //! - [`octet_ticks`], [`time_of`], [`wire`], [`slot`], [`end_of`] and [`idle_from`] time a frame on an IEEE 802.3 link.
-//! - [`cost`], [`span`], [`budget`] and [`cycle_of`] are the arithmetic of reservations and cycles.
+//! - [`counted`], [`cost`], [`span`], [`budget`] and [`cycle_of`] are the arithmetic of reservations and cycles.
 //! - [`Name`] is the name of a bridge, a station or a stream.
 //!
 //! ```text
@@ -18,12 +18,12 @@ mod reservations;
 mod timing;
 
 pub use names::Name;
-pub use reservations::{Cycle, budget, budget_octets, cost, cycle_of, span};
+pub use reservations::{Cycle, budget, budget_octets, cost, counted, cycle_of, span};
 use std::alloc::AllocError;
 pub use timing::{
     Nanos, Octets, Rate, end_of, idle_from, octet_ticks, slot, time_in_ticks, time_of, wire,
 };
 
-/// The error for want of memory, throughout: an allocation failed. What a call changed before that is restored, unless
-/// the call says otherwise.
+/// The error of a failed allocation, throughout. A call that returns it has restored what it changed, unless its documentation says
+/// otherwise.
 pub type Memory = AllocError;

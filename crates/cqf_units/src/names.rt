@@ -64,7 +64,7 @@ fn kept(bytes: &[u8]) -> ArrayVec<u8, 32>
 }
 
 impl Name {
-    /// Returns the name with these bytes, or `None` if they don't have the form of a name.
+    /// Returns the name with these bytes, or `None` if they aren't 1 to 32 bytes that may occur in a name.
     pub fn new(bytes: &[u8]) -> Option<Name>
         ensures form { IsSome result ↔ IsTrue (is_name bytes.now) }
         ensures value { IfSome result (λ name. name ≡ bytes.now) }

@@ -1,6 +1,6 @@
 //! Cycles, and the share of a link that a reservation takes.
 ghost use Rattle.std.specs.Prelude.{◌≡◌, ◌-◌, ◌*◌, ◌/◌, ◌^◌, ◌<◌, ◌≤◌};
-ghost use Rattle.cqf_units.specs.Timing.{ticks_of_octet, shortest_of, span_of, cost_of, budget_of, cycle_at};
+ghost use Rattle.cqf_units.specs.Timing.{ticks_of_octet, shortest_of, span_of, counted_of, cost_of, budget_of, cycle_at};
 
 use crate::{Nanos, Octets, Rate, octet_ticks};
 
@@ -8,14 +8,23 @@ use crate::{Nanos, Octets, Rate, octet_ticks};
 #[derive(Clone, Copy, Debug, PartialEq, Eq, PartialOrd, Ord, Hash)]
 pub struct Cycle(pub u32);
 
-/// Returns what a reservation of this many octets a cycle costs once on each link of its tree, in octets: the reserved
-/// octets, and 20 octets of preamble, start delimiter and gap for each frame of the shortest size (64 octets) that fits
-/// in them. The caller keeps the cost below 2^32.
-pub fn cost(reserved: Octets) -> Octets
-    requires { cost_of reserved.0 < 2 ^ 32 }
-    ensures { result.0 ≡ cost_of reserved.0 }
+/// Returns the octets of a frame that a stream gate counts: all but the gate overhead.
+pub fn counted(overhead: Octets, frame: Octets) -> Octets
+    ensures { result.0 ≡ counted_of overhead.0 frame.0 }
 {
-    Octets(reserved.0 + 20 * (reserved.0 / 64))
+    Octets(frame.0.saturating_sub(overhead.0))
+}
+
+/// Returns the cost of a reservation of this many octets per cycle, in octets per cycle. The stream takes it once of
+/// each link of its tree. It is the reserved octets, which are those that gates count; and for each frame of the
+/// shortest size (64 octets) that passes, the overhead that gates don't count, and 20 octets of preamble, start
+/// delimiter and gap (IEEE 802.3). The overhead is less than 64 octets. The caller keeps the cost below 2^32.
+pub fn cost(overhead: Octets, reserved: Octets) -> Octets
+    requires less { overhead.0 < 64 }
+    requires fits { cost_of overhead.0 reserved.0 < 2 ^ 32 }
+    ensures { result.0 ≡ cost_of overhead.0 reserved.0 }
+{
+    Octets(reserved.0 + (overhead.0 + 20) * (reserved.0 / (64 - overhead.0)))
 }
 
 /// Returns an upper bound of the ticks that a frame of the shortest size takes on the wire (84 octets), rounded up to
@@ -37,7 +46,7 @@ fn shortest(rate: Rate) -> u64
 }
 
 /// Returns an upper bound of the time, in nanoseconds, that frames with this total cost in octets take to send,
-/// regardless of their sizes. The cost is below 2^50.
+/// regardless of their sizes. The cost is below 2^50; the result is at most 801 ns for each of its octets.
 pub fn span(cost: u64, rate: Rate) -> u64
     requires { cost < 2 ^ 50 }
     ensures value { result ≡ span_of cost (ticks_of_octet rate) }
@@ -47,8 +56,9 @@ pub fn span(cost: u64, rate: Rate) -> u64
     (ticks / 2100) as u64
 }
 
-/// Returns what reservations may cost on a link in a cycle, in octets, as [`budget`] does, for results of 2^32 and more
-/// as well. The guard band is no longer than the cycle time, which is below 2^48 ns.
+/// Returns what reservations may cost on a link in a cycle, in octets, as [`budget`] does, but also if this is 2^32 or
+/// more. The guard band is no longer than the cycle time, which is below 2^48 ns. The result is at most 11 octets for
+/// each nanosecond of the cycle time less the guard band.
 pub fn budget_octets(cycle_time: Nanos, guard: Nanos, rate: Rate) -> u64
     requires shorter { guard.0 ≤ cycle_time.0 }
     requires short { cycle_time.0 < 2 ^ 48 }
@@ -60,7 +70,7 @@ pub fn budget_octets(cycle_time: Nanos, guard: Nanos, rate: Rate) -> u64
     open * 2100 / shortest
 }
 
-/// Returns what reservations may cost on a link in a cycle, in octets: frames with this total cost are sent in the
+/// Returns what reservations may cost on a link in a cycle, in octets: frames with this total cost can be sent in the
 /// cycle time less the guard band. The guard band is no longer than the cycle time, which is below 2^28 ns.
 pub fn budget(cycle_time: Nanos, guard: Nanos, rate: Rate) -> Octets
     requires shorter { guard.0 ≤ cycle_time.0 }

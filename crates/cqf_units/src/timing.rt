@@ -52,7 +52,8 @@ pub fn octet_ticks(rate: Rate) -> u64
     }
 }
 
-/// Returns the time that `octets` octets take at the rate, in nanoseconds, rounded up to a whole one.
+/// Returns the time that `octets` octets take at the rate, in nanoseconds, rounded up to a whole one. There are at most
+/// 2^33 octets, and each takes at most 800 ns.
 pub fn time_of(octets: u64, rate: Rate) -> u64
     requires { octets ≤ 2 ^ 33 }
     ensures value { result ≡ time_of octets (ticks_of_octet rate) }
@@ -71,7 +72,7 @@ pub fn time_in_ticks(octets: u64, octet_ticks: u64) -> u64
     (octets * octet_ticks).div_ceil(25)
 }
 
-/// Returns the octets of the wire that a frame takes: its own, 8 of preamble and start delimiter, and 12 of minimum gap
+/// Returns the octets that a frame takes on the wire: its own, 8 of preamble and start delimiter, and 12 of minimum gap
 /// (IEEE 802.3). The caller keeps the sum below 2^32.
 pub fn wire(frame: Octets) -> Octets
     requires { frame.0 + 20 < 2 ^ 32 }
@@ -80,7 +81,8 @@ pub fn wire(frame: Octets) -> Octets
     Octets(frame.0 + 20)
 }
 
-/// Returns a frame's slot: the time that its octets of the wire take, in nanoseconds.
+/// Returns a frame's slot: the time, in nanoseconds, that its octets on the wire take, rounded up to a whole one. It is
+/// at most 800 ns for each of them.
 pub fn slot(frame: Octets, rate: Rate) -> u64
     ensures value { result ≡ slot_of frame.0 (ticks_of_octet rate) }
     ensures range { result ≤ 800 * (frame.0 + 20) }

@@ -16,11 +16,11 @@ use Rattle.cqf_model.specs.Calls.{IsHistoryOf}
 use Rattle.cqf_admission.specs.declared.entries.Command.{Command}
 use Rattle.cqf_trace.specs.BridgeTraces.{AreBridgeTracesOf}
 use Rattle.cqf_trace.specs.declared.traces.Traces.{Traces}
-use Rattle.cqf_trace.specs.Traces.{told_from}
+use Rattle.cqf_trace.specs.Traces.{reported_from}
 use Rattle.cqf_desk.specs.Closing.{IsOfSeats}
 use Rattle.cqf_desk.specs.Desk.{Counter, Sitting, fresh_seats}
 use Rattle.cqf_desk.specs.declared.history.History.{History}
-use Rattle.cqf_laws_account.specs.Traced.{TracesTellTheBook}
+use Rattle.cqf_laws_account.specs.Traced.{TracesGiveTheBook}
 use Rattle.cqf_laws_account.specs.Sealing.{cycle_tables}
 use Rattle.cqf_laws_account.specs.Seated.{AreSeated, ClosesItsCycles, ConductorHasTheTables, SeatsGiveTheHistory}
 use Rattle.cqf_laws_network.specs.NetworkLaws.{LegalNetworkExists}
@@ -50,12 +50,12 @@ use Rattle.cqf_worker.proofs.Seating.{are_seated, asked_count, asks_no_seal, fre
 -- a fresh seat has no calls
 no_calls_yet : (count : ℕ) (administrators : List Administrator) → map seat_of administrators ≡ fresh_seats count →
     All (λ (a : Administrator). a.seat.calls ≡ []) administrators
-no_calls_yet count administrators seats place a below =
+no_calls_yet count administrators seats index a below =
     let many : length administrators ≡ count = sym (length-map administrators seat_of) ∙ ap length seats ∙ seats_count count in
-    let its : (get_or administrators place a).seat ≡ fresh_seat place =
-    sym (get_or-map seat_of administrators place a a.seat below)
-    ∙ ap (λ (xs : List Sitting). get_or xs place a.seat) seats
-    ∙ get_or-singles fresh_seat count place a.seat (omega (arith, below, many)) in
+    let its : (get_or administrators index a).seat ≡ fresh_seat index =
+    sym (get_or-map seat_of administrators index a a.seat below)
+    ∙ ap (λ (xs : List Sitting). get_or xs index a.seat) seats
+    ∙ get_or-singles fresh_seat count index a.seat (omega (arith, below, many)) in
     ap (λ (s : Sitting). s.calls) its
 
 module _ (d : Domain) (opening : List Recorded) (offers : List Offer) (background : List Background) (cycles : ℕ) (admins : List (List Command))
@@ -110,10 +110,10 @@ module _ (d : Domain) (opening : List Recorded) (offers : List Offer) (backgroun
           (law d opening (all_asked admins) cycles (all_seats e) (entries_of account.history) of_seats seated_so.0 (asks_no_seal admins) unsealed)
 
       -- the ends of the workers' pipes carried the tables of the history's cycles
-      given_so : ClosesItsCycles d (entries_of account.history) cycles e.sealed.seat → (place : ℕ) (end : TableEnd) →
-          place < length e.sealed.tables.items →
-          (slice_index_or e.sealed.tables.items place end).items ≡ map Item (cycle_tables d (entries_of account.history) cycles)
-      given_so closes place end inside = ended.sealed.given place end inside ∙ ap (map Item) closes.tables
+      given_so : ClosesItsCycles d (entries_of account.history) cycles e.sealed.seat → (index : ℕ) (end : TableEnd) →
+          index < length e.sealed.tables.items →
+          (slice_index_or e.sealed.tables.items index end).items ≡ map Item (cycle_tables d (entries_of account.history) cycles)
+      given_so closes index end inside = ended.sealed.given index end inside ∙ ap (map Item) closes.tables
 
       module _ (accepted : IsAccepted d) (unsealed : seals opening ≡ 0) (good_offers : AreOffers d offers) (few_offers : length offers ≤ 16777215)
           (good_background : AreBackground d background) (seats : SeatsGiveTheHistory) (has_tables : ConductorHasTheTables)
@@ -182,10 +182,10 @@ module _ (d : Domain) (opening : List Recorded) (offers : List Offer) (backgroun
             }
 
 -- an account by traces, with the book read from them, is an account
-pub told_account : (d : Domain) (opening : List Recorded) (offers : List Offer) (background : List Background) (cycles : ℕ)
-    (admins : List (List Command)) (paged : TracedAccount) (account : Account) → TracesTellTheBook → IsAccepted d →
+pub reported_account : (d : Domain) (opening : List Recorded) (offers : List Offer) (background : List Background) (cycles : ℕ)
+    (admins : List (List Command)) (paged : TracedAccount) (account : Account) → TracesGiveTheBook → IsAccepted d →
     IsTracedAccount d opening offers background cycles admins paged → account.history ≡ paged.history →
-    contents_of account.book ≡ told_from d cycles paged.traces → IsAccount d opening offers background cycles admins account
-told_account d opening offers background cycles admins paged account law accepted is same told =
+    contents_of account.book ≡ reported_from d cycles paged.traces → IsAccount d opening offers background cycles admins account
+reported_account d opening offers background cycles admins paged account law accepted is same reported =
     subst₂ (λ (history : History) (book : Contents). IsOutcomeOf d opening offers background cycles admins history book) (sym same)
-    ((law d cycles paged.traces is.book accepted is.some is.its_traces).told ∙ sym told) is.run
+    ((law d cycles paged.traces is.book accepted is.some is.its_traces).reported ∙ sym reported) is.run

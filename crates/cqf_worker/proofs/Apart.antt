@@ -6,7 +6,7 @@ use Rattle.std.proofs.lemmas.List.{length-map}
 use Rattle.std.proofs.lemmas.List.Elements.{AllZip-get_or, length_all_zip}
 use Rattle.std.proofs.lemmas.Option.{get_or_from_slice_get, same_Some, slice_get-get_or, slice_get-map, slice_get_cases, slice_get_within}
 use Rattle.std.proofs.lemmas.Simd.{map-map}
-use Rattle.cqf_lists.proofs.Members.{contains_at, contains_from_map, contains_map, place_of_member}
+use Rattle.cqf_lists.proofs.Members.{contains_at, contains_from_map, contains_map, index_of_member}
 use Rattle.cqf_trace.specs.declared.bridge_trace.BridgeTrace.{BridgeTrace}
 use Rattle.cqf_trace.specs.BridgeTraces.{AreBridgeTracesOf, links_leaving}
 use Rattle.cqf_trace.specs.Traces.{links_of}
@@ -63,35 +63,35 @@ kept_links before after same =
     link wire = wire.0
 
 -- each worker that is done was the worker at its index
-pub was_at : (cycles : ℕ) (workers dones : List Worker) (place : ℕ) (done : Worker) → AllZip (Works cycles) workers dones →
-    slice_get dones place ≡ Some done → (w : Worker) × (slice_get workers place ≡ Some w) × Works cycles w done
-was_at cycles workers dones place done worked there =
-    let below : place < length workers = omega (arith, length_all_zip (Works cycles) workers dones worked, slice_get_within dones place done there) in (
-      get_or workers place done,
-      slice_get-get_or workers place done below,
-      subst (Works cycles (get_or workers place done)) (get_or_from_slice_get dones place done done there)
-          (AllZip-get_or (Works cycles) workers dones place done done worked below),
+pub was_at : (cycles : ℕ) (workers dones : List Worker) (index : ℕ) (done : Worker) → AllZip (Works cycles) workers dones →
+    slice_get dones index ≡ Some done → (w : Worker) × (slice_get workers index ≡ Some w) × Works cycles w done
+was_at cycles workers dones index done worked there =
+    let below : index < length workers = omega (arith, length_all_zip (Works cycles) workers dones worked, slice_get_within dones index done there) in (
+      get_or workers index done,
+      slice_get-get_or workers index done below,
+      subst (Works cycles (get_or workers index done)) (get_or_from_slice_get dones index done done there)
+          (AllZip-get_or (Works cycles) workers dones index done done worked below),
     )
 
 module _ (t : Offering) (cycles : ℕ) (workers dones : List Worker) (of_bridges : AreWorkersOf t workers) (worked : AllZip (Works cycles) workers dones)
-    (place : ℕ) (done : Worker) (there : slice_get dones place ≡ Some done) where
+    (index : ℕ) (done : Worker) (there : slice_get dones index ≡ Some done) where
   -- what it was, of its bridge
-  was : (w : Worker) × (slice_get workers place ≡ Some w) × Works cycles w done
-  was = was_at cycles workers dones place done worked there
+  was : (w : Worker) × (slice_get workers index ≡ Some w) × Works cycles w done
+  was = was_at cycles workers dones index done worked there
 
-  was_of : IsWorkerOf t place was.0
-  was_of = of_bridges place was.0 was.1
+  was_of : IsWorkerOf t index was.0
+  was_of = of_bridges index was.0 was.1
 
   -- it did its bridge's part
-  pub kept_part : HasGoneThrough t place cycles done
-  kept_part = was.2.part t place was_of
+  pub kept_part : HasGoneThrough t index cycles done
+  kept_part = was.2.part t index was_of
 
   -- it takes at ports of the links that end in its bridge
-  pub kept_ins : map link_of done.ins.items ≡ links_into t.domain place
+  pub kept_ins : map link_of done.ins.items ≡ links_into t.domain index
   kept_ins = kept_links was.0.ins.items done.ins.items was.2.ins ∙ was_of.links_in
 
   -- and puts at ports of those that leave it and end in another bridge
-  pub kept_outs : map link_of done.outs.items ≡ links_onward t.domain place
+  pub kept_outs : map link_of done.outs.items ≡ links_onward t.domain index
   kept_outs = kept_links was.0.outs.items done.outs.items was.2.outs ∙ was_of.links_out
 
 -- the bridge traces of workers that are done are of their bridges
@@ -135,13 +135,13 @@ still_wired cycles workers dones worked wired = (
   wired.0,
   record {
     at_ins = λ done there.
-        (let place = place_of_member dones done there in
-        let was = was_at cycles workers dones place.0 done worked place.1 in
-        still_on wired.0 was.0.ins.items done.ins.items was.2.ins (wired.1.at_ins was.0 (contains_at workers place.0 was.0 was.1)));
+        (let index = index_of_member dones done there in
+        let was = was_at cycles workers dones index.0 done worked index.1 in
+        still_on wired.0 was.0.ins.items done.ins.items was.2.ins (wired.1.at_ins was.0 (contains_at workers index.0 was.0 was.1)));
     at_outs = λ done there.
-        (let place = place_of_member dones done there in
-        let was = was_at cycles workers dones place.0 done worked place.1 in
-        still_on wired.0 was.0.outs.items done.outs.items was.2.outs (wired.1.at_outs was.0 (contains_at workers place.0 was.0 was.1)));
+        (let index = index_of_member dones done there in
+        let was = was_at cycles workers dones index.0 done worked index.1 in
+        still_on wired.0 was.0.outs.items done.outs.items was.2.outs (wired.1.at_outs was.0 (contains_at workers index.0 was.0 was.1)));
   },
 )
 

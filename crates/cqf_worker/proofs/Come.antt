@@ -11,7 +11,7 @@ use Rattle.std.proofs.lemmas.List.Elements.{length_all_zip}
 use Rattle.std.proofs.lemmas.Option.{get_or_from_slice_get, slice_get_cases, slice_get_within}
 use Rattle.cqf_lists.specs.Lists.{each_below}
 use Rattle.cqf_lists.proofs.EachBelow.{get_or-singles, length-singles, map_below}
-use Rattle.cqf_lists.proofs.Members.{contains_at, contains_from_filter, contains_from_map, contains_map, place_of_member}
+use Rattle.cqf_lists.proofs.Members.{contains_at, contains_from_filter, contains_from_map, contains_map, index_of_member}
 use Rattle.cqf_lists.proofs.Numbers.{kept_number, numbers_ascend}
 use Rattle.cqf_model.specs.declared.frames.Background.{Background}
 use Rattle.cqf_model.specs.declared.frames.Sent.{Sent}
@@ -114,7 +114,7 @@ pub record HaveRun (t : Offering) (entries : List Recorded) (cycles : ℕ) (work
   pub fed : AreFedByWires dones
   pub pipes : map pipe_of_tables ends ≡ map tables_pipe dones
   pub given : AreGiven ends dones
-  pub put : (place : ℕ) (d : TableEnd) → place < length ends → (slice_index_or ends place d).items ≡ map Item (cycle_tables t.domain entries cycles)
+  pub put : (index : ℕ) (d : TableEnd) → index < length ends → (slice_index_or ends index d).items ≡ map Item (cycle_tables t.domain entries cycles)
 
 -- a port at which a worker takes, and what was put for it
 pub record IsPutFor (cycles : ℕ) (dones : List Worker) (p : SegmentPort) : Type 0 where
@@ -132,49 +132,49 @@ module _ (t : Offering) (entries : List Recorded) (cycles : ℕ) (workers dones 
   as_many_ends : length ends ≡ length t.domain.bridges
   as_many_ends = sym (length-map ends pipe_of_tables) ∙ ap length run.pipes ∙ length-map dones tables_pipe ∙ as_many
 
-  module _ (place : ℕ) (done : Worker) (there : slice_get dones place ≡ Some done) where
+  module _ (index : ℕ) (done : Worker) (there : slice_get dones index ≡ Some done) where
     -- the worker at an index did its bridge's part
-    pub gone_at : HasGoneThrough t place cycles done
-    gone_at = kept_part t cycles workers dones run.of_bridges run.worked place done there
+    pub gone_at : HasGoneThrough t index cycles done
+    gone_at = kept_part t cycles workers dones run.of_bridges run.worked index done there
 
     -- it takes at ports of the links that end in its bridge
-    ins_links : map link_of done.ins.items ≡ links_into t.domain place
-    ins_links = kept_ins t cycles workers dones run.of_bridges run.worked place done there
+    ins_links : map link_of done.ins.items ≡ links_into t.domain index
+    ins_links = kept_ins t cycles workers dones run.of_bridges run.worked index done there
 
     -- and puts at ports of those that leave it and end in another bridge
-    outs_links : map link_of done.outs.items ≡ links_onward t.domain place
-    outs_links = kept_outs t cycles workers dones run.of_bridges run.worked place done there
+    outs_links : map link_of done.outs.items ≡ links_onward t.domain index
+    outs_links = kept_outs t cycles workers dones run.of_bridges run.worked index done there
 
     -- these ports ascend
     ins_ascend : AllPairs (λ (a b : ℕ). a < b) (map link_of done.ins.items)
-    ins_ascend = subst (AllPairs (λ (a b : ℕ). a < b)) (sym ins_links) (links_ascend t.domain place)
+    ins_ascend = subst (AllPairs (λ (a b : ℕ). a < b)) (sym ins_links) (links_ascend t.domain index)
 
     outs_ascend : AllPairs (λ (a b : ℕ). a < b) (map link_of done.outs.items)
-    outs_ascend = subst (AllPairs (λ (a b : ℕ). a < b)) (sym outs_links) (onward_ascend t.domain place)
+    outs_ascend = subst (AllPairs (λ (a b : ℕ). a < b)) (sym outs_links) (onward_ascend t.domain index)
 
     -- the link of a port at which it puts leaves its bridge, and ends in another bridge
-    leaves_it : (out : SegmentPort) → Contains done.outs.items out → (leaves t.domain out.link place ≡ true) × (is_onward t.domain out.link ≡ true)
+    leaves_it : (out : SegmentPort) → Contains done.outs.items out → (leaves t.domain out.link index ≡ true) × (is_onward t.domain out.link ≡ true)
     leaves_it out held =
-        let among : Contains (links_onward t.domain place) out.link =
+        let among : Contains (links_onward t.domain index) out.link =
         subst (λ (ls : List ℕ). Contains ls out.link) outs_links (contains_map link_of done.outs.items out held) in
-        let kept = contains_from_filter (is_onward t.domain) (links_from t.domain place) out.link among in
-        ((kept_number (λ l. leaves t.domain l place) (length t.domain.links) out.link kept.0).1, kept.1)
+        let kept = contains_from_filter (is_onward t.domain) (links_from t.domain index) out.link among in
+        ((kept_number (λ l. leaves t.domain l index) (length t.domain.links) out.link kept.0).1, kept.1)
 
     -- and each link that ends in its bridge has a port at which it takes
-    port_of : (m : ℕ) → enters t.domain m place ≡ true → (p : SegmentPort) × Contains done.ins.items p × (p.link ≡ m)
+    port_of : (m : ℕ) → enters t.domain m index ≡ true → (p : SegmentPort) × Contains done.ins.items p × (p.link ≡ m)
     port_of m here =
         contains_from_map link_of done.ins.items m
-        (subst (λ (ls : List ℕ). Contains ls m) (sym ins_links) (link_listed t.domain place m here))
+        (subst (λ (ls : List ℕ). Contains ls m) (sym ins_links) (link_listed t.domain index m here))
 
     -- the tables that it took are all those put for it
     taken_all : items_in done.tables.items ≡ cycle_tables t.domain entries cycles
     taken_all =
-        let below : place < length ends = omega (arith, slice_get_within dones place done there, as_many, as_many_ends) in
+        let below : index < length ends = omega (arith, slice_get_within dones index done there, as_many, as_many_ends) in
         let tables = cycle_tables t.domain entries cycles in
-        let put = element_at ends place below in
-        let rest = items_begin done.tables.items put.0.items (run.given place put.0 done put.1 there) in
+        let put = element_at ends index below in
+        let rest = items_begin done.tables.items put.0.items (run.given index put.0 done put.1 there) in
         let carried : put.0.items ≡ map Item tables =
-        ap (λ (e : TableEnd). e.items) (sym (get_or_from_slice_get ends place put.0 put.0 put.1)) ∙ run.put place put.0 below in
+        ap (λ (e : TableEnd). e.items) (sym (get_or_from_slice_get ends index put.0 put.0 put.1)) ∙ run.put index put.0 below in
         let count : length tables ≡ cycles =
         length-singles (λ cycle. (let table : CycleTable = record { cycle = cycle; rows = table_at t.domain entries cycle } in table)) cycles in
         begins_whole tables (items_in done.tables.items) rest.0 (sym (ap items_in carried ∙ items_all tables) ∙ rest.1) (gone_at.had_tables ∙ sym count)
@@ -184,16 +184,16 @@ module _ (t : Offering) (entries : List Recorded) (cycles : ℕ) (workers dones 
     tables_are = ap (map rows_in) taken_all ∙ rows_of_tables t.domain entries cycles
 
     -- and the offers of each cycle are those of the run
-    pub offers_are : (cycle : ℕ) → cycle < cycles → offers_in (come_to done) cycle ≡ offered_for t.domain t.offers place cycle
+    pub offers_are : (cycle : ℕ) → cycle < cycles → offers_in (come_to done) cycle ≡ offered_for t.domain t.offers index cycle
     offers_are cycle within =
         get_or-singles (offers_listed_at done.agenda) (length (items_in done.tables.items)) cycle [] (omega (arith, within, gone_at.had_tables))
         ∙ gone_at.is_agenda cycle
 
   -- what was put for a port at which a worker takes
-  put_for : (place : ℕ) (done : Worker) (p : SegmentPort) → slice_get dones place ≡ Some done → Contains done.ins.items p → IsPutFor cycles dones p
-  put_for place done p there held =
-      let fed = run.fed done p (contains_at dones place done there) held in
-      let source = place_of_member dones fed.from fed.of_workers in
+  put_for : (index : ℕ) (done : Worker) (p : SegmentPort) → slice_get dones index ≡ Some done → Contains done.ins.items p → IsPutFor cycles dones p
+  put_for index done p there held =
+      let fed = run.fed done p (contains_at dones index done there) held in
+      let source = index_of_member dones fed.from fed.of_workers in
       record {
         fed = fed;
         beginning = items_begin p.pipe.items fed.out.pipe.items fed.beginning;
@@ -201,27 +201,27 @@ module _ (t : Offering) (entries : List Recorded) (cycles : ℕ) (workers dones 
       }
 
   -- so what arrived at a worker may arrive
-  may_have_come : (place : ℕ) (done : Worker) → slice_get dones place ≡ Some done → MayHaveComeTo t done
-  may_have_come place done there = record {
-    segments = next_by_links done.ins.items (λ p held. (let put = put_for place done p there held in
+  may_have_come : (index : ℕ) (done : Worker) → slice_get dones index ≡ Some done → MayHaveComeTo t done
+  may_have_come index done there = record {
+    segments = next_by_links done.ins.items (λ p held. (let put = put_for index done p there held in
         next_begin 0 (segments_in p) put.beginning.0 (subst (AreNextSegments 0) put.beginning.1 put.put.next)));
-    tables = subst (MayBeTables t.domain) (sym (tables_are place done there)) run.may_come;
+    tables = subst (MayBeTables t.domain) (sym (tables_are index done there)) run.may_come;
   }
 
   -- and its links have sent everything
-  pub sent_all : (place : ℕ) (done : Worker) → slice_get dones place ≡ Some done → HasSentAll t place cycles done
-  sent_all place done there = (gone_at place done there).sent (may_have_come place done there)
+  pub sent_all : (index : ℕ) (done : Worker) → slice_get dones index ≡ Some done → HasSentAll t index cycles done
+  sent_all index done there = (gone_at index done there).sent (may_have_come index done there)
 
   -- as one function of the bridges
-  pub sent_so : (own : ℕ → Sendings) × ((place : ℕ) (done : Worker) → slice_get dones place ≡ Some done → HasSentBy t place cycles done (own place))
-  sent_so = chosen {X = Worker} {Y = Sendings} (λ l. []) dones (λ place done sends. HasSentBy t place cycles done sends)
-      (λ place done there. (let all = sent_all place done there in
+  pub sent_so : (own : ℕ → Sendings) × ((index : ℕ) (done : Worker) → slice_get dones index ≡ Some done → HasSentBy t index cycles done (own index))
+  sent_so = chosen {X = Worker} {Y = Sendings} (λ l. []) dones (λ index done sends. HasSentBy t index cycles done sends)
+      (λ index done there. (let all = sent_all index done there in
       (all.sends, record { gone = all.gone; all = all.all; put = all.put; starts = all.starts })))
 
   abbrev pub own_sends : ℕ → Sendings
   own_sends = sent_so.0
 
-  pub sent_by : (place : ℕ) (done : Worker) → slice_get dones place ≡ Some done → HasSentBy t place cycles done (own_sends place)
+  pub sent_by : (index : ℕ) (done : Worker) → slice_get dones index ≡ Some done → HasSentBy t index cycles done (own_sends index)
   sent_by = sent_so.1
 
   -- what each link has sent
@@ -232,20 +232,20 @@ module _ (t : Offering) (entries : List Recorded) (cycles : ℕ) (workers dones 
   abbrev pub all_come : ℕ → Come
   all_come = come_of t (tables_of t.domain entries cycles) dones
 
-  module _ (place : ℕ) (done : Worker) (there : slice_get dones place ≡ Some done) (m : ℕ) (here : enters t.domain m place ≡ true) where
+  module _ (index : ℕ) (done : Worker) (there : slice_get dones index ≡ Some done) (m : ℕ) (here : enters t.domain m index ≡ true) where
     port : (p : SegmentPort) × Contains done.ins.items p × (p.link ≡ m)
-    port = port_of place done there m here
+    port = port_of index done there m here
 
     put : IsPutFor cycles dones port.0
-    put = put_for place done port.0 there port.1
+    put = put_for index done port.0 there port.1
 
     -- it arrived up to the last cycle
     far : cycles ≤ end_of_segments 0 (segments_in port.0)
-    far = of_member (λ (p : SegmentPort). cycles ≤ end_of_segments 0 (segments_in p)) done.ins.items port.0 (sent_all place done there).came port.1
+    far = of_member (λ (p : SegmentPort). cycles ≤ end_of_segments 0 (segments_in p)) done.ins.items port.0 (sent_all index done there).came port.1
 
     segments_here : segments_at done.ins.items m ≡ segments_in port.0
     segments_here =
-        ap (segments_at done.ins.items) (sym port.2) ∙ segments_there done.ins.items port.0 (ins_ascend place done there) port.1
+        ap (segments_at done.ins.items) (sym port.2) ∙ segments_there done.ins.items port.0 (ins_ascend index done there) port.1
 
     -- and no further
     upto_so : end_of_segments 0 (segments_at done.ins.items m) ≡ cycles
@@ -257,7 +257,7 @@ module _ (t : Offering) (entries : List Recorded) (cycles : ℕ) (workers dones 
 
     -- the worker that put it
     source : (k : ℕ) × (slice_get dones k ≡ Some put.fed.from)
-    source = place_of_member dones put.fed.from put.fed.of_workers
+    source = index_of_member dones put.fed.from put.fed.of_workers
 
     same_link : put.fed.out.link ≡ m
     same_link = put.fed.same_link ∙ port.2
@@ -291,22 +291,22 @@ module _ (t : Offering) (entries : List Recorded) (cycles : ℕ) (workers dones 
     count = tables_count t.domain entries cycles
 
     -- everything has arrived at a worker's bridge
-    come_there : (place : ℕ) (done : Worker) → slice_get dones place ≡ Some done → HasCome its_run all_sends place (come_to done)
-    come_there place done there = record {
-      tables = tables_are place done there;
-      offers = λ cycle within. offers_are place done there cycle (omega (arith, within, count));
-      upto = λ m here. upto_so place done there m here ∙ sym count;
-      brought = λ m cycle here. brought_so place done there m here cycle;
+    come_there : (index : ℕ) (done : Worker) → slice_get dones index ≡ Some done → HasCome its_run all_sends index (come_to done)
+    come_there index done there = record {
+      tables = tables_are index done there;
+      offers = λ cycle within. offers_are index done there cycle (omega (arith, within, count));
+      upto = λ m here. upto_so index done there m here ∙ sym count;
+      brought = λ m cycle here. brought_so index done there m here cycle;
     }
 
     -- and a number that is none of the bridges has no links
-    come_nowhere : (place : ℕ) → length dones ≤ place → HasCome its_run all_sends place (come_elsewhere t its_run.tables place)
-    come_nowhere place behind =
-        let none : (m : ℕ) → enters t.domain m place ≡ true → ⊥ =
-        λ m here. (omega (arith, behind, as_many, enters_bridge t.domain m place run.accepted here)) in
+    come_nowhere : (index : ℕ) → length dones ≤ index → HasCome its_run all_sends index (come_elsewhere t its_run.tables index)
+    come_nowhere index following =
+        let none : (m : ℕ) → enters t.domain m index ≡ true → ⊥ =
+        λ m here. (omega (arith, following, as_many, enters_bridge t.domain m index run.accepted here)) in
         record {
           tables = refl;
-          offers = λ cycle within. get_or-singles (offered_for t.domain t.offers place) (length its_run.tables) cycle [] within;
+          offers = λ cycle within. get_or-singles (offered_for t.domain t.offers index) (length its_run.tables) cycle [] within;
           upto = λ m here. absurd (none m here);
           brought = λ m cycle here. absurd (none m here);
         }

@@ -16,8 +16,8 @@ use Rattle.cqf_worker_loops.specs.Handing.{HasSealed}
 use Rattle.cqf_worker.specs.Faults.{IsClean, is_noted}
 use Rattle.cqf_worker.specs.Noting.{NotesAll, fault_of_caller, fault_of_worker, noted_with}
 use Rattle.cqf_worker.specs.Running.{AnswersWorker, BreaksOff, CallAnswers, CallsOf, IsEnded}
-use Rattle.cqf_worker.specs.Telling.{MayBeTold}
-use Rattle.cqf_worker.proofs.Notings.{AreTold, all_told, callers_told, is_told, told_clean, told_with, workers_told}
+use Rattle.cqf_worker.specs.Reporting.{MayBeReported}
+use Rattle.cqf_worker.proofs.Notings.{AreReported, all_reported, callers_reported, is_reported, reported_clean, reported_with, workers_reported}
 use Rattle.cqf_worker_loops.specs.Workers.{Works}
 use Rattle.cqf_worker.proofs.Zipped.{zipped_same, zipped_values}
 
@@ -44,22 +44,22 @@ all_joined cycles_in worker_in administrator_in working calling workers seats cy
 }
 
 -- what is noted of all threads may be reported for the run
-pub joined_told : {H K : Type 0} (cycles_in : H → ℕ) (worker_in : H → Worker) (administrator_in : K → Administrator) (working : List H) (calling : List K)
+pub joined_reported : {H K : Type 0} (cycles_in : H → ℕ) (worker_in : H → Worker) (administrator_in : K → Administrator) (working : List H) (calling : List K)
     (cycles : ℕ) (r : ReadyRun) (clean called worked : Faults) (seats : List Sitting) (workers : List Worker) → IsClean clean
     → map worker_in working ≡ r.workers.items → All (λ h. cycles_in h ≡ cycles) working → map administrator_in calling ≡ r.administrators.items
     → ((answers : List (Result Sitting Unmade)) × AllZip (λ h answer. CallAnswers (administrator_in h) answer) calling answers
     × NotesAll fault_of_caller clean called [] seats answers)
     → ((answers : List (Result Worker GaveUp)) × AllZip (λ h answer. AnswersWorker (cycles_in h) (worker_in h) answer) working answers
-    × NotesAll fault_of_worker called worked [] workers answers) → AreTold cycles r worked
-joined_told cycles_in worker_in administrator_in working calling cycles r clean called worked seats workers is_clean begun same seated calls works =
-    let after_calls : AreTold cycles r called = all_told cycles r fault_of_caller CallAnswers r.administrators.items calls.0 clean called [] seats
-    (callers_told cycles r) (zipped_values administrator_in CallAnswers calling r.administrators.items calls.0 seated calls.1) calls.2
-    (told_clean cycles r clean is_clean) in
-    all_told cycles r fault_of_worker (AnswersWorker cycles) r.workers.items works.0 called worked [] workers (workers_told cycles r)
+    × NotesAll fault_of_worker called worked [] workers answers) → AreReported cycles r worked
+joined_reported cycles_in worker_in administrator_in working calling cycles r clean called worked seats workers is_clean begun same seated calls works =
+    let after_calls : AreReported cycles r called = all_reported cycles r fault_of_caller CallAnswers r.administrators.items calls.0 clean called [] seats
+    (callers_reported cycles r) (zipped_values administrator_in CallAnswers calling r.administrators.items calls.0 seated calls.1) calls.2
+    (reported_clean cycles r clean is_clean) in
+    all_reported cycles r fault_of_worker (AnswersWorker cycles) r.workers.items works.0 called worked [] workers (workers_reported cycles r)
     (zipped_values worker_in (AnswersWorker cycles) working r.workers.items works.0 begun
     (zipped_same cycles_in (λ c h answer. AnswersWorker c (worker_in h) answer) cycles working works.0 same works.1)) works.2 after_calls
 
 -- and so may what is reported of them and the conductor
-pub run_told : (cycles : ℕ) (r : ReadyRun) (faults : Faults) (sealed : Result Sealed SealingFault) (fault : ConductFault) → AreTold cycles r faults
-    → IfErr sealed (BreaksOff cycles r.conductor r.tables.items) → is_noted (noted_with faults sealed) ≡ Some fault → MayBeTold cycles r fault
-run_told cycles r faults sealed fault told why is = is_told cycles r (noted_with faults sealed) fault (told_with cycles r faults sealed told why) is
+pub run_reported : (cycles : ℕ) (r : ReadyRun) (faults : Faults) (sealed : Result Sealed SealingFault) (fault : ConductFault) → AreReported cycles r faults
+    → IfErr sealed (BreaksOff cycles r.conductor r.tables.items) → is_noted (noted_with faults sealed) ≡ Some fault → MayBeReported cycles r fault
+run_reported cycles r faults sealed fault reported why is = is_reported cycles r (noted_with faults sealed) fault (reported_with cycles r faults sealed reported why) is

@@ -14,7 +14,7 @@ use Rattle.std.proofs.lemmas.Option.{slice_get-get_or, slice_get_cases, slice_ge
 use Rattle.cqf_lists.proofs.EachBelow.{contains_below}
 use Rattle.cqf_lists.proofs.Members.{contains_at, contains_cases, contains_filter, contains_flat, contains_from_flat}
 use Rattle.cqf_lists.proofs.Members.{contains_from_map, contains_here, contains_later, contains_map, contains_none}
-use Rattle.cqf_lists.proofs.Members.{place_of_member}
+use Rattle.cqf_lists.proofs.Members.{index_of_member}
 use Rattle.cqf_lists.proofs.Pairs.{pairs_head, pairs_tail}
 use Rattle.cqf_model.specs.declared.topology.Link.{Link}
 use Rattle.cqf_model.specs.declared.topology.Node.{Node}
@@ -182,13 +182,13 @@ module _ (t : Offering) (cycles : ℕ) (workers dones : List Worker) (of_bridges
     (many : length workers ≡ length t.domain.bridges)
     (worked : AllZip (Works cycles) workers dones) where
   -- the link of a port at which a worker takes ends in its bridge
-  enters_its_worker : (place : ℕ) (done : Worker) (port : SegmentPort) → slice_get dones place ≡ Some done → Contains done.ins.items port →
-      enters t.domain port.link place ≡ true
-  enters_its_worker place done port there held =
-      let among : Contains (links_into t.domain place) port.link =
-      subst (λ (ls : List ℕ). Contains ls port.link) (kept_ins t cycles workers dones of_bridges worked place done there)
+  enters_its_worker : (index : ℕ) (done : Worker) (port : SegmentPort) → slice_get dones index ≡ Some done → Contains done.ins.items port →
+      enters t.domain port.link index ≡ true
+  enters_its_worker index done port there held =
+      let among : Contains (links_into t.domain index) port.link =
+      subst (λ (ls : List ℕ). Contains ls port.link) (kept_ins t cycles workers dones of_bridges worked index done there)
       (contains_map link_of done.ins.items port held) in
-      (link_into t.domain place port.link among).1
+      (link_into t.domain index port.link among).1
 
   module _ (link : ℕ) where
     -- whether a port is of the link
@@ -198,16 +198,16 @@ module _ (t : Offering) (cycles : ℕ) (workers dones : List Worker) (of_bridges
     -- a worker has at most one taking end of the link
     one_each : (done : Worker) → Contains dones done → count_by is_on (ins_at done) ≤ 1
     one_each done among =
-        let place = place_of_member dones done among in
+        let index = index_of_member dones done among in
         once_counted link_of link (ins_at done)
-        (subst (AllPairs (λ (a b : ℕ). a < b)) (sym (kept_ins t cycles workers dones of_bridges worked place.0 done place.1)) (links_ascend t.domain place.0))
+        (subst (AllPairs (λ (a b : ℕ). a < b)) (sym (kept_ins t cycles workers dones of_bridges worked index.0 done index.1)) (links_ascend t.domain index.0))
 
     -- and none if the link doesn't end in its bridge
-    none_elsewhere : (place : ℕ) (done : Worker) → slice_get dones place ≡ Some done → (enters t.domain link place ≡ true → ⊥) →
+    none_elsewhere : (index : ℕ) (done : Worker) → slice_get dones index ≡ Some done → (enters t.domain link index ≡ true → ⊥) →
         count_by is_on (ins_at done) ≡ 0
-    none_elsewhere place done there other =
+    none_elsewhere index done there other =
         none_counted is_on (ins_at done) (λ port held. (ne_eqb port.link link (λ same.
-        (other (subst (λ (l : ℕ). enters t.domain l place ≡ true) same (enters_its_worker place done port there held))))))
+        (other (subst (λ (l : ℕ). enters t.domain l index ≡ true) same (enters_its_worker index done port there held))))))
 
     -- so of two workers one has none
     are_apart : AllPairs (AreApart ins_at is_on) dones
@@ -225,8 +225,8 @@ module _ (t : Offering) (cycles : ℕ) (workers dones : List Worker) (of_bridges
         let port = counted_one is_on (flat_map ins_at dones) some in
         let same : port.0.link ≡ link = eqb-true port.0.link link port.2 in
         let at = contains_from_flat ins_at dones port.0 port.1 in
-        let place = place_of_member dones at.0 at.1 in
-        let source = has_source t.domain port.0.link accepted place.0 (enters_its_worker place.0 at.0 port.0 place.1 at.2) in
+        let index = index_of_member dones at.0 at.1 in
+        let source = has_source t.domain port.0.link accepted index.0 (enters_its_worker index.0 at.0 port.0 index.1 at.2) in
         let as_many : length dones ≡ length t.domain.bridges = sym (length_all_zip (Works cycles) workers dones worked) ∙ many in
         let done = element_at dones source.0 (omega (arith, source.1, as_many)) in
         let out = contains_from_map link_of done.0.outs.items port.0.link

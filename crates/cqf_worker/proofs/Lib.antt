@@ -11,4 +11,4 @@ mod Come
 mod Traced
 mod Accounts
 mod Lacking
-mod Told
+mod Reported

@@ -24,11 +24,11 @@ use Rattle.cqf_worker.specs.declared.faults.ConductFault.TheVariants as conduct
 use Rattle.cqf_worker.specs.declared.faults.Faults.{Faults}
 use Rattle.cqf_worker.specs.declared.threads.Administrator.{Administrator}
 use Rattle.cqf_worker.specs.declared.threads.ReadyRun.{ReadyRun}
-use Rattle.cqf_worker.specs.Faults.{IsClean, first_noted, is_before, is_noted, told_of}
+use Rattle.cqf_worker.specs.Faults.{IsClean, first_noted, is_before, is_noted, reported_of}
 use Rattle.cqf_worker.specs.Noting.{NotesFault, NotesAll, fault_in_call, fault_in_worker, fault_of_caller}
 use Rattle.cqf_worker.specs.Noting.{fault_of_conductor, fault_of_worker, noted, noted_with}
 use Rattle.cqf_worker.specs.Running.{AnswersWorker, BreaksOff, CallAnswers}
-use Rattle.cqf_worker.specs.Telling.{IsStartFault, MayBeTold}
+use Rattle.cqf_worker.specs.Reporting.{IsStartFault, MayBeReported}
 use Rattle.cqf_worker.proofs.Zipped.{HasOneMore}
 
 -- if something is noted, something has gone wrong
@@ -66,19 +66,19 @@ module _ {X Y : Type 0} (cause : Y → Option ConductFault) where
       (all.0, all.1, all.2, notes_more all.0 now after all.1 kept more answers answer all.3 one)
 
 -- what is noted may be reported for the run
-pub record AreTold (cycles : ℕ) (r : ReadyRun) (faults : Faults) : Type 0 where
-  pub first : (fault : ConductFault) → faults.first ≡ Some fault → MayBeTold cycles r fault
-  pub stopped : faults.is_stopped ≡ true → MayBeTold cycles r conduct.ChannelLost
+pub record AreReported (cycles : ℕ) (r : ReadyRun) (faults : Faults) : Type 0 where
+  pub first : (fault : ConductFault) → faults.first ≡ Some fault → MayBeReported cycles r fault
+  pub stopped : faults.is_stopped ≡ true → MayBeReported cycles r conduct.ChannelLost
 
 -- the cause of a thread may be
 abbrev pub MayCause : ℕ → ReadyRun → Option ConductFault → Type 0
-MayCause cycles r (Some fault) = MayBeTold cycles r fault
-MayCause cycles r None = MayBeTold cycles r conduct.ChannelLost
+MayCause cycles r (Some fault) = MayBeReported cycles r fault
+MayCause cycles r None = MayBeReported cycles r conduct.ChannelLost
 
 module _ (cycles : ℕ) (r : ReadyRun) where
   -- nothing is noted
-  pub told_clean : (faults : Faults) → IsClean faults → AreTold cycles r faults
-  told_clean faults clean = record {
+  pub reported_clean : (faults : Faults) → IsClean faults → AreReported cycles r faults
+  reported_clean faults clean = record {
     first = λ fault is. absurd (none_some (sym clean.0 ∙ is));
     stopped = λ is. absurd (false≢true (sym clean.1 ∙ is));
   }
@@ -88,61 +88,61 @@ module _ (cycles : ℕ) (r : ReadyRun) where
       none_some is = absurd cc
 
   -- either of two may be reported
-  chosen : (b : Bool) (fault first : ConductFault) → MayBeTold cycles r fault → MayBeTold cycles r first → MayBeTold cycles r (cond b fault first)
-  chosen true fault first may told = may
-  chosen false fault first may told = told
+  chosen : (b : Bool) (fault first : ConductFault) → MayBeReported cycles r fault → MayBeReported cycles r first → MayBeReported cycles r (cond b fault first)
+  chosen true fault first may reported = may
+  chosen false fault first may reported = reported
 
-  told_first : (was : Option ConductFault) (fault : ConductFault) → ((x : ConductFault) → was ≡ Some x → MayBeTold cycles r x) → MayBeTold cycles r fault →
-      MayBeTold cycles r (first_noted was fault)
-  told_first None fault told may = may
-  told_first (Some x) fault told may = chosen (is_before fault x) fault x may (told x refl)
+  reported_first : (was : Option ConductFault) (fault : ConductFault) → ((x : ConductFault) → was ≡ Some x → MayBeReported cycles r x) → MayBeReported cycles r fault →
+      MayBeReported cycles r (first_noted was fault)
+  reported_first None fault reported may = may
+  reported_first (Some x) fault reported may = chosen (is_before fault x) fault x may (reported x refl)
 
   -- one more is noted
-  pub told_more : (faults : Faults) (cause : Option ConductFault) → AreTold cycles r faults → MayCause cycles r cause → AreTold cycles r (noted faults cause)
-  told_more faults (Some fault) told may = record {
+  pub reported_more : (faults : Faults) (cause : Option ConductFault) → AreReported cycles r faults → MayCause cycles r cause → AreReported cycles r (noted faults cause)
+  reported_more faults (Some fault) reported may = record {
     first = λ other is.
-        subst (MayBeTold cycles r) (same_Some (first_noted faults.first fault) other is) (told_first faults.first fault told.first may);
-    stopped = told.stopped;
+        subst (MayBeReported cycles r) (same_Some (first_noted faults.first fault) other is) (reported_first faults.first fault reported.first may);
+    stopped = reported.stopped;
   }
-  told_more faults None told may = record { first = told.first; stopped = λ is. may }
+  reported_more faults None reported may = record { first = reported.first; stopped = λ is. may }
 
   -- what is reported is one of them
-  pub is_told : (faults : Faults) (fault : ConductFault) → AreTold cycles r faults → is_noted faults ≡ Some fault → MayBeTold cycles r fault
-  is_told faults fault told is = by_first faults.first refl
+  pub is_reported : (faults : Faults) (fault : ConductFault) → AreReported cycles r faults → is_noted faults ≡ Some fault → MayBeReported cycles r fault
+  is_reported faults fault reported is = by_first faults.first refl
     where
       -- whether a thread was stopped
-      by_stop : (b : Bool) → (b ≡ true → MayBeTold cycles r conduct.ChannelLost) → told_of None b ≡ Some fault → MayBeTold cycles r fault
-      by_stop true may told = subst (MayBeTold cycles r) (same_Some conduct.ChannelLost fault told) (may refl)
-      by_stop false may told = absurd cc
+      by_stop : (b : Bool) → (b ≡ true → MayBeReported cycles r conduct.ChannelLost) → reported_of None b ≡ Some fault → MayBeReported cycles r fault
+      by_stop true may reported = subst (MayBeReported cycles r) (same_Some conduct.ChannelLost fault reported) (may refl)
+      by_stop false may reported = absurd cc
 
       -- whether a fault is noted
-      by_first : (first : Option ConductFault) → faults.first ≡ first → MayBeTold cycles r fault
-      by_first (Some x) at = told.first fault (at ∙ subst (λ (o : Option ConductFault). told_of o faults.is_stopped ≡ Some fault) at is)
-      by_first None at = by_stop faults.is_stopped told.stopped (subst (λ (o : Option ConductFault). told_of o faults.is_stopped ≡ Some fault) at is)
+      by_first : (first : Option ConductFault) → faults.first ≡ first → MayBeReported cycles r fault
+      by_first (Some x) at = reported.first fault (at ∙ subst (λ (o : Option ConductFault). reported_of o faults.is_stopped ≡ Some fault) at is)
+      by_first None at = by_stop faults.is_stopped reported.stopped (subst (λ (o : Option ConductFault). reported_of o faults.is_stopped ≡ Some fault) at is)
 
   module _ {X Y : Type 0} (cause : Y → Option ConductFault) where
     -- the effect of one answer
-    notes_told : (before after : Faults) (kept more : List X) (answer : Result X Y) → NotesFault cause before after kept more answer →
-        AreTold cycles r before → ((why : Y) → answer ≡ Err why → MayCause cycles r (cause why)) → AreTold cycles r after
-    notes_told before after kept more (Ok given) notes told may =
+    notes_reported : (before after : Faults) (kept more : List X) (answer : Result X Y) → NotesFault cause before after kept more answer →
+        AreReported cycles r before → ((why : Y) → answer ≡ Err why → MayCause cycles r (cause why)) → AreReported cycles r after
+    notes_reported before after kept more (Ok given) notes reported may =
         elim notes [
-          | inl one ↦ subst (AreTold cycles r) (sym one.1) told
-          | inr none ↦ subst (AreTold cycles r) (sym none.1) (told_more before (Some conduct.Memory) told tt)
+          | inl one ↦ subst (AreReported cycles r) (sym one.1) reported
+          | inr none ↦ subst (AreReported cycles r) (sym none.1) (reported_more before (Some conduct.Memory) reported tt)
         ]
-    notes_told before after kept more (Err why) notes told may =
-        subst (AreTold cycles r) (sym notes.1) (told_more before (cause why) told (may why refl))
+    notes_reported before after kept more (Err why) notes reported may =
+        subst (AreReported cycles r) (sym notes.1) (reported_more before (cause why) reported (may why refl))
 
     -- and that of several
-    pub all_told : {A : Type 0} (P : A → Result X Y → Type 0) (those : List A) (answers : List (Result X Y)) (before after : Faults) (kept more : List X) →
+    pub all_reported : {A : Type 0} (P : A → Result X Y → Type 0) (those : List A) (answers : List (Result X Y)) (before after : Faults) (kept more : List X) →
         All (λ (a : A). (why : Y) → P a (Err why) → MayCause cycles r (cause why)) those → AllZip P those answers →
-        NotesAll cause before after kept more answers → AreTold cycles r before → AreTold cycles r after
-    all_told P [] [] before after kept more may zip notes told = subst (AreTold cycles r) (sym notes.0) told
-    all_told P [] (answer ∷ answers) before after kept more may zip notes told = absurd zip
-    all_told P (a ∷ those) [] before after kept more may zip notes told = absurd zip
-    all_told {A} P (a ∷ those) (answer ∷ answers) before after kept more may zip notes told =
-        all_told P those answers notes.0 after notes.1 more (All-tail (λ (b : A). (why : Y) → P b (Err why) → MayCause cycles r (cause why)) a those may)
+        NotesAll cause before after kept more answers → AreReported cycles r before → AreReported cycles r after
+    all_reported P [] [] before after kept more may zip notes reported = subst (AreReported cycles r) (sym notes.0) reported
+    all_reported P [] (answer ∷ answers) before after kept more may zip notes reported = absurd zip
+    all_reported P (a ∷ those) [] before after kept more may zip notes reported = absurd zip
+    all_reported {A} P (a ∷ those) (answer ∷ answers) before after kept more may zip notes reported =
+        all_reported P those answers notes.0 after notes.1 more (All-tail (λ (b : A). (why : Y) → P b (Err why) → MayCause cycles r (cause why)) a those may)
         zip.1 notes.3
-        (notes_told before notes.0 kept notes.1 answer notes.2 told
+        (notes_reported before notes.0 kept notes.1 answer notes.2 reported
         (λ why is. All-head (λ (b : A). (why : Y) → P b (Err why) → MayCause cycles r (cause why)) a those may why (subst (P a) is zip.0)))
 
   -- the reason for which a worker gives up may be reported
@@ -150,8 +150,8 @@ module _ (cycles : ℕ) (r : ReadyRun) where
   worker_cause working.Memory gives = gives
   worker_cause working.Stopped gives = gives
 
-  pub workers_told : All (λ (w : Worker). (why : GaveUp) → AnswersWorker cycles w (Err why) → MayCause cycles r (fault_of_worker why)) r.workers.items
-  workers_told = λ place d within why answer. worker_cause why.fault answer.1.stopped
+  pub workers_reported : All (λ (w : Worker). (why : GaveUp) → AnswersWorker cycles w (Err why) → MayCause cycles r (fault_of_worker why)) r.workers.items
+  workers_reported = λ index d within why answer. worker_cause why.fault answer.1.stopped
 
   -- and that of an administrator
   caller_cause : (a : Administrator) (fault : CallFault) → Contains r.administrators.items a → 0 < length a.commands.items →
@@ -159,8 +159,8 @@ module _ (cycles : ℕ) (r : ReadyRun) where
   caller_cause a call.HistoryFull there some = inr (record { administrator = a; there = there; some = some })
   caller_cause a call.Memory there some = tt
 
-  pub callers_told : All (λ (a : Administrator). (why : Unmade) → CallAnswers a (Err why) → MayCause cycles r (fault_of_caller why)) r.administrators.items
-  callers_told =
+  pub callers_reported : All (λ (a : Administrator). (why : Unmade) → CallAnswers a (Err why) → MayCause cycles r (fault_of_caller why)) r.administrators.items
+  callers_reported =
       All-weaker (Contains r.administrators.items)
       (λ (a : Administrator). (why : Unmade) → CallAnswers a (Err why) → MayCause cycles r (fault_of_caller why))
       (λ a there why answer. caller_cause a why.fault there (omega (arith, answer.1.there))) r.administrators.items
@@ -179,17 +179,17 @@ module _ (cycles : ℕ) (r : ReadyRun) where
       some_lacks (end ∷ ends) lacks = omega (arith, lacks.2 end)
 
   -- everything that is noted in the end, with the conductor's result
-  pub told_with : (faults : Faults) (sealed : Result Sealed SealingFault) → AreTold cycles r faults →
+  pub reported_with : (faults : Faults) (sealed : Result Sealed SealingFault) → AreReported cycles r faults →
       IfErr sealed (BreaksOff cycles r.conductor r.tables.items) →
-      AreTold cycles r (noted_with faults sealed)
-  told_with faults (Ok done) told why = told
-  told_with faults (Err fault) told why = told_more faults (fault_of_conductor fault) told (conductor_cause why.0 fault why.1 why.2)
+      AreReported cycles r (noted_with faults sealed)
+  reported_with faults (Ok done) reported why = reported
+  reported_with faults (Err fault) reported why = reported_more faults (fault_of_conductor fault) reported (conductor_cause why.0 fault why.1 why.2)
 
   -- why not all threads could be started
-  pub start_told : (fault : ConductFault) → IsStartFault fault → MayBeTold cycles r fault
-  start_told conduct.Memory is = tt
-  start_told (conduct.Bridge bridge reason) is = absurd is
-  start_told conduct.DeskDisagrees is = absurd is
-  start_told conduct.BookDisagrees is = absurd is
-  start_told conduct.ChannelLost is = absurd is
-  start_told conduct.Spawn is = tt
+  pub start_reported : (fault : ConductFault) → IsStartFault fault → MayBeReported cycles r fault
+  start_reported conduct.Memory is = tt
+  start_reported (conduct.Bridge bridge reason) is = absurd is
+  start_reported conduct.DeskDisagrees is = absurd is
+  start_reported conduct.BookDisagrees is = absurd is
+  start_reported conduct.ChannelLost is = absurd is
+  start_reported conduct.Spawn is = tt

@@ -44,15 +44,15 @@ settled_so d desk e seats bridge_traces account fed given all own closed gathere
 
 module _ (desk : Counter) (e : EndedRun) where
   -- the reason why pipes aren't closed is reported for the run
-  pub told_of_pipes : (fault : ConductFault) → IsPipeFault e.workers.items fault → IsSettleFault desk e fault
-  told_of_pipes fault why = elim why [
+  pub reported_of_pipes : (fault : ConductFault) → IsPipeFault e.workers.items fault → IsSettleFault desk e fault
+  reported_of_pipes fault why = elim why [
     | inl memory ↦ subst (IsSettleFault desk e) (sym memory) tt
     | inr lost ↦ subst (IsSettleFault desk e) (sym lost.0) lost.1
   ]
 
   -- and so is the reason why its desk isn't closed
-  pub told_of_desk : (seats : List Sitting) (fault : ConductFault) → seats ≡ all_seats e → IsDeskFault desk seats fault → IsSettleFault desk e fault
-  told_of_desk seats fault all why = elim (subst (λ (ss : List Sitting). IsDeskFault desk ss fault) all why) [
+  pub reported_of_desk : (seats : List Sitting) (fault : ConductFault) → seats ≡ all_seats e → IsDeskFault desk seats fault → IsSettleFault desk e fault
+  reported_of_desk seats fault all why = elim (subst (λ (ss : List Sitting). IsDeskFault desk ss fault) all why) [
     | inl memory ↦ subst (IsSettleFault desk e) (sym memory) tt
     | inr open_still ↦ subst (IsSettleFault desk e) (sym open_still.0) open_still.1
   ]

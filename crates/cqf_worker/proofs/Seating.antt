@@ -9,7 +9,7 @@ use Rattle.std.proofs.lemmas.List.Elements.{Contains-append_left, Contains-appen
 use Rattle.std.proofs.lemmas.Option.{get_or_from_slice_get, same_Some, slice_get_cases, slice_get-map, slice_get_within}
 use Rattle.cqf_lists.proofs.EachBelow.{get_or-singles, length-singles}
 use Rattle.cqf_lists.proofs.Members.{contains_at, contains_from_map, contains_here}
-use Rattle.cqf_lists.proofs.Places.{slice_get_behind}
+use Rattle.cqf_lists.proofs.Indices.{slice_get_after}
 use Rattle.cqf_model.specs.History.{Act, is_seal}
 use Rattle.cqf_model.specs.Calls.{acts_of}
 use Rattle.cqf_admission.specs.declared.entries.Command.{Command}
@@ -37,7 +37,7 @@ pub next_seat : (count : ℕ) (before rest : List Sitting) (seat : Sitting) → 
     (seat ≡ fresh_seat (length before)) × (length before < count)
 next_seat count before rest seat is =
     let below : length before < count = omega (arith, ap length is, length-append before (seat ∷ rest), seats_count count) in (
-      sym (get_or_from_slice_get (before ++ seat ∷ rest) (length before) seat seat (slice_get_behind before seat rest (length before) refl))
+      sym (get_or_from_slice_get (before ++ seat ∷ rest) (length before) seat seat (slice_get_after before seat rest (length before) refl))
           ∙ ap (λ (xs : List Sitting). get_or xs (length before) seat) is
           ∙ get_or-singles fresh_seat count (length before) seat below,
       below,
@@ -123,24 +123,24 @@ module _ (admins : List (List Command)) (administrators : List Administrator) (c
     (before after : List TableEnd) (seated : AreSeatedFor admins administrators conductor) (called : AllZip CallsOf administrators seats)
     (sealed : HasSealed cycles conductor done before after) where
   -- the administrator at an index has the seat of that number
-  number_at : (place : ℕ) (a : Administrator) → slice_get administrators place ≡ Some a → a.seat.number ≡ place
-  number_at place a there =
-      let at : slice_get (fresh_seats (length admins)) place ≡ Some a.seat =
-      sym (ap (λ (xs : List Sitting). slice_get xs place) seated.seats) ∙ slice_get-map seat_of administrators place ∙ ap (option_map seat_of) there in
-      let below : place < length admins =
-      omega (arith, slice_get_within (fresh_seats (length admins)) place a.seat at, seats_count (length admins)) in
+  number_at : (index : ℕ) (a : Administrator) → slice_get administrators index ≡ Some a → a.seat.number ≡ index
+  number_at index a there =
+      let at : slice_get (fresh_seats (length admins)) index ≡ Some a.seat =
+      sym (ap (λ (xs : List Sitting). slice_get xs index) seated.seats) ∙ slice_get-map seat_of administrators index ∙ ap (option_map seat_of) there in
+      let below : index < length admins =
+      omega (arith, slice_get_within (fresh_seats (length admins)) index a.seat at, seats_count (length admins)) in
       ap (λ (s : Sitting). s.number)
-      (sym (get_or_from_slice_get (fresh_seats (length admins)) place a.seat a.seat at) ∙ get_or-singles fresh_seat (length admins) place a.seat below)
+      (sym (get_or_from_slice_get (fresh_seats (length admins)) index a.seat a.seat at) ∙ get_or-singles fresh_seat (length admins) index a.seat below)
 
   -- the requests at an index are those of its administrator's commands
-  asked_at : (place : ℕ) (acts : List Act) (a : Administrator) → slice_get (all_asked admins) place ≡ Some acts →
-      slice_get administrators place ≡ Some a → acts_asked (commands_of a) ≡ acts
-  asked_at place acts a asked there =
-      let commands : slice_get admins place ≡ Some (commands_of a) =
-      sym (ap (λ (xs : List (List Command)). slice_get xs place) seated.commands)
-      ∙ slice_get-map commands_of administrators place
+  asked_at : (index : ℕ) (acts : List Act) (a : Administrator) → slice_get (all_asked admins) index ≡ Some acts →
+      slice_get administrators index ≡ Some a → acts_asked (commands_of a) ≡ acts
+  asked_at index acts a asked there =
+      let commands : slice_get admins index ≡ Some (commands_of a) =
+      sym (ap (λ (xs : List (List Command)). slice_get xs index) seated.commands)
+      ∙ slice_get-map commands_of administrators index
       ∙ ap (option_map commands_of) there in
-      same_Some (acts_asked (commands_of a)) acts (sym (slice_get-map acts_asked admins place ∙ ap (option_map acts_asked) commands) ∙ asked)
+      same_Some (acts_asked (commands_of a)) acts (sym (slice_get-map acts_asked admins index ∙ ap (option_map acts_asked) commands) ∙ asked)
 
   -- there are as many lists of requests as administrators
   as_many : length administrators ≡ length (all_asked admins)

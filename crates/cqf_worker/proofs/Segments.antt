@@ -39,19 +39,19 @@ next_begin begin [] rest next = tt
 next_begin begin (segment ∷ some) rest next = (next.0, next_begin segment.upto some rest next.1)
 
 -- and the others follow them
-next_behind : (begin : ℕ) (some rest : List Segment) → AreNextSegments begin (some ++ rest) → AreNextSegments (end_of_segments begin some) rest
-next_behind begin [] rest next = next
-next_behind begin (segment ∷ some) rest next = next_behind segment.upto some rest next.1
+next_after : (begin : ℕ) (some rest : List Segment) → AreNextSegments begin (some ++ rest) → AreNextSegments (end_of_segments begin some) rest
+next_after begin [] rest next = next
+next_after begin (segment ∷ some) rest next = next_after segment.upto some rest next.1
 
 -- they end where the first ones end
-end_behind : (begin : ℕ) (some rest : List Segment) → end_of_segments begin (some ++ rest) ≡ end_of_segments (end_of_segments begin some) rest
-end_behind begin [] rest = refl
-end_behind begin (segment ∷ some) rest = end_behind segment.upto some rest
+end_after : (begin : ℕ) (some rest : List Segment) → end_of_segments begin (some ++ rest) ≡ end_of_segments (end_of_segments begin some) rest
+end_after begin [] rest = refl
+end_after begin (segment ∷ some) rest = end_after segment.upto some rest
 
 -- segments don't end before they begin
 end_least : (begin : ℕ) (segments : List Segment) → AreNextSegments begin segments → begin ≤ end_of_segments begin segments
 end_least begin [] next = omega arith
-end_least begin (segment ∷ segments) next = omega (arith, next.0.behind, end_least segment.upto segments next.1)
+end_least begin (segment ∷ segments) next = omega (arith, next.0.following, end_least segment.upto segments next.1)
 
 -- segments that end where they begin have no frames
 none_between : (begin : ℕ) (segments : List Segment) → AreNextSegments begin segments → end_of_segments begin segments ≤ begin → all_frames segments ≡ []
@@ -61,7 +61,7 @@ none_between begin (segment ∷ segments) next ends =
     let first : frames_of segment ≡ [] = none_within (frames_of segment) next.0.within in
     flat_map-cons frames_of segment segments
     ∙ ap (λ (xs : List ArrivedFrame). xs ++ all_frames segments) first
-    ∙ none_between segment.upto segments next.1 (omega (arith, ends, next.0.behind))
+    ∙ none_between segment.upto segments next.1 (omega (arith, ends, next.0.following))
   where
     -- no frame is of a cycle in between
     none_within : (frames : List ArrivedFrame) → All (λ (came : ArrivedFrame). (begin ≤ came.cycle) × (came.cycle < segment.upto)) frames → frames ≡ []
@@ -73,10 +73,10 @@ none_between begin (segment ∷ segments) next ends =
 module _ (cycles : ℕ) (taken put : List Segment) (begin : IsBeginning taken put) (next : AreNextSegments 0 put) (ends : end_of_segments 0 put ≡ cycles) where
   -- what was taken of segments that end at a cycle ends at that cycle or before
   rest_next : AreNextSegments (end_of_segments 0 taken) begin.0
-  rest_next = next_behind 0 taken begin.0 (subst (AreNextSegments 0) begin.1 next)
+  rest_next = next_after 0 taken begin.0 (subst (AreNextSegments 0) begin.1 next)
 
   both_end : end_of_segments (end_of_segments 0 taken) begin.0 ≡ cycles
-  both_end = sym (end_behind 0 taken begin.0) ∙ ap (end_of_segments 0) (sym begin.1) ∙ ends
+  both_end = sym (end_after 0 taken begin.0) ∙ ap (end_of_segments 0) (sym begin.1) ∙ ends
 
   pub ends_within : end_of_segments 0 taken ≤ cycles
   ends_within =

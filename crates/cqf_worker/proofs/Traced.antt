@@ -30,7 +30,7 @@ use Rattle.cqf_trace.proofs.Leaving.{leaves_one}
 use Rattle.cqf_laws_relay.specs.Following.{TablesMayCome}
 use Rattle.cqf_laws_relay.specs.Traced.{BackedTracesAreTheBooks, HasTraced, HaveTraced, HaveTheStreams, book_of_run}
 use Rattle.cqf_relay.specs.Segments.{Sendings}
-use Rattle.cqf_relay.specs.Offering.{dropped_behind}
+use Rattle.cqf_relay.specs.Offering.{dropped_after}
 use Rattle.cqf_relay.specs.Standing.{offers_in}
 use Rattle.cqf_worker_loops.specs.declared.worker.Worker.{Worker}
 use Rattle.cqf_worker_loops.specs.Handing.{TableEnd}
@@ -56,29 +56,29 @@ module _ (t : Offering) (entries : List Recorded) (cycles : ℕ) (workers dones 
   count : length the_run.tables ≡ cycles
   count = tables_count t.domain entries cycles
 
-  module _ (place : ℕ) (done : Worker) (there : slice_get dones place ≡ Some done) where
-    all : HasSentAll t place cycles done
-    all = sent_all t entries cycles workers dones ends run place done there
+  module _ (index : ℕ) (done : Worker) (there : slice_get dones index ≡ Some done) where
+    all : HasSentAll t index cycles done
+    all = sent_all t entries cycles workers dones ends run index done there
 
     -- what the bridge dropped of a cycle are the run's offers that weren't covered
-    are_drops_so : (cycle : ℕ) → cycle < cycles → IsPermutation (dropped_behind t.domain place cycle
-        (table_of (tables_of t.domain entries cycles) cycle) [] (offered_for t.domain t.offers place cycle)) (all.drops.fresh cycle)
+    are_drops_so : (cycle : ℕ) → cycle < cycles → IsPermutation (dropped_after t.domain index cycle
+        (table_of (tables_of t.domain entries cycles) cycle) [] (offered_for t.domain t.offers index cycle)) (all.drops.fresh cycle)
     are_drops_so cycle within =
-        subst (λ (xs : List Offered). IsPermutation (dropped_behind t.domain place cycle
+        subst (λ (xs : List Offered). IsPermutation (dropped_after t.domain index cycle
         (table_of (tables_of t.domain entries cycles) cycle) [] xs) (all.drops.fresh cycle))
-        (offers_are t entries cycles workers dones ends run place done there cycle within)
-        (subst (λ (tables : List (List Row)). IsPermutation (dropped_behind t.domain place cycle
+        (offers_are t entries cycles workers dones ends run index done there cycle within)
+        (subst (λ (tables : List (List Row)). IsPermutation (dropped_after t.domain index cycle
         (table_of tables cycle) [] (offers_in (come_to done) cycle)) (all.drops.fresh cycle))
-        (tables_are t entries cycles workers dones ends run place done there)
+        (tables_are t entries cycles workers dones ends run index done there)
         (all.drops.each cycle within))
 
     -- what a worker's links have sent, and what it dropped, is on its bridge trace
-    traced_there : HasTraced the_run the_sends place done.bridge_trace
+    traced_there : HasTraced the_run the_sends index done.bridge_trace
     traced_there = record {
-      links = (gone_at t entries cycles workers dones ends run place done there).links;
-      starts = λ l leaving. (sent_by t entries cycles workers dones ends run place done there).starts l leaving
+      links = (gone_at t entries cycles workers dones ends run index done there).links;
+      starts = λ l leaving. (sent_by t entries cycles workers dones ends run index done there).starts l leaving
           ∙ ap (λ (b : ℕ). map mark_of_sent (flat_map (λ (batch : List Sent). batch) (own_sends t entries cycles workers dones ends run b l)))
-          (sym (leaves_one t.domain l place leaving));
+          (sym (leaves_one t.domain l index leaving));
       no_background = all.no_background;
       fresh = all.drops.fresh;
       drops = all.drops.are ∙ ap (each_below all.drops.fresh) (sym count);

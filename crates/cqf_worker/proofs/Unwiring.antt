@@ -12,7 +12,7 @@ use Rattle.std.proofs.lemmas.Simd.{map-map}
 use Rattle.cqf_admission.specs.Tables.{CycleTable}
 use Rattle.cqf_relay.specs.declared.moving.Segment.{Segment}
 use Rattle.cqf_lists.proofs.Members.{contains_flat, contains_from_flat, contains_here}
-use Rattle.cqf_lists.proofs.Places.{slice_get_behind, slice_get_front, slice_get_parts}
+use Rattle.cqf_lists.proofs.Indices.{slice_get_after, slice_get_front, slice_get_parts}
 use Rattle.cqf_worker_loops.specs.declared.carried.Carried.{Carried}
 use Rattle.cqf_worker.specs.declared.closing.Parts.{Parts}
 use Rattle.cqf_worker_loops.specs.declared.worker.Worker.{Worker}
@@ -42,13 +42,13 @@ partners_pipe wiring ins outs left before rest p end is on_ins on_outs were part
     ∙ of_one_pipe wiring partner.out p (on_outs partner.out (were partner.out partner.there)) (on_ins p there) partner.of_link
 
 -- the first end of a link is one of the ends given
-pub partner_found : (outs : List SegmentPort) (link place : ℕ) (found : SegmentPort) → position (λ (out : SegmentPort). out.link == link) outs ≡ Some place →
-    found ≡ get_or outs place found → IsPartner outs link found.pipe
-partner_found outs link place found at is =
-    let here = position-Some (λ (out : SegmentPort). out.link == link) outs place found at in
+pub partner_found : (outs : List SegmentPort) (link index : ℕ) (found : SegmentPort) → position (λ (out : SegmentPort). out.link == link) outs ≡ Some index →
+    found ≡ get_or outs index found → IsPartner outs link found.pipe
+partner_found outs link index found at is =
+    let here = position-Some (λ (out : SegmentPort). out.link == link) outs index found at in
     record {
       out = found;
-      there = subst (λ (x : SegmentPort). Contains outs x) (sym is) (Contains-get_or outs place found here.0);
+      there = subst (λ (x : SegmentPort). Contains outs x) (sym is) (Contains-get_or outs index found here.0);
       of_link = eqb-true found.link link (ap (λ (x : SegmentPort). x.link == link) is ∙ here.1);
       is_end = refl;
     }
@@ -77,9 +77,9 @@ all_fed workers parts so fed w p of_workers there =
 -- the tables that all workers took are those put for them
 pub all_given : (tables : List (End (Carried CycleTable))) (workers : List Worker) (parts : Parts) → ArePartsOf workers parts →
     AreGivenBy tables parts.tables.items → AreGiven tables workers
-all_given tables workers parts so given place end w put here =
-    given place end w.tables put
-    (ap (λ (xs : List (End (Carried CycleTable))). slice_get xs place) so.all_tables ∙ slice_get-map tables_at workers place ∙ ap (option_map tables_at) here)
+all_given tables workers parts so given index end w put here =
+    given index end w.tables put
+    (ap (λ (xs : List (End (Carried CycleTable))). slice_get xs index) so.all_tables ∙ slice_get-map tables_at workers index ∙ ap (option_map tables_at) here)
 
 -- index by index the ends for tables are of one pipe
 pub same_pipes : (tables : List (End (Carried CycleTable))) (workers : List Worker) (parts : Parts) → ArePartsOf workers parts →
@@ -94,13 +94,13 @@ one_at x a (suc k) e = absurd cc
 -- the tables of one more worker
 pub given_more : (puts takes : List (End (Carried CycleTable))) (putting taking : End (Carried CycleTable)) (count : ℕ) → length takes ≡ length puts →
     AreGivenBy puts takes → AreLeft putting.items taking.items count → AreGivenBy (puts ++ putting ∷ []) (takes ++ taking ∷ [])
-given_more puts takes putting taking count as_many so closed place a b at_a at_b =
-    elim (slice_get_parts puts (putting ∷ []) place a at_a) [
-      | inl x ↦ so place a b x (sym (slice_get_front takes (taking ∷ []) place (omega (arith, as_many, slice_get_within puts place a x))) ∙ at_b)
+given_more puts takes putting taking count as_many so closed index a b at_a at_b =
+    elim (slice_get_parts puts (putting ∷ []) index a at_a) [
+      | inl x ↦ so index a b x (sym (slice_get_front takes (taking ∷ []) index (omega (arith, as_many, slice_get_within puts index a x))) ∙ at_b)
       | inr y ↦
           let one = one_at putting a y.0 y.2 in
           let taken : taking ≡ b =
-          same_Some taking b (sym (slice_get_behind takes taking [] place (omega (arith, y.1, one.0, as_many))) ∙ at_b) in
+          same_Some taking b (sym (slice_get_after takes taking [] index (omega (arith, y.1, one.0, as_many))) ∙ at_b) in
           (closed.0, ap (λ (e : End (Carried CycleTable)). e.items) (sym one.1) ∙ closed.1 ∙ ap (λ (e : End (Carried CycleTable)). e.items ++ closed.0) taken)
     ]
 
@@ -111,9 +111,9 @@ pub next_pair : (ins outs puts takes rest others : List (End (Carried CycleTable
 next_pair ins outs puts takes rest others putting taking is_ins is_outs as_many same =
     let k = length puts in
     let left : slice_get ins k ≡ Some putting =
-    ap (λ (xs : List (End (Carried CycleTable))). slice_get xs k) (sym is_ins) ∙ slice_get_behind puts putting rest k refl in
+    ap (λ (xs : List (End (Carried CycleTable))). slice_get xs k) (sym is_ins) ∙ slice_get_after puts putting rest k refl in
     let right : slice_get outs k ≡ Some taking =
-    ap (λ (xs : List (End (Carried CycleTable))). slice_get xs k) is_outs ∙ slice_get_behind takes taking others k (sym as_many) in
+    ap (λ (xs : List (End (Carried CycleTable))). slice_get xs k) is_outs ∙ slice_get_after takes taking others k (sym as_many) in
     same_Some putting.pipe taking.pipe
     (sym (slice_get-map pipe_of_tables ins k ∙ ap (option_map pipe_of_tables) left)
     ∙ ap (λ (xs : List (PipeId (Carried CycleTable))). slice_get xs k) same
@@ -137,8 +137,8 @@ none_counted {X} p (x ∷ xs) far = elim (cases_Bool (p x)) [
 ]
 
 -- so it is if no index is found
-pub no_place : {X : Type 0} (p : X → Bool) (xs : List X) → position p xs ≡ None → count_by p xs ≡ 0
-no_place p xs none = elim (cases_lt (position_or_len p xs) (length xs)) [
+pub no_index : {X : Type 0} (p : X → Bool) (xs : List X) → position p xs ≡ None → count_by p xs ≡ 0
+no_index p xs none = elim (cases_lt (position_or_len p xs) (length xs)) [
   | inl less ↦
       let k = position_or_len p xs in
       absurd (never k (sym (cond-true (nat_lt k (length xs)) (Some k) None (lt-ltb k (length xs) less)) ∙ none))
@@ -150,14 +150,14 @@ no_place p xs none = elim (cases_lt (position_or_len p xs) (length xs)) [
     never k e = absurd cc
 
 -- one end of its link fewer
-pub one_lost : (outs after : List SegmentPort) (link place : ℕ) (d : SegmentPort) → position (λ (out : SegmentPort). out.link == link) outs ≡ Some place →
-    after ≡ remove outs place → HasLostOne link outs after
-one_lost outs after link place d at is other =
-    let here = position-Some (λ (out : SegmentPort). out.link == link) outs place d at in
-    let gone : (if (get_or outs place d).link == other then 1 else 0) ≡ (if link == other then 1 else 0) =
-    ap (λ k. if k == other then 1 else 0) (eqb-true (get_or outs place d).link link here.1) in
-    sym (sum_by-remove (λ (p : SegmentPort). if p.link == other then 1 else 0) outs place d here.0)
-    ∙ ap (λ n. count_on other (remove outs place) + n) gone
+pub one_lost : (outs after : List SegmentPort) (link index : ℕ) (d : SegmentPort) → position (λ (out : SegmentPort). out.link == link) outs ≡ Some index →
+    after ≡ remove outs index → HasLostOne link outs after
+one_lost outs after link index d at is other =
+    let here = position-Some (λ (out : SegmentPort). out.link == link) outs index d at in
+    let gone : (if (get_or outs index d).link == other then 1 else 0) ≡ (if link == other then 1 else 0) =
+    ap (λ k. if k == other then 1 else 0) (eqb-true (get_or outs index d).link link here.1) in
+    sym (sum_by-remove (λ (p : SegmentPort). if p.link == other then 1 else 0) outs index d here.0)
+    ∙ ap (λ n. count_on other (remove outs index) + n) gone
     ∙ ap (λ (ps : List SegmentPort). count_on other ps + (if link == other then 1 else 0)) (sym is)
 
 -- for each link, the ends that are left and the ports that are fed are as many as the ends given

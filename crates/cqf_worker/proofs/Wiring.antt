@@ -34,29 +34,29 @@ abbrev pub EachAt : {X : Type 0} → (ℕ → X → Type 0) → List X → Type 
 EachAt {X} P xs = (n : ℕ) (d : X) → n < length xs → P n (get_or xs n d)
 
 -- it holds with one element more
-pub each_push : {X : Type 0} (P : ℕ → X → Type 0) (xs : List X) (y : X) (place : ℕ) → length xs ≡ place → EachAt P xs → P place y → EachAt P (xs ++ y ∷ [])
-each_push P xs y place at so mine n d below = elim (cases_lt n (length xs)) [
+pub each_push : {X : Type 0} (P : ℕ → X → Type 0) (xs : List X) (y : X) (index : ℕ) → length xs ≡ index → EachAt P xs → P index y → EachAt P (xs ++ y ∷ [])
+each_push P xs y index at so mine n d below = elim (cases_lt n (length xs)) [
   | inl h ↦ subst (P n) (sym (get_or_append_left xs (y ∷ []) d n h)) (so n d h)
   | inr h ↦
       let last : n ≡ length xs = omega (arith, below, h, length-append xs (y ∷ [])) in
-      subst (P n) (sym (ap (λ k. get_or (xs ++ y ∷ []) k d) last ∙ get_or_behind xs y d)) (subst (λ k. P k y) (sym (last ∙ at)) mine)
+      subst (P n) (sym (ap (λ k. get_or (xs ++ y ∷ []) k d) last ∙ get_or_after xs y d)) (subst (λ k. P k y) (sym (last ∙ at)) mine)
 ]
   where
     -- the last element
-    get_or_behind : {X : Type 0} (xs : List X) (y d : X) → get_or (xs ++ y ∷ []) (length xs) d ≡ y
-    get_or_behind [] y d = refl
-    get_or_behind (x ∷ xs) y d = get_or_behind xs y d
+    get_or_after : {X : Type 0} (xs : List X) (y d : X) → get_or (xs ++ y ∷ []) (length xs) d ≡ y
+    get_or_after [] y d = refl
+    get_or_after (x ∷ xs) y d = get_or_after xs y d
 
 -- it becomes another fact once one element is changed
-pub each_set : {X : Type 0} (P Q : ℕ → X → Type 0) (xs : List X) (place : ℕ) (y : X) → ((n : ℕ) (x : X) → n ≢ place → P n x → Q n x) → Q place y →
-    EachAt P xs → EachAt Q (set xs place y)
-each_set {X} P Q xs place y others mine so n d below =
-    let inside : n < length xs = omega (arith, below, length-set xs place y) in
-    elim (cases_eq n place) [
+pub each_set : {X : Type 0} (P Q : ℕ → X → Type 0) (xs : List X) (index : ℕ) (y : X) → ((n : ℕ) (x : X) → n ≢ index → P n x → Q n x) → Q index y →
+    EachAt P xs → EachAt Q (set xs index y)
+each_set {X} P Q xs index y others mine so n d below =
+    let inside : n < length xs = omega (arith, below, length-set xs index y) in
+    elim (cases_eq n index) [
       | inl e ↦
-          subst (λ k. Q k (get_or (set xs place y) k d)) (sym e)
-          (subst (Q place) (sym (get_or-set_same xs place y d (subst (λ k. k < length xs) e inside))) mine)
-      | inr differ ↦ subst (Q n) (sym (get_or-set_other xs place n y d differ)) (others n (get_or xs n d) differ (so n d inside))
+          subst (λ k. Q k (get_or (set xs index y) k d)) (sym e)
+          (subst (Q index) (sym (get_or-set_same xs index y d (subst (λ k. k < length xs) e inside))) mine)
+      | inr differ ↦ subst (Q n) (sym (get_or-set_other xs index n y d differ)) (others n (get_or xs n d) differ (so n d inside))
     ]
 
 -- the listed links are below the bound
@@ -371,19 +371,19 @@ wired_laid t wiring into onward workers so = record {
 -- workers that keep their numbers of cycles have the same as before
 pub cycles_kept : (cycles : ℕ) (before after : List Worker) → map cycles_at after ≡ map cycles_at before → All (HasCycles cycles) before →
     All (HasCycles cycles) after
-cycles_kept cycles before after same so place w below =
+cycles_kept cycles before after same so index w below =
     let as_many : length after ≡ length before = sym (length-map after cycles_at) ∙ ap length same ∙ length-map before cycles_at in
-    sym (get_or-map cycles_at after place w)
-    ∙ ap (λ (ns : List ℕ). get_or ns place (cycles_at w)) same
-    ∙ get_or-map cycles_at before place w
-    ∙ so place w (omega (arith, below, as_many))
+    sym (get_or-map cycles_at after index w)
+    ∙ ap (λ (ns : List ℕ). get_or ns index (cycles_at w)) same
+    ∙ get_or-map cycles_at before index w
+    ∙ so index w (omega (arith, below, as_many))
 
 -- each worker of this traffic's bridges may work
 pub workers_may : (t : Offering) (cycles : ℕ) (workers : List Worker) → AreWorkersOf t workers → All (HasCycles cycles) workers →
     All (MayWork cycles) workers
-workers_may t cycles workers are so place w below = record {
+workers_may t cycles workers are so index w below = record {
   traffic = t;
-  number = place;
-  is = are place (get_or workers place w) (slice_get-get_or workers place w below);
-  has_cycles = so place w below;
+  number = index;
+  is = are index (get_or workers index w) (slice_get-get_or workers index w below);
+  has_cycles = so index w below;
 }

@@ -55,5 +55,5 @@ AreFedBy outs ins = (p : SegmentPort) → Contains ins p → IsFedBy outs p
 
 -- at each index what was taken is a prefix of what was put
 abbrev pub AreGivenBy : List (End (Carried CycleTable)) → List (End (Carried CycleTable)) → Type 0
-AreGivenBy puts takes = (place : ℕ) (putting taking : End (Carried CycleTable)) → slice_get puts place ≡ Some putting →
-    slice_get takes place ≡ Some taking → IsBeginning taking.items putting.items
+AreGivenBy puts takes = (index : ℕ) (putting taking : End (Carried CycleTable)) → slice_get puts index ≡ Some putting →
+    slice_get takes index ≡ Some taking → IsBeginning taking.items putting.items

@@ -63,7 +63,7 @@ pub record AreShut (ends : List TableEnd) (those : List Worker) (bridge_traces :
   pub given : AreGiven ends those
   pub own : bridge_traces ≡ map bridge_trace_at those
 
--- there is such a fault other than an allocation failure
+-- there is a fault of this kind other than an allocation failure
 abbrev pub KeepsOpen : {F : Type 0} → F → (F → Type 0) → Type 0
 KeepsOpen {F} memory IsFault = (why : F) × (¬ (why ≡ memory)) × IsFault why
 

@@ -37,9 +37,9 @@ abbrev pub IsClean : Faults → Type 0
 IsClean faults = (faults.first ≡ None) × (faults.is_stopped ≡ false)
 
 -- the fault to report: the first one noted in that order; if there is none but a thread ended early, ChannelLost
-abbrev pub told_of : Option ConductFault → Bool → Option ConductFault
-told_of (Some first) is_stopped = Some first
-told_of None is_stopped = if is_stopped then Some ChannelLost else None
+abbrev pub reported_of : Option ConductFault → Bool → Option ConductFault
+reported_of (Some first) is_stopped = Some first
+reported_of None is_stopped = if is_stopped then Some ChannelLost else None
 
 abbrev pub is_noted : Faults → Option ConductFault
-is_noted faults = told_of faults.first faults.is_stopped
+is_noted faults = reported_of faults.first faults.is_stopped

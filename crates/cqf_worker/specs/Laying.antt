@@ -42,7 +42,7 @@ pub record IsReadyWiring (t : Offering) (number : ℕ) (w : Worker) : Type 0 whe
   pub is_agenda : HasItsOffers t number w.agenda
   pub no_tables : w.tables.items ≡ []
 
--- and that has no ports
+-- such a worker that has no ports
 pub record IsBare (t : Offering) (number : ℕ) (w : Worker) : Type 0 where
   pub ready : IsReadyWiring t number w
   pub no_ins : w.ins.items ≡ []

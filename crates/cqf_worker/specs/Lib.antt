@@ -4,7 +4,7 @@ pub mod Closing
 pub mod Faults
 pub mod Noting
 pub mod Running
-pub mod Telling
+pub mod Reporting
 pub mod Account
 pub mod Failing
 -- definitions used by the contracts of inner functions

@@ -27,7 +27,7 @@ fault_in_worker working.Stopped = None
 abbrev pub fault_of_worker : GaveUp → Option ConductFault
 fault_of_worker why = fault_in_worker why.fault
 
--- an administrator's
+-- an administrator's own fault, as the run's
 abbrev pub fault_in_call : CallFault → Option ConductFault
 fault_in_call call.HistoryFull = Some conduct.DeskDisagrees
 fault_in_call call.Memory = Some conduct.Memory
@@ -35,7 +35,7 @@ fault_in_call call.Memory = Some conduct.Memory
 abbrev pub fault_of_caller : Unmade → Option ConductFault
 fault_of_caller why = fault_in_call why.fault
 
--- the conductor's
+-- the conductor's own fault, as the run's
 abbrev pub fault_of_conductor : SealingFault → Option ConductFault
 fault_of_conductor sealing.Memory = Some conduct.Memory
 fault_of_conductor sealing.CyclesSpent = Some conduct.DeskDisagrees

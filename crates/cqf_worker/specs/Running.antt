@@ -15,7 +15,7 @@ use Rattle.cqf_worker_loops.specs.Commands.{HasCalled, HasLeftOff}
 use Rattle.cqf_worker_loops.specs.GivingUp.{HasGivenUp}
 use Rattle.cqf_worker_loops.specs.Handing.{HasBrokenOff, HasSealed, TableEnd}
 use Rattle.cqf_worker_loops.specs.Workers.{MayWork, Works}
-use Rattle.cqf_worker.specs.Telling.{MayBeTold}
+use Rattle.cqf_worker.specs.Reporting.{MayBeReported}
 use Rattle.cqf_model.specs.Limits.{most_cycles}
 
 -- what a worker's thread answers: the worker that has done its part, or what a worker that gives up returns, with the number of the
@@ -27,7 +27,7 @@ AnswersWorker cycles w answer = IfOk answer (Works cycles w) × IfErr answer (Ha
 abbrev pub CallsOf : Administrator → Sitting → Type 0
 CallsOf a done = HasCalled a.commands.items a.seat done
 
--- what its thread answers: that seat, or the seat with the commands before the first one that wasn't entered
+-- what an administrator's thread answers: that seat, or the seat with the commands before the first one that wasn't entered
 abbrev pub CallAnswers : Administrator → Result Sitting Unmade → Type 0
 CallAnswers a answer = IfOk answer (CallsOf a) × IfErr answer (HasLeftOff a.commands.items a.seat)
 
@@ -50,6 +50,6 @@ pub record IsEnded (cycles : ℕ) (r : ReadyRun) (e : EndedRun) : Type 0 where
   pub called : AllZip CallsOf r.administrators.items e.seats.items
   pub sealed : HasSealed cycles r.conductor e.sealed.seat r.tables.items e.sealed.tables.items
 
--- what the run answers: that the threads have ended so, or a fault that may be reported
+-- what the run answers: that the threads have ended and done their parts, or a fault that may be reported
 abbrev pub RunAnswers : ℕ → ReadyRun → Result EndedRun ConductFault → Type 0
-RunAnswers cycles r answer = IfOk answer (IsEnded cycles r) × IfErr answer (MayBeTold cycles r)
+RunAnswers cycles r answer = IfOk answer (IsEnded cycles r) × IfErr answer (MayBeReported cycles r)

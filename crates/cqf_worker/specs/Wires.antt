@@ -68,5 +68,5 @@ AreFedByWires workers = (w : Worker) (p : SegmentPort) → Contains workers w �
 
 -- the tables that each worker took are a prefix of those put for it
 abbrev pub AreGiven : List (End (Carried CycleTable)) → List Worker → Type 0
-AreGiven tables workers = (place : ℕ) (end : End (Carried CycleTable)) (w : Worker) → slice_get tables place ≡ Some end →
-    slice_get workers place ≡ Some w → IsBeginning w.tables.items end.items
+AreGiven tables workers = (index : ℕ) (end : End (Carried CycleTable)) (w : Worker) → slice_get tables index ≡ Some end →
+    slice_get workers index ≡ Some w → IsBeginning w.tables.items end.items

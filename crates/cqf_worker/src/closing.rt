@@ -33,7 +33,7 @@ pub enum ClosingFault {
     ChannelLost,
 }
 
-/// Converts an allocation failure into a fault.
+/// Converts a failed allocation into a fault.
 impl From<Memory> for ClosingFault {
     ghost use Rattle.cqf_worker.specs.declared.closing.ClosingFault.TheVariants as variant;
 
@@ -100,7 +100,7 @@ fn take_apart(alloc: Global, workers: Vec<Worker>) -> Result<Parts, Memory>
 }
 
 /// Returns the index of the first putting end of a link.
-fn place_of(outs: &[LinkEnd<PipeIn<Carried<Segment>>>], link: u16) -> Option<usize>
+fn index_of(outs: &[LinkEnd<PipeIn<Carried<Segment>>>], link: u16) -> Option<usize>
     ensures { result ≡ position (λ (out : SegmentPort). out.link == link) outs.now }
 {
     outs.iter().position(|out| out.link == link)
@@ -116,8 +116,8 @@ fn take_partner(
     ensures one { IfSome result (λ end. HasLostOne link outs.old.items outs.new.items) }
     ensures none { IfNone result (count_on link outs.old.items ≡ 0) }
 {
-    match place_of(outs.as_slice(), link) {
-        Some(place) => Some(outs.remove(place).pipe),
+    match index_of(outs.as_slice(), link) {
+        Some(index) => Some(outs.remove(index).pipe),
         None => None,
     }
 }
@@ -156,9 +156,10 @@ fn close_tables(ins: Vec<PipeIn<Carried<Table>>>, outs: Vec<PipeOut<Carried<Tabl
 }
 
 /// Closes all pipes of a run after its threads have ended: those on links between bridges, whose ends the workers have, and those for
-/// tables, whose putting ends are given by worker number. Returns the workers' bridge traces, by worker number. The workers' ends must be of the
-/// pipe on their link, and the ends for tables of the workers' pipes, as `lay` returns them. Returns `Memory` if an allocation fails, and
-/// `ChannelLost` if some link has fewer putting than taking ends; the ends and bridge traces are then dropped. It doesn't block.
+/// tables, whose putting ends are given by worker number. Returns the workers' bridge traces, by worker number. The workers' ends on a link
+/// must be those of the link's pipe, and the ends for tables those of the workers' pipes, as `lay` returns them. Returns `Memory` if an
+/// allocation fails, and `ChannelLost` if some link has fewer putting than taking ends; the ends and bridge traces are then dropped. It
+/// doesn't block.
 pub fn close_pipes(
     alloc: Global,
     tables: Vec<PipeIn<Carried<Table>>>,

@@ -6,7 +6,7 @@ ghost use Rattle.cqf_desk.specs.Desk.{fresh_seats};
 ghost use Rattle.cqf_model.specs.History.{seals};
 ghost use Rattle.cqf_model.specs.Run.{AreBackground, AreOffers};
 ghost use Rattle.cqf_worker.specs.Wires.{AreWired, Wiring, pipe_of_tables, tables_pipe};
-ghost use Rattle.cqf_worker.specs.Telling.{IsStartFault};
+ghost use Rattle.cqf_worker.specs.Reporting.{IsStartFault};
 ghost use Rattle.cqf_worker.specs.Account.{IsAccount, IsTracedAccount};
 ghost use Rattle.cqf_worker.specs.Conducting.{AreLaidFor, AreSeatedFor, AreShut, IsDeskFault, IsPipeFault, IsPrepared, IsSettleFault, IsSettled};
 ghost use Rattle.cqf_worker.specs.Closing.{bridge_trace_at};
@@ -22,7 +22,7 @@ use crate::{
 use cqf_admission::{Admission, Command, Table};
 use cqf_desk::{CloseFault, Desk, History, Seat};
 use cqf_instants_run::keep_background;
-use cqf_laws_account::{seats_give_the_history, traces_tell_the_book};
+use cqf_laws_account::{seats_give_the_history, traces_give_the_book};
 use cqf_laws_network::legal_network_exists;
 use cqf_laws_relay::{backed_traces_are_the_books, relays_keep_the_traces, tables_may_come};
 use cqf_laws_shift::book_of_history_says_the_shift;
@@ -291,7 +291,7 @@ pub fn conduct<R: Threads + Wait + Sync, P: Pace>(
     ensures ok { IfOk result (IsAccount domain.now admission.entries offers.now background.now cycles (map (λ c. c.items) admins.items)) }
     ensures err { IfErr result (IsConductFault domain.now admission.entries offers.now background.now cycles (map (λ c. c.items) admins.items)) }
 {
-    traces_tell_the_book();
+    traces_give_the_book();
     domain.know();
     let TracedAccount { history, traces } = conduct_traces(
         rt, alloc, domain, admission, offers, background, cycles, admins, pace,

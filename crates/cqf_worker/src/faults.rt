@@ -13,7 +13,7 @@ use thiserror::Error;
 /// not closed. A fault prints as its name followed by its values.
 #[derive(Clone, Copy, Debug, PartialEq, Eq, Drop, Error)]
 pub enum ConductFault {
-    /// An allocation failed outside a bridge.
+    /// An allocation failed.
     Memory,
     /// This bridge refused a cycle, for this reason; the bridge with the lowest number if several did. No run returns it: a worker's bridge
     /// never refuses.
@@ -43,7 +43,7 @@ impl fmt::Display for ConductFault {
     }
 }
 
-/// Converts an allocation failure into a fault.
+/// Converts a failed allocation into a fault.
 impl From<Memory> for ConductFault {
     ghost use Rattle.cqf_worker.specs.declared.faults.ConductFault.TheVariants as variant;
 
@@ -54,7 +54,7 @@ impl From<Memory> for ConductFault {
     }
 }
 
-/// Likewise converts a failed allocation of a value.
+/// Converts a failed allocation of a value into a fault.
 impl<T: Drop> From<AllocFailed<T>> for ConductFault {
     ghost use Rattle.cqf_worker.specs.declared.faults.ConductFault.TheVariants as variant;
 
@@ -66,7 +66,7 @@ impl<T: Drop> From<AllocFailed<T>> for ConductFault {
 }
 
 /// Returns a fault's rank in the order in which faults are reported.
-fn place_of(fault: ConductFault) -> u8
+fn index_of(fault: ConductFault) -> u8
     ensures { result ≡ rank fault }
 {
     match fault {
@@ -85,7 +85,7 @@ fn comes_before(one: ConductFault, other: ConductFault) -> bool
 {
     match (one, other) {
         (ConductFault::Bridge(bridge, _), ConductFault::Bridge(another, _)) => bridge < another,
-        _ => place_of(one) < place_of(other),
+        _ => index_of(one) < index_of(other),
     }
 }
 
@@ -129,8 +129,8 @@ impl Faults {
     }
 
     /// Returns the fault to report, if anything has gone wrong. If no thread failed but one ended early, this is `ChannelLost`.
-    pub fn told(self) -> Option<ConductFault>
-        ensures told { result ≡ is_noted self }
+    pub fn reported(self) -> Option<ConductFault>
+        ensures reported { result ≡ is_noted self }
         ensures clean { IfNone result (IsClean self) }
     {
         match self.first {

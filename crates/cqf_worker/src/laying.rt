@@ -100,7 +100,7 @@ fn ready_workers(
     Ok(Laid { workers, tables })
 }
 
-/// Adds a port to a worker at which it puts.
+/// Adds to a worker a port at which it puts segments.
 fn add_out(worker: &mut Worker, port: LinkEnd<PipeIn<Carried<Segment>>>) -> Result<(), Memory>
     ensures { OnOk result (HasOut worker.old worker.new port) }
 {
@@ -108,7 +108,7 @@ fn add_out(worker: &mut Worker, port: LinkEnd<PipeIn<Carried<Segment>>>) -> Resu
     Ok(())
 }
 
-/// Adds a port to a worker at which it takes.
+/// Adds to a worker a port at which it takes segments.
 fn add_in(worker: &mut Worker, port: LinkEnd<PipeOut<Carried<Segment>>>) -> Result<(), Memory>
     ensures { OnOk result (HasIn worker.old worker.new port) }
 {

@@ -10,7 +10,7 @@ ghost use Rattle.cqf_worker_loops.specs.declared.worker.Worker.{Worker};
 ghost use Rattle.cqf_worker.specs.Faults.{IsClean, is_noted};
 ghost use Rattle.cqf_worker.specs.Noting.{NotesFault, NotesAll, KeepsGiven, fault_of_caller, fault_of_conductor, fault_of_worker, noted, noted_with};
 ghost use Rattle.cqf_worker.specs.Running.{AnswersWorker, BreaksOff, CallAnswers, CallsOf, IsEnded, IsReadyWorker, RunAnswers};
-ghost use Rattle.cqf_worker.specs.Telling.{IsStartFault, MayBeTold};
+ghost use Rattle.cqf_worker.specs.Reporting.{IsStartFault, MayBeReported};
 ghost use Rattle.cqf_model.specs.Limits.{most_cycles};
 
 use crate::faults::{ConductFault, Faults};
@@ -51,8 +51,8 @@ pub struct EndedRun {
     pub sealed: Sealed,
 }
 
-/// What the threads of a run share: what they call before each call and step, the desk at which administrators call and cycles are closed,
-/// and how many cycles each worker goes through.
+/// What the threads of a run share: the pace, which they call before each call and step; the desk at which administrators call and cycles
+/// are closed, and how many cycles each worker goes through.
 struct Shared<'s, P> {
     pace: &'s P,
     desk: &'s Desk,
@@ -145,7 +145,9 @@ fn call_all<R: Wait, P: Pace>(
     make_calls(rt, pace, desk, number, seat, commands)
 }
 
-/// Starts a thread for each administrator, likewise.
+/// Starts a thread for each administrator, and returns the handles in the administrators' order. Returns `Spawn` if a thread can't be
+/// started, and `Memory` if its handle can't be kept. The administrators that weren't started are then dropped. Those that were started go
+/// on, and their scope waits for them.
 fn start_administrators<'s, E, R: Threads + Wait + Sync, P: Pace>(
     alloc: Global,
     scope: &'s Scope<'s, E>,
@@ -177,10 +179,10 @@ fn start_administrators<'s, E, R: Threads + Wait + Sync, P: Pace>(
     Ok(handles)
 }
 
-/// Notes why a bridge's worker gave up: no fault of its own if it was stopped.
+/// Notes why a bridge's worker gave up. If it was stopped, it has no fault of its own, and a stop is noted.
 fn note_worker(faults: &mut Faults, why: GaveUp)
     ensures some { IsClean faults.new → ⊥ }
-    ensures told { faults.new ≡ noted faults.old (fault_of_worker why) }
+    ensures reported { faults.new ≡ noted faults.old (fault_of_worker why) }
 {
     match why.fault {
         WorkerFault::Memory => faults.note(ConductFault::Memory),
@@ -191,7 +193,7 @@ fn note_worker(faults: &mut Faults, why: GaveUp)
 /// Notes why an administrator gave up.
 fn note_caller(faults: &mut Faults, why: Unmade)
     ensures some { IsClean faults.new → ⊥ }
-    ensures told { faults.new ≡ noted faults.old (fault_of_caller why) }
+    ensures reported { faults.new ≡ noted faults.old (fault_of_caller why) }
 {
     match why.fault {
         CallFault::HistoryFull => faults.note(ConductFault::DeskDisagrees),
@@ -199,10 +201,10 @@ fn note_caller(faults: &mut Faults, why: Unmade)
     }
 }
 
-/// Notes why the conductor gave up: no fault of its own if a worker had ended before.
+/// Notes why the conductor gave up. If a worker had ended before, the conductor has no fault of its own, and a stop is noted.
 fn note_conductor(faults: &mut Faults, fault: SealingFault)
     ensures some { IsClean faults.new → ⊥ }
-    ensures told { faults.new ≡ noted faults.old (fault_of_conductor fault) }
+    ensures reported { faults.new ≡ noted faults.old (fault_of_conductor fault) }
 {
     match fault {
         SealingFault::Memory => faults.note(ConductFault::Memory),
@@ -259,7 +261,7 @@ pub fn join_workers<R: Threads + Wait>(
     workers
 }
 
-/// Waits for an administrator's thread, likewise.
+/// Waits for an administrator's thread. If it notes no fault, it appends the seat to the others.
 fn join_administrator<R: Threads + Wait>(
     rt: &R,
     handle: Calling,
@@ -275,7 +277,8 @@ fn join_administrator<R: Threads + Wait>(
     }
 }
 
-/// Waits for all administrators' threads.
+/// Waits for all administrators' threads, and returns the seats that come back, in the handles' order. For each administrator that gave up
+/// it notes the fault, in that order. It notes `Memory` if a seat can't be kept.
 fn join_administrators<R: Threads + Wait>(
     rt: &R,
     alloc: Global,
@@ -295,7 +298,7 @@ fn join_administrators<R: Threads + Wait>(
     seats
 }
 
-/// Starts a thread for each worker and each administrator.
+/// Starts a thread for each worker and each administrator, and returns their handles.
 fn start_all<'s, E, R: Threads + Wait + Sync, P: Pace>(
     alloc: Global,
     scope: &'s Scope<'s, E>,
@@ -318,7 +321,7 @@ fn start_all<'s, E, R: Threads + Wait + Sync, P: Pace>(
     Ok((working, calling))
 }
 
-/// Closes the cycles and passes their tables on. If this fails, it drops the conductor's seat and ends.
+/// Closes the cycles and passes their tables on. If this fails, it drops the conductor's seat and its ends of the pipes.
 fn seal_each<R: Wait>(
     rt: &R,
     alloc: Global,
@@ -341,7 +344,7 @@ fn seal_each<R: Wait>(
 }
 
 /// Starts all threads, closes the cycles while they run, and waits for them. If a thread can't be started or an allocation fails, it
-/// notifies the workers that no tables follow. Those that were started then end, and it waits for none of them.
+/// notifies the workers that no tables follow. The workers that were started then end; the scope waits for them.
 fn run_in<'s, E, R: Threads + Wait + Sync, P: Pace>(
     alloc: Global,
     scope: &'s Scope<'s, E>,
@@ -351,7 +354,7 @@ fn run_in<'s, E, R: Threads + Wait + Sync, P: Pace>(
 ) -> Result<EndedRun, ConductFault>
     requires { IsReadyWorker shared.cycles ready }
     ensures ok { IfOk result (IsEnded shared.entry.cycles ready) }
-    ensures err { IfErr result (MayBeTold shared.entry.cycles ready) }
+    ensures err { IfErr result (MayBeReported shared.entry.cycles ready) }
 {
     let ReadyRun {
         workers,
@@ -388,10 +391,10 @@ fn all_ended(
     sealed: Result<Sealed, SealingFault>,
 ) -> Result<EndedRun, ConductFault>
     ensures all { IfOk result (λ all. IsClean faults × (all.workers ≡ workers) × (all.seats ≡ seats) × (sealed ≡ Ok all.sealed)) }
-    ensures told { IfErr result (λ fault. is_noted (noted_with faults sealed) ≡ Some fault) }
+    ensures reported { IfErr result (λ fault. is_noted (noted_with faults sealed) ≡ Some fault) }
 {
     match sealed {
-        Ok(sealed) => match faults.told() {
+        Ok(sealed) => match faults.reported() {
             Some(fault) => Err(fault),
             None => Ok(EndedRun {
                 workers,
@@ -401,8 +404,8 @@ fn all_ended(
         },
         Err(fault) => {
             note_conductor(&mut faults, fault);
-            match faults.told() {
-                Some(told) => Err(told),
+            match faults.reported() {
+                Some(reported) => Err(reported),
                 None => unreachable!(),
             }
         }
@@ -424,7 +427,7 @@ pub fn run_threads<R: Threads + Wait + Sync, P: Pace>(
 ) -> Result<EndedRun, ConductFault>
     requires { IsReadyWorker cycles ready }
     ensures ok { IfOk result (IsEnded cycles ready) }
-    ensures err { IfErr result (MayBeTold cycles ready) }
+    ensures err { IfErr result (MayBeReported cycles ready) }
 {
     thread::scope(
         thread::scope_env(),

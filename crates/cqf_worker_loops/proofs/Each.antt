@@ -8,10 +8,10 @@ use Rattle.cqf_worker_loops.specs.Rows.{MayHaveGot}
 
 module _ {T : Type 0} where
   -- the first count ports may have got an item, and the others are unchanged
-  pub record AreGiven (x : T) (ports now : List (LinkEnd (End T))) (place : ℕ) : Type 0 where
+  pub record AreGiven (x : T) (ports now : List (LinkEnd (End T))) (index : ℕ) : Type 0 where
     pub all : length now ≡ length ports
-    pub before : (k : ℕ) (d : LinkEnd (End T)) → k < place → MayHaveGot x (get_or ports k d) (get_or now k d)
-    pub behind : (k : ℕ) (d : LinkEnd (End T)) → place ≤ k → get_or now k d ≡ get_or ports k d
+    pub before : (k : ℕ) (d : LinkEnd (End T)) → k < index → MayHaveGot x (get_or ports k d) (get_or now k d)
+    pub following : (k : ℕ) (d : LinkEnd (End T)) → index ≤ k → get_or now k d ≡ get_or ports k d
 
 -- a list in the place of one of the same length
 pub written_back : {X : Type 0} (xs ys : List X) (n : ℕ) → length xs ≡ length ys → n ≡ length ys → take n (xs ++ drop (length xs) ys) ≡ xs

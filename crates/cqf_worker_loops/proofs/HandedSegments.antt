@@ -19,7 +19,7 @@ use Rattle.cqf_relay.specs.declared.wire.Wire.{Wire}
 use Rattle.cqf_relay.specs.Segments.{AreNextSegments, IsNextSegment, IsSegmentOf, Sendings, all_frames, batch_at, came_in, end_of_segments, frames_of}
 use Rattle.cqf_relay.specs.Logs.{is_in}
 use Rattle.cqf_relay.specs.Sending.{IsTidy}
-use Rattle.cqf_relay.specs.Standing.{Come, GoesOnAlone, HandsOn, IsOutletOf, IsWithin, KeepsBack, StandsSo, StaysAs, is_onward, link_in, link_out, links_from, told_by}
+use Rattle.cqf_relay.specs.Standing.{Come, GoesOnAlone, HandsOn, IsOutletOf, IsWithin, KeepsBack, StandsSo, StaysAs, is_onward, link_in, link_out, links_from, reported_by}
 use Rattle.cqf_lists.proofs.Written.{map_kept, slice_get-set_same}
 use Rattle.cqf_relay.proofs.Handing.{all_at}
 use Rattle.cqf_relay.proofs.Sources.{segment_in_cycle, segment_not_in_cycle}
@@ -41,33 +41,33 @@ use Rattle.cqf_worker_loops.proofs.Stopping.{CarriesItems, items_and_one}
 use Rattle.cqf_worker_loops.proofs.UnderWay.{IsHandedAt, come_same, handed_still, may_same, takes_under_way}
 
 -- a port with one more segment, which may come next
-put_more : (told : ℕ) (port : SegmentPort) (segment : Segment) → HasPut told port → IsNextSegment told segment → told < segment.upto →
+put_more : (reported : ℕ) (port : SegmentPort) (segment : Segment) → HasPut reported port → IsNextSegment reported segment → reported < segment.upto →
     HasPut segment.upto (with_item_at port (Item segment))
-put_more told port segment put next more =
-    let behind : IsNextSegment (end_of_segments 0 (segments_in port)) segment = subst (λ (n : ℕ). IsNextSegment n segment) (sym put.ends) next in
+put_more reported port segment put next more =
+    let following : IsNextSegment (end_of_segments 0 (segments_in port)) segment = subst (λ (n : ℕ). IsNextSegment n segment) (sym put.ends) next in
     record {
       items = items_and_one port.pipe.items segment put.items;
-      next = subst (AreNextSegments 0) (sym (items_in_more port.pipe.items segment)) (next_more 0 (segments_in port) segment put.next behind);
+      next = subst (AreNextSegments 0) (sym (items_in_more port.pipe.items segment)) (next_more 0 (segments_in port) segment put.next following);
       ends = ap (end_of_segments 0) (items_in_more port.pipe.items segment) ∙ end_more 0 (segments_in port) segment;
       few = omega (arith, put.few, more, length-append port.pipe.items (Item segment ∷ []));
     }
 
-module _ (t : Offering) (number place k : ℕ) (before after : Worker) (port : SegmentPort) (segment : Segment)
-    (hands : HandsOn place before.relay after.relay segment)
-    (onward : hands.outlet.wire.onward ≡ true) (more : hands.outlet.told < hands.outlet.sent) (there : slice_get before.outs.items k ≡ Some port)
+module _ (t : Offering) (number index k : ℕ) (before after : Worker) (port : SegmentPort) (segment : Segment)
+    (hands : HandsOn index before.relay after.relay segment)
+    (onward : hands.outlet.wire.onward ≡ true) (more : hands.outlet.reported < hands.outlet.sent) (there : slice_get before.outs.items k ≡ Some port)
     (link : port.link ≡ hands.outlet.trace.link) (outs : after.outs.items ≡ set before.outs.items k (with_item_at port (Item segment)))
     (agenda : after.agenda ≡ before.agenda) (tables : after.tables.items ≡ before.tables.items) (ins : after.ins.items ≡ before.ins.items)
-    (way : IsUnderWay t number before) where
+    (under_way : IsUnderWay t number before) where
   -- the port with the segment
   abbrev new_port : SegmentPort
   new_port = with_item_at port (Item segment)
 
   -- its links are the same as before
   links_put : map link_of after.outs.items ≡ links_onward t.domain number
-  links_put = ap (map link_of) outs ∙ map_kept link_of before.outs.items k port new_port there refl ∙ way.links_out
+  links_put = ap (map link_of) outs ∙ map_kept link_of before.outs.items k port new_port there refl ∙ under_way.links_out
 
   links_left : map link_out after.relay.outlets.items ≡ links_from t.domain number
-  links_left = hands.stays.links_out ∙ way.outlets
+  links_left = hands.stays.links_out ∙ under_way.outlets
 
   -- the port of the link is the new one
   port_of_link : (p : SegmentPort) → Contains after.outs.items p → p.link ≡ hands.outlet.trace.link → p ≡ new_port
@@ -90,46 +90,46 @@ module _ (t : Offering) (number place k : ℕ) (before after : Worker) (port : S
   -- the link is the one that has passed on
   outlet_of_link : (o : Outlet) → Contains after.relay.outlets.items o → o.trace.link ≡ hands.outlet.trace.link → o ≡ hands.handed
   outlet_of_link o held same =
-      let own : slice_get after.relay.outlets.items place ≡ Some hands.handed =
-      ap (λ (outlets : List Outlet). slice_get outlets place) hands.is
-      ∙ slice_get-set_same before.relay.outlets.items place hands.handed (slice_get_within before.relay.outlets.items place hands.outlet hands.was) in
+      let own : slice_get after.relay.outlets.items index ≡ Some hands.handed =
+      ap (λ (outlets : List Outlet). slice_get outlets index) hands.is
+      ∙ slice_get-set_same before.relay.outlets.items index hands.handed (slice_get_within before.relay.outlets.items index hands.outlet hands.was) in
       one_of_key link_out after.relay.outlets.items o hands.handed
       (ascend_by link_out after.relay.outlets.items (links_from t.domain number) links_left (from_ascends t.domain number)) held
-      (contains_at after.relay.outlets.items place hands.handed own) (same ∙ sym hands.takes.same.link)
+      (contains_at after.relay.outlets.items index hands.handed own) (same ∙ sym hands.takes.same.link)
 
   -- and each other one was there
   outlet_of_other : (o : Outlet) → Contains after.relay.outlets.items o → (o.trace.link ≡ hands.outlet.trace.link → ⊥) →
       Contains before.relay.outlets.items o
   outlet_of_other o held apart =
-      elim (member_of_set before.relay.outlets.items place hands.handed o (subst (λ (os : List Outlet). Contains os o) hands.is held)) [
+      elim (member_of_set before.relay.outlets.items index hands.handed o (subst (λ (os : List Outlet). Contains os o) hands.is held)) [
         | inl same ↦ absurd (apart (ap link_out same ∙ hands.takes.same.link))
         | inr old ↦ old
       ]
 
   -- the link was one of the bridge's links
   outlet_there : Contains before.relay.outlets.items hands.outlet
-  outlet_there = contains_at before.relay.outlets.items place hands.outlet hands.was
+  outlet_there = contains_at before.relay.outlets.items index hands.outlet hands.was
 
   -- the segment may come next after those already passed on, and ends at the cycle that the link has reached
-  segment_is_next : IsNextSegment hands.outlet.told segment
-  segment_is_next = hands.is_next (All-contains IsTidy before.relay.outlets.items hands.outlet way.tidy outlet_there)
+  segment_is_next : IsNextSegment hands.outlet.reported segment
+  segment_is_next = hands.is_next (All-contains IsTidy before.relay.outlets.items hands.outlet under_way.tidy outlet_there)
 
   -- and that is within the worker's cycles
   segment_within : segment.upto ≤ before.relay.cycles
   segment_within =
-      omega (arith, hands.takes.upto, All-contains (IsWithin before.relay.cycles) before.relay.outlets.items hands.outlet way.within outlet_there)
+      omega (arith, hands.takes.upto, All-contains (IsWithin before.relay.cycles) before.relay.outlets.items hands.outlet under_way.within outlet_there)
 
   -- so through each port went what its link has passed on
-  put_with_segment : (p : SegmentPort) (o : Outlet) → Contains after.outs.items p → Contains after.relay.outlets.items o → p.link ≡ o.trace.link → HasPut o.told p
+  put_with_segment : (p : SegmentPort) (o : Outlet) → Contains after.outs.items p → Contains after.relay.outlets.items o → p.link ≡ o.trace.link → HasPut o.reported p
   put_with_segment p o held here same = elim (cases_eq o.trace.link hands.outlet.trace.link) [
     | inl own ↦
         let new : HasPut segment.upto new_port =
-        put_more hands.outlet.told port segment
-        (way.outs port hands.outlet (contains_at before.outs.items k port there) outlet_there link) segment_is_next (omega (arith, more, hands.takes.upto)) in
-        let told : segment.upto ≡ o.told =
-        hands.takes.upto ∙ sym hands.takes.told ∙ ap (λ (it : Outlet). it.told) (sym (outlet_of_link o here own)) in
-        subst (HasPut o.told) (sym (port_of_link p held (same ∙ own))) (subst (λ (n : ℕ). HasPut n new_port) told new)
-    | inr apart ↦ way.outs p o (port_of_other p held (λ e. apart (sym same ∙ e))) (outlet_of_other o here apart) same
+        put_more hands.outlet.reported port segment
+        (under_way.outs port hands.outlet (contains_at before.outs.items k port there) outlet_there link) segment_is_next (omega (arith, more, hands.takes.upto)) in
+        let reported : segment.upto ≡ o.reported =
+        hands.takes.upto ∙ sym hands.takes.reported ∙ ap (λ (it : Outlet). it.reported) (sym (outlet_of_link o here own)) in
+        subst (HasPut o.reported) (sym (port_of_link p held (same ∙ own))) (subst (λ (n : ℕ). HasPut n new_port) reported new)
+    | inr apart ↦ under_way.outs p o (port_of_other p held (λ e. apart (sym same ∙ e))) (outlet_of_other o here apart) same
   ]
 
   -- what has arrived is the same
@@ -138,46 +138,46 @@ module _ (t : Offering) (number place k : ℕ) (before after : Worker) (port : S
 
   -- what the link sent went through its port, for each cycle that the link has now passed on
   handed_with_segment : (sends : Sendings) → StandsSo t.domain (come_to before) sends before.relay →
-      IsHandedAt t before.outs.items sends hands.outlet.trace.link hands.outlet.told →
+      IsHandedAt t before.outs.items sends hands.outlet.trace.link hands.outlet.reported →
       IsHandedAt t after.outs.items sends hands.outlet.trace.link segment.upto
   handed_with_segment sends stands old cycle goes =
       let d = t.domain in
       let l = hands.outlet.trace.link in
-      let told = hands.outlet.told in
+      let reported = hands.outlet.reported in
       let made : List ArrivedFrame = map (came_in d l cycle) (batch_at (sends l) cycle) in
-      let is : IsSegmentOf d l (sends l) told segment = (hands.is_segment d (come_to before) sends hands.outlet stands hands.was onward).0 in
-      let few : segment.upto ≤ 4294967295 = omega (arith, segment_within, way.few) in
+      let is : IsSegmentOf d l (sends l) reported segment = (hands.is_segment d (come_to before) sends hands.outlet stands hands.was onward).0 in
+      let few : segment.upto ≤ 4294967295 = omega (arith, segment_within, under_way.few) in
       let own : segments_at after.outs.items l ≡ segments_at before.outs.items l ++ segment ∷ [] =
       ap (λ (ports : List SegmentPort). segments_at ports l) outs
       ∙ subst
       (λ (m : ℕ). segments_at (set before.outs.items k new_port) m ≡ segments_at before.outs.items m ++ segment ∷ []) link
       (segments_at_own before.outs.items k port segment
-      (ascend_by link_of before.outs.items (links_onward d number) way.links_out (onward_ascends d number)) there) in
+      (ascend_by link_of before.outs.items (links_onward d number) under_way.links_out (onward_ascends d number)) there) in
       let parts : filter (is_in cycle) (all_frames (segments_at after.outs.items l))
       ≡ filter (is_in cycle) (all_frames (segments_at before.outs.items l)) ++ filter (is_in cycle) (frames_of segment) =
       ap (λ (segments : List Segment). filter (is_in cycle) (all_frames segments)) own
       ∙ ap (filter (is_in cycle)) (frames_more (segments_at before.outs.items l) segment)
       ∙ filter-append (is_in cycle) (all_frames (segments_at before.outs.items l)) (frames_of segment) in
-      let so_far : filter (is_in cycle) (all_frames (segments_at before.outs.items l)) ≡ (if nat_lt cycle told then made else []) = old cycle goes in
-      elim (cases_lt cycle told) [
+      let so_far : filter (is_in cycle) (all_frames (segments_at before.outs.items l)) ≡ (if nat_lt cycle reported then made else []) = old cycle goes in
+      elim (cases_lt cycle reported) [
         | inl early ↦
             let first : filter (is_in cycle) (all_frames (segments_at before.outs.items l)) ≡ made =
-            so_far ∙ cond-true (nat_lt cycle told) made [] (lt-ltb cycle told early) in
+            so_far ∙ cond-true (nat_lt cycle reported) made [] (lt-ltb cycle reported early) in
             let rest : filter (is_in cycle) (frames_of segment) ≡ [] =
-            segment_not_in_cycle d l (sends l) told segment is few cycle (inl early) in
+            segment_not_in_cycle d l (sends l) reported segment is few cycle (inl early) in
             parts ∙ (λ i. first i ++ rest i) ∙ append-nil made
             ∙ sym (cond-true (nat_lt cycle segment.upto) made [] (lt-ltb cycle segment.upto (omega (arith, early, more, hands.takes.upto))))
         | inr late ↦
             let first : filter (is_in cycle) (all_frames (segments_at before.outs.items l)) ≡ [] =
-            so_far ∙ cond-false (nat_lt cycle told) made [] (le-ltb cycle told late) in
+            so_far ∙ cond-false (nat_lt cycle reported) made [] (le-ltb cycle reported late) in
             elim (cases_lt cycle segment.upto) [
               | inl within ↦
                   let rest : filter (is_in cycle) (frames_of segment) ≡ made =
-                  segment_in_cycle d l (sends l) told segment is few cycle late within in
+                  segment_in_cycle d l (sends l) reported segment is few cycle late within in
                   parts ∙ (λ i. first i ++ rest i) ∙ sym (cond-true (nat_lt cycle segment.upto) made [] (lt-ltb cycle segment.upto within))
               | inr past ↦
                   let rest : filter (is_in cycle) (frames_of segment) ≡ [] =
-                  segment_not_in_cycle d l (sends l) told segment is few cycle (inr past) in
+                  segment_not_in_cycle d l (sends l) reported segment is few cycle (inr past) in
                   parts ∙ (λ i. first i ++ rest i) ∙ sym (cond-false (nat_lt cycle segment.upto) made [] (le-ltb cycle segment.upto past))
             ]
       ]
@@ -188,11 +188,11 @@ module _ (t : Offering) (number place k : ℕ) (before after : Worker) (port : S
   each_handed sends stands handed o here = elim (cases_eq o.trace.link hands.outlet.trace.link) [
     | inl own ↦
         let old = All-contains (HasHandedOn t before sends) before.relay.outlets.items hands.outlet handed outlet_there in
-        let told : segment.upto ≡ o.told =
-        hands.takes.upto ∙ sym hands.takes.told ∙ ap (λ (it : Outlet). it.told) (sym (outlet_of_link o here own)) in
+        let reported : segment.upto ≡ o.reported =
+        hands.takes.upto ∙ sym hands.takes.reported ∙ ap (λ (it : Outlet). it.reported) (sym (outlet_of_link o here own)) in
         record {
-          each = subst (λ (l : ℕ). IsHandedAt t after.outs.items sends l o.told) (sym own)
-              (subst (IsHandedAt t after.outs.items sends hands.outlet.trace.link) told (handed_with_segment sends stands old.each));
+          each = subst (λ (l : ℕ). IsHandedAt t after.outs.items sends l o.reported) (sym own)
+              (subst (IsHandedAt t after.outs.items sends hands.outlet.trace.link) reported (handed_with_segment sends stands old.each));
         }
     | inr apart ↦
         let old = All-contains (HasHandedOn t before sends) before.relay.outlets.items o handed (outlet_of_other o here apart) in
@@ -207,7 +207,7 @@ module _ (t : Offering) (number place k : ℕ) (before after : Worker) (port : S
   -- and its bridge is in the state that follows from what has arrived
   stands_with_put : MayHaveComeTo t after → HasComeSoFar t number after
   stands_with_put may =
-      let so = way.come (may_same before after agenda tables ins t may) in
+      let so = under_way.come (may_same before after agenda tables ins t may) in
       record {
         sends = so.sends;
         stands = subst (λ (come : Come). StandsSo t.domain come so.sends after.relay) (sym same_come)
@@ -224,43 +224,43 @@ module _ (t : Offering) (number place k : ℕ) (before after : Worker) (port : S
       let says : Outlet → Type 0 = λ o. o.wire.onward ≡ is_onward t.domain o.trace.link in
       let own : says hands.handed =
       ap (λ (wire : Wire). wire.onward) hands.takes.same.wire
-      ∙ All-contains says before.relay.outlets.items hands.outlet way.wires outlet_there
+      ∙ All-contains says before.relay.outlets.items hands.outlet under_way.wires outlet_there
       ∙ ap (is_onward t.domain) (sym hands.takes.same.link) in
-      subst (All says) (sym hands.is) (All-set says before.relay.outlets.items place hands.handed own way.wires)
+      subst (All says) (sym hands.is) (All-set says before.relay.outlets.items index hands.handed own under_way.wires)
 
   -- so it is under way
   pub put_under_way : IsUnderWay t number after
   put_under_way = record {
-    good_offers = way.good_offers;
-    is_agenda = subst (HasItsOffers t number) (sym agenda) way.is_agenda;
-    of_domain = ap arc_value hands.stays.domain ∙ way.of_domain;
-    number_is = hands.stays.number ∙ way.number_is;
-    few = omega (arith, hands.stays.cycles, way.few);
-    tables = subst AreItems (sym tables) way.tables;
-    tables_taken = hands.same.tables ∙ way.tables_taken ∙ ap (λ carried. length (items_in carried)) (sym tables);
-    early = omega (arith, hands.same.tables, hands.stays.cycles, way.early);
-    links_in = ap (map link_of) ins ∙ way.links_in;
-    inlets = hands.stays.links_in ∙ way.inlets;
-    ins = subst (All CarriesItems) (sym ins) way.ins;
+    good_offers = under_way.good_offers;
+    is_agenda = subst (HasItsOffers t number) (sym agenda) under_way.is_agenda;
+    of_domain = ap arc_value hands.stays.domain ∙ under_way.of_domain;
+    number_is = hands.stays.number ∙ under_way.number_is;
+    few = omega (arith, hands.stays.cycles, under_way.few);
+    tables = subst AreItems (sym tables) under_way.tables;
+    tables_taken = hands.same.tables ∙ under_way.tables_taken ∙ ap (λ carried. length (items_in carried)) (sym tables);
+    early = omega (arith, hands.same.tables, hands.stays.cycles, under_way.early);
+    links_in = ap (map link_of) ins ∙ under_way.links_in;
+    inlets = hands.stays.links_in ∙ under_way.inlets;
+    ins = subst (All CarriesItems) (sym ins) under_way.ins;
     links_out = links_put;
     outlets = links_left;
     wires = wires_put;
-    tidy = hands.stays.tidy way.tidy;
-    within = subst (λ (cycles : ℕ). All (IsWithin cycles) after.relay.outlets.items) (sym hands.stays.cycles) (hands.stays.within way.within);
+    tidy = hands.stays.tidy under_way.tidy;
+    within = subst (λ (cycles : ℕ). All (IsWithin cycles) after.relay.outlets.items) (sym hands.stays.cycles) (hands.stays.within under_way.within);
     outs = put_with_segment;
     come = stands_with_put;
   }
 
 -- a worker goes on if its bridge passes a segment on
-pub goes_with_put : (place k : ℕ) (before after : Worker) (port : SegmentPort) (segment : Segment) (at : HandsOnAt place k before) →
-    HandsOn place before.relay after.relay segment → port ≡ at.at → after.outs.items ≡ set before.outs.items k (with_item_at port (Item segment)) →
+pub goes_with_put : (index k : ℕ) (before after : Worker) (port : SegmentPort) (segment : Segment) (at : HandsOnAt index k before) →
+    HandsOn index before.relay after.relay segment → port ≡ at.at → after.outs.items ≡ set before.outs.items k (with_item_at port (Item segment)) →
     after.agenda ≡ before.agenda → after.tables ≡ before.tables → after.ins ≡ before.ins → GoesFurther before after
-goes_with_put place k before after port segment at hands is outs agenda tables ins =
+goes_with_put index k before after port segment at hands is outs agenda tables ins =
     let same : at.outlet ≡ hands.outlet = same_Some at.outlet hands.outlet (sym at.there ∙ hands.was) in
     let there : slice_get before.outs.items k ≡ Some port = at.its_port ∙ ap Some (sym is) in
     let link : port.link ≡ hands.outlet.trace.link = ap link_of is ∙ at.same_link ∙ ap link_out same in
     let onward : hands.outlet.wire.onward ≡ true = subst (λ (o : Outlet). o.wire.onward ≡ true) same at.onward in
-    let more : hands.outlet.told < hands.outlet.sent = subst (λ (o : Outlet). o.told < o.sent) same at.more in
+    let more : hands.outlet.reported < hands.outlet.sent = subst (λ (o : Outlet). o.reported < o.sent) same at.more in
     record {
       same = record {
         number = hands.stays.number;
@@ -270,21 +270,21 @@ goes_with_put place k before after port segment at hands is outs agenda tables i
         ins = ap (λ ports. wires_of ports.items) ins;
         outs = ap wires_of outs ∙ wires_with before.outs.items k port segment there;
       };
-      way = λ t number.
-          put_under_way t number place k before after port segment hands onward more there link outs agenda (ap (λ end. end.items) tables)
+      under_way = λ t number.
+          put_under_way t number index k before after port segment hands onward more there link outs agenda (ap (λ end. end.items) tables)
           (ap (λ ports. ports.items) ins);
     }
 
 -- ---- a segment that couldn't be passed on
 
-module _ (place told : ℕ) (older between after : Relay) (segment : Segment) (hands : HandsOn place older between segment)
-    (keeps : KeepsBack place told segment between after) (by_then : slice_get (told_by older) place ≡ Some told) where
+module _ (index reported : ℕ) (older between after : Relay) (segment : Segment) (hands : HandsOn index older between segment)
+    (keeps : KeepsBack index reported segment between after) (by_then : slice_get (reported_by older) index ≡ Some reported) where
   -- a bridge that gets it back has passed on as much as before
-  pub told_again : told_by after ≡ told_by older
-  told_again =
-      keeps.told_by_then ∙ ap (λ (xs : List ℕ). set xs place told) hands.told ∙ set-set (told_by older) place segment.upto told
-      ∙ ap (set (told_by older) place) (sym (get_or_from_slice_get (told_by older) place told told by_then))
-      ∙ set-get_or (told_by older) place told
+  pub reported_again : reported_by after ≡ reported_by older
+  reported_again =
+      keeps.reported_by_then ∙ ap (λ (xs : List ℕ). set xs index reported) hands.reported ∙ set-set (reported_by older) index segment.upto reported
+      ∙ ap (set (reported_by older) index) (sym (get_or_from_slice_get (reported_by older) index reported reported by_then))
+      ∙ set-get_or (reported_by older) index reported
 
   -- and is otherwise the same
   pub stays_again : StaysAs older after
@@ -299,12 +299,12 @@ module _ (place told : ℕ) (older between after : Relay) (segment : Segment) (h
     within = λ within.
         let now = hands.stays.within within in
         let kept : IsWithin older.cycles keeps.kept =
-        omega (arith, keeps.keeps.as_far, all_at (IsWithin older.cycles) between.outlets.items place keeps.outlet now keeps.was) in
-        subst (All (IsWithin older.cycles)) (sym keeps.is) (All-set (IsWithin older.cycles) between.outlets.items place keeps.kept kept now);
+        omega (arith, keeps.keeps.as_far, all_at (IsWithin older.cycles) between.outlets.items index keeps.outlet now keeps.was) in
+        subst (All (IsWithin older.cycles)) (sym keeps.is) (All-set (IsWithin older.cycles) between.outlets.items index keeps.kept kept now);
   }
 
 -- a worker goes on if its bridge changes only by what it takes in
-module _ (before after : Worker) (stays : StaysAs before.relay after.relay) (told : told_by after.relay ≡ told_by before.relay)
+module _ (before after : Worker) (stays : StaysAs before.relay after.relay) (reported : reported_by after.relay ≡ reported_by before.relay)
     (same_tables : after.relay.tables ≡ before.relay.tables) (same_drops : after.relay.edge.drops ≡ before.relay.edge.drops)
     (agenda : after.agenda ≡ before.agenda) (tables : after.tables ≡ before.tables) (ins : after.ins.items ≡ before.ins.items)
     (outs : after.outs.items ≡ before.outs.items) where
@@ -317,7 +317,7 @@ module _ (before after : Worker) (stays : StaysAs before.relay after.relay) (tol
       ((t : Offering) (number : ℕ) (sends : Sendings) → IsUnderWay t number before → MayHaveComeTo t before →
       StandsSo t.domain (come_to before) sends before.relay →
       (more : Sendings) × StandsSo t.domain (come_to before) more after.relay
-      × ((outlet : Outlet) → Contains before.relay.outlets.items outlet → (cycle : ℕ) → cycle < outlet.told →
+      × ((outlet : Outlet) → Contains before.relay.outlets.items outlet → (cycle : ℕ) → cycle < outlet.reported →
       batch_at (more outlet.trace.link) cycle ≡ batch_at (sends outlet.trace.link) cycle)) → GoesFurther before after
   goes_with_same stands = record {
     same = record {
@@ -328,26 +328,26 @@ module _ (before after : Worker) (stays : StaysAs before.relay after.relay) (tol
       ins = ap wires_of ins;
       outs = ap wires_of outs;
     };
-    way = λ t number way.
+    under_way = λ t number under_way.
         takes_under_way t number before after
         (record {
           stays = stays;
-          told = told;
+          reported = reported;
           outs = outs;
           agenda = agenda;
           links_in = ap (map link_of) ins;
           tables = λ items. subst (λ end. AreItems end.items) (sym tables) items;
           taken = λ taken. same_tables ∙ taken ∙ ap (λ end. length (items_in end.items)) (sym tables);
-          early = omega (arith, same_tables, way.early);
+          early = omega (arith, same_tables, under_way.early);
           ins = λ items. subst (All CarriesItems) (sym ins) items;
-        }) way (λ may.
+        }) under_way (λ may.
         let can : MayHaveComeTo t before = may_same before after agenda (ap (λ end. end.items) tables) ins t may in
-        let so = way.come can in
-        let now = stands t number so.sends way can so.stands in
+        let so = under_way.come can in
+        let now = stands t number so.sends under_way can so.stands in
         record {
           sends = now.0;
           stands = subst (λ (come : Come). StandsSo t.domain come now.0 after.relay) (sym come_still) now.1;
-          handed = handed_still t before after stays told outs so.sends now.0 now.2 so.handed;
+          handed = handed_still t before after stays reported outs so.sends now.0 now.2 so.handed;
           drops = subst (λ (come : Come). AreDropsOf t.domain number come after.relay.tables after.relay.edge.drops.items) (sym come_still)
               (subst (λ (n : ℕ). AreDropsOf t.domain number (come_to before) n after.relay.edge.drops.items) (sym same_tables)
               (subst (λ list. AreDropsOf t.domain number (come_to before) before.relay.tables list.items) (sym same_drops) so.drops));
@@ -355,24 +355,24 @@ module _ (before after : Worker) (stays : StaysAs before.relay after.relay) (tol
   }
 
 -- so it does if the bridge gets a segment back
-pub goes_with_back : (place told : ℕ) (before after : Worker) (between : Relay) (segment back : Segment) → HandsOn place before.relay between segment →
-    KeepsBack place told back between after.relay → back ≡ segment → slice_get (told_by before.relay) place ≡ Some told → after.agenda ≡ before.agenda →
+pub goes_with_back : (index reported : ℕ) (before after : Worker) (between : Relay) (segment back : Segment) → HandsOn index before.relay between segment →
+    KeepsBack index reported back between after.relay → back ≡ segment → slice_get (reported_by before.relay) index ≡ Some reported → after.agenda ≡ before.agenda →
     after.tables ≡ before.tables → after.ins.items ≡ before.ins.items → after.outs.items ≡ before.outs.items → GoesFurther before after
-goes_with_back place told before after between segment back hands kept is by_then agenda tables ins outs =
-    let keeps : KeepsBack place told segment between after.relay = subst (λ (it : Segment). KeepsBack place told it between after.relay) is kept in
-    goes_with_same before after (stays_again place told before.relay between after.relay segment hands keeps by_then)
-    (told_again place told before.relay between after.relay segment hands keeps by_then) (keeps.same.tables ∙ hands.same.tables)
+goes_with_back index reported before after between segment back hands kept is by_then agenda tables ins outs =
+    let keeps : KeepsBack index reported segment between after.relay = subst (λ (it : Segment). KeepsBack index reported it between after.relay) is kept in
+    goes_with_same before after (stays_again index reported before.relay between after.relay segment hands keeps by_then)
+    (reported_again index reported before.relay between after.relay segment hands keeps by_then) (keeps.same.tables ∙ hands.same.tables)
     (ap (λ edge. edge.drops) (keeps.same.edge ∙ hands.same.edge)) agenda tables ins outs
-    (λ t number sends way may stands.
+    (λ t number sends under_way may stands.
     (sends, keeps.again before.relay hands by_then t.domain (come_to before) sends stands, λ outlet held cycle early. refl))
 
 -- and if the bridge's links have gone on
 pub goes_with_sends : (before after : Worker) → GoesOnAlone before.relay after.relay → after.agenda ≡ before.agenda → after.tables ≡ before.tables →
     after.ins ≡ before.ins → after.outs ≡ before.outs → GoesFurther before after
 goes_with_sends before after goes agenda tables ins outs =
-    goes_with_same before after goes.same goes.told_same goes.tables_same goes.drops_same agenda tables (ap (λ ports. ports.items) ins)
+    goes_with_same before after goes.same goes.reported_same goes.tables_same goes.drops_same agenda tables (ap (λ ports. ports.items) ins)
     (ap (λ ports. ports.items) outs)
-    (λ t number sends way may stands.
+    (λ t number sends under_way may stands.
     let now = goes.stands t.domain (come_to before) sends stands may.tables in (
       now.0,
       now.1,
@@ -391,8 +391,8 @@ pub goes_as_before : (before after : Worker) → after.relay ≡ before.relay �
 goes_as_before before after relay agenda tables ins outs =
     let stays : StaysAs before.relay after.relay = subst (StaysAs before.relay) (sym relay)
     (record { domain = refl; number = refl; cycles = refl; links_in = refl; links_out = refl; wires = refl; tidy = λ tidy. tidy; within = λ within. within }) in
-    goes_with_same before after stays (ap told_by relay) (ap (λ (s : Relay). s.tables) relay) (ap (λ (s : Relay). s.edge.drops) relay) agenda tables
-    ins outs (λ t number sends way may stands.
+    goes_with_same before after stays (ap reported_by relay) (ap (λ (s : Relay). s.tables) relay) (ap (λ (s : Relay). s.edge.drops) relay) agenda tables
+    ins outs (λ t number sends under_way may stands.
     (sends, subst (StandsSo t.domain (come_to before) sends) (sym relay) stands, λ outlet held cycle early. refl))
 
 -- ---- if the worker gives up
@@ -406,32 +406,32 @@ pub record HasOutlet (t : Offering) (w : Worker) (port : SegmentPort) : Type 0 w
 
 -- and so is each port
 pub outlet_of_port : (t : Offering) (number : ℕ) (w : Worker) (port : SegmentPort) → IsUnderWay t number w → Contains w.outs.items port → HasOutlet t w port
-outlet_of_port t number w port way held =
+outlet_of_port t number w port under_way held =
     let one : Contains (links_onward t.domain number) port.link =
-    subst (λ (links : List ℕ). Contains links port.link) way.links_out (contains_map link_of w.outs.items port held) in
+    subst (λ (links : List ℕ). Contains links port.link) under_way.links_out (contains_map link_of w.outs.items port held) in
     let from = contains_from_filter (is_onward t.domain) (links_from t.domain number) port.link one in
     let out = contains_from_map link_out w.relay.outlets.items port.link
-    (subst (λ (links : List ℕ). Contains links port.link) (sym way.outlets) from.0) in
+    (subst (λ (links : List ℕ). Contains links port.link) (sym under_way.outlets) from.0) in
     record { outlet = out.0; there = out.1; link = sym out.2; onward = from.1 }
 
 -- at each port at most as many segments were put as there are cycles
 pub few_put : (t : Offering) (number : ℕ) (w : Worker) (port : SegmentPort) → IsUnderWay t number w → Contains w.outs.items port →
     length port.pipe.items ≤ most_cycles
-few_put t number w port way held =
-    let from = outlet_of_port t number w port way held in
+few_put t number w port under_way held =
+    let from = outlet_of_port t number w port under_way held in
     omega (
       arith,
-      (way.outs port from.outlet held from.there from.link).few,
-      (All-contains IsTidy w.relay.outlets.items from.outlet way.tidy from.there).handed,
-      All-contains (IsWithin w.relay.cycles) w.relay.outlets.items from.outlet way.within from.there,
-      way.few,
+      (under_way.outs port from.outlet held from.there from.link).few,
+      (All-contains IsTidy w.relay.outlets.items from.outlet under_way.tidy from.there).handed,
+      All-contains (IsWithin w.relay.cycles) w.relay.outlets.items from.outlet under_way.within from.there,
+      under_way.few,
     )
 
 -- and nothing but segments
 pub segments_put : (t : Offering) (number : ℕ) (w : Worker) (port : SegmentPort) → IsUnderWay t number w → Contains w.outs.items port → CarriesItems port
-segments_put t number w port way held =
-    let from = outlet_of_port t number w port way held in
-    (way.outs port from.outlet held from.there from.link).items
+segments_put t number w port under_way held =
+    let from = outlet_of_port t number w port under_way held in
+    (under_way.outs port from.outlet held from.there from.link).items
 
 -- a worker that has put nothing more has put only segments
 pub nothing_put : (before after : Worker) → SomeUnderWay before → after.outs.items ≡ before.outs.items → HasPutSegments before after
@@ -474,7 +474,7 @@ maybe_put before after k port new segment some there outs link pipe may =
 pub goes_nowhere : (w : Worker) → GoesFurther w w
 goes_nowhere w = record {
   same = record { number = refl; cycles = refl; agenda = refl; tables = refl; ins = refl; outs = refl };
-  way = λ t number way. way;
+  under_way = λ t number under_way. under_way;
 }
 
 -- and then it goes on step by step
@@ -488,7 +488,7 @@ goes_further first between after early late = record {
     ins = late.same.ins ∙ early.same.ins;
     outs = late.same.outs ∙ early.same.outs;
   };
-  way = λ t number way. late.way t number (early.way t number way);
+  under_way = λ t number under_way. late.under_way t number (early.under_way t number under_way);
 }
 
 -- it is under way still
@@ -496,7 +496,7 @@ pub some_further : (before after : Worker) → SomeUnderWay before → GoesFurth
 some_further before after some goes = record {
   traffic = some.traffic;
   number = some.number;
-  is = goes.way some.traffic some.number some.is;
+  is = goes.under_way some.traffic some.number some.is;
 }
 
 -- if it then gives up, it has put only segments
@@ -520,14 +520,14 @@ either_way (Ok v) P Q done failed = inr done
 either_way (Err fault) P Q done failed = inl failed
 
 -- the cycle up to which the link at an index has passed on
-pub told_there : (outlets xs : List Outlet) (place : ℕ) (outlet read : Outlet) (told : ℕ) → slice_get outlets place ≡ Some outlet → xs ≡ outlets →
-    read ≡ get_or xs place read → told ≡ read.told → slice_get (map (λ (o : Outlet). o.told) outlets) place ≡ Some told
-told_there outlets xs place outlet read told there same is by =
+pub reported_there : (outlets xs : List Outlet) (index : ℕ) (outlet read : Outlet) (reported : ℕ) → slice_get outlets index ≡ Some outlet → xs ≡ outlets →
+    read ≡ get_or xs index read → reported ≡ read.reported → slice_get (map (λ (o : Outlet). o.reported) outlets) index ≡ Some reported
+reported_there outlets xs index outlet read reported there same is by =
     let own : read ≡ outlet =
-    is ∙ ap (λ (os : List Outlet). get_or os place read) same ∙ get_or_from_slice_get outlets place outlet read there in
-    slice_get-map (λ (o : Outlet). o.told) outlets place
-    ∙ ap (option_map (λ (o : Outlet). o.told)) there
-    ∙ ap Some (sym (by ∙ ap (λ (o : Outlet). o.told) own))
+    is ∙ ap (λ (os : List Outlet). get_or os index read) same ∙ get_or_from_slice_get outlets index outlet read there in
+    slice_get-map (λ (o : Outlet). o.reported) outlets index
+    ∙ ap (option_map (λ (o : Outlet). o.reported)) there
+    ∙ ap Some (sym (by ∙ ap (λ (o : Outlet). o.reported) own))
 
 -- a port at which nothing was put is unchanged
 pub port_same : (ports : List SegmentPort) (k : ℕ) (port : SegmentPort) (new : End (Carried Segment)) → port ≡ get_or ports k port → new.pipe ≡ port.pipe.pipe →
@@ -550,12 +550,12 @@ back_of refused inner back segment full item is =
     cc
 
 -- a bridge that has passed a segment on has the same number of links
-pub outlets_inside : (place : ℕ) (before after : Relay) (outlet : Outlet) → StaysAs before after → slice_get before.outlets.items place ≡ Some outlet →
-    place < length after.outlets.items
-outlets_inside place before after outlet stays there =
+pub outlets_inside : (index : ℕ) (before after : Relay) (outlet : Outlet) → StaysAs before after → slice_get before.outlets.items index ≡ Some outlet →
+    index < length after.outlets.items
+outlets_inside index before after outlet stays there =
     omega (
       arith,
-      slice_get_within before.outlets.items place outlet there,
+      slice_get_within before.outlets.items index outlet there,
       as_long link_out link_out after.outlets.items before.outlets.items stays.links_out,
     )
 
@@ -568,75 +568,75 @@ pub ports_still : (before after : Worker) → GoesFurther before after → lengt
 ports_still before after goes = as_long wire_at wire_at after.ins.items before.ins.items goes.same.ins
 
 -- and its bridge the same number of inlets
-pub inlet_inside : (w : Worker) (place : ℕ) → SomeUnderWay w → place < length w.ins.items → place < length w.relay.inlets.items
-inlet_inside w place some inside =
+pub inlet_inside : (w : Worker) (index : ℕ) → SomeUnderWay w → index < length w.ins.items → index < length w.relay.inlets.items
+inlet_inside w index some inside =
     omega (arith, inside, as_long link_of link_in w.ins.items w.relay.inlets.items (some.is.links_in ∙ sym some.is.inlets))
 
 -- and the same number of links
 pub outlets_still : (before after : Worker) → SomeUnderWay before → GoesFurther before after →
     length after.relay.outlets.items ≡ length before.relay.outlets.items
 outlets_still before after some goes =
-    let now = goes.way some.traffic some.number some.is in
+    let now = goes.under_way some.traffic some.number some.is in
     as_long link_out link_out after.relay.outlets.items before.relay.outlets.items (now.outlets ∙ sym some.is.outlets)
 
 -- ---- the port of the next link that ends in another bridge
 
 -- how many elements are kept of one element more
-pub rank_more : {X : Type 0} (keeps : X → Bool) (xs : List X) (place : ℕ) (d : X) → place < length xs →
-    rank keeps xs (place + 1) ≡ rank keeps xs place + (if keeps (get_or xs place d) then 1 else 0)
-rank_more {X} keeps xs place d inside =
-    ap (λ (ys : List X). length (filter keeps ys)) (take_more xs place d inside)
-    ∙ ap length (filter-append keeps (take place xs) (get_or xs place d ∷ []))
-    ∙ length-append (filter keeps (take place xs)) (filter keeps (get_or xs place d ∷ []))
-    ∙ ap (λ (n : ℕ). rank keeps xs place + n) (one (keeps (get_or xs place d)))
+pub rank_more : {X : Type 0} (keeps : X → Bool) (xs : List X) (index : ℕ) (d : X) → index < length xs →
+    rank keeps xs (index + 1) ≡ rank keeps xs index + (if keeps (get_or xs index d) then 1 else 0)
+rank_more {X} keeps xs index d inside =
+    ap (λ (ys : List X). length (filter keeps ys)) (take_more xs index d inside)
+    ∙ ap length (filter-append keeps (take index xs) (get_or xs index d ∷ []))
+    ∙ length-append (filter keeps (take index xs)) (filter keeps (get_or xs index d ∷ []))
+    ∙ ap (λ (n : ℕ). rank keeps xs index + n) (one (keeps (get_or xs index d)))
   where
     -- one, if it is kept
-    one : (b : Bool) → length (if b then get_or xs place d ∷ [] else []) ≡ (if b then 1 else 0)
+    one : (b : Bool) → length (if b then get_or xs index d ∷ [] else []) ≡ (if b then 1 else 0)
     one true = refl
     one false = refl
 
-module _ (t : Offering) (number place : ℕ) (w : Worker) (way : IsUnderWay t number w) (xs : List Outlet) (read : Outlet)
-    (all : xs ≡ w.relay.outlets.items) (is : read ≡ get_or xs place read) (inside : place < length w.relay.outlets.items) where
+module _ (t : Offering) (number index : ℕ) (w : Worker) (under_way : IsUnderWay t number w) (xs : List Outlet) (read : Outlet)
+    (all : xs ≡ w.relay.outlets.items) (is : read ≡ get_or xs index read) (inside : index < length w.relay.outlets.items) where
   -- the link at an index
-  outlet_at : slice_get w.relay.outlets.items place ≡ Some read
-  outlet_at = slice_get-get_or w.relay.outlets.items place read inside
-      ∙ ap Some (sym (is ∙ ap (λ (os : List Outlet). get_or os place read) all))
+  outlet_at : slice_get w.relay.outlets.items index ≡ Some read
+  outlet_at = slice_get-get_or w.relay.outlets.items index read inside
+      ∙ ap Some (sym (is ∙ ap (λ (os : List Outlet). get_or os index read) all))
 
   -- its number
-  number_at : slice_get (links_from t.domain number) place ≡ Some read.trace.link
+  number_at : slice_get (links_from t.domain number) index ≡ Some read.trace.link
   number_at =
-      ap (λ (links : List ℕ). slice_get links place) (sym way.outlets) ∙ slice_get-map link_out w.relay.outlets.items place
+      ap (λ (links : List ℕ). slice_get links index) (sym under_way.outlets) ∙ slice_get-map link_out w.relay.outlets.items index
       ∙ ap (option_map link_out) outlet_at
 
-  pub number_read : get_or (links_from t.domain number) place 0 ≡ read.trace.link
-  number_read = get_or_from_slice_get (links_from t.domain number) place read.trace.link 0 number_at
+  pub number_read : get_or (links_from t.domain number) index 0 ≡ read.trace.link
+  number_read = get_or_from_slice_get (links_from t.domain number) index read.trace.link 0 number_at
 
-  number_inside : place < length (links_from t.domain number)
-  number_inside = slice_get_within (links_from t.domain number) place read.trace.link number_at
+  number_inside : index < length (links_from t.domain number)
+  number_inside = slice_get_within (links_from t.domain number) index read.trace.link number_at
 
   -- whether it ends in a bridge
-  pub onward_read : read.wire.onward ≡ is_onward t.domain (get_or (links_from t.domain number) place 0)
+  pub onward_read : read.wire.onward ≡ is_onward t.domain (get_or (links_from t.domain number) index 0)
   onward_read =
-      all_at (λ (o : Outlet). o.wire.onward ≡ is_onward t.domain o.trace.link) w.relay.outlets.items place read way.wires outlet_at
+      all_at (λ (o : Outlet). o.wire.onward ≡ is_onward t.domain o.trace.link) w.relay.outlets.items index read under_way.wires outlet_at
       ∙ ap (is_onward t.domain) (sym number_read)
 
   -- the port of the next link that ends in another bridge
-  pub next_port : (port : ℕ) → port ≡ rank (is_onward t.domain) (links_from t.domain number) place →
-      port + (if read.wire.onward then 1 else 0) ≡ rank (is_onward t.domain) (links_from t.domain number) (place + 1)
+  pub next_port : (port : ℕ) → port ≡ rank (is_onward t.domain) (links_from t.domain number) index →
+      port + (if read.wire.onward then 1 else 0) ≡ rank (is_onward t.domain) (links_from t.domain number) (index + 1)
   next_port port so =
-      (λ i. so i + (if onward_read i then 1 else 0)) ∙ sym (rank_more (is_onward t.domain) (links_from t.domain number) place 0 number_inside)
+      (λ i. so i + (if onward_read i then 1 else 0)) ∙ sym (rank_more (is_onward t.domain) (links_from t.domain number) index 0 number_inside)
 
   -- and what the link passes on goes through the port
-  pub hands_on_at : (port : ℕ) → port ≡ rank (is_onward t.domain) (links_from t.domain number) place → read.wire.onward ≡ true → read.told < read.sent →
-      HandsOnAt place port w
+  pub hands_on_at : (port : ℕ) → port ≡ rank (is_onward t.domain) (links_from t.domain number) index → read.wire.onward ≡ true → read.reported < read.sent →
+      HandsOnAt index port w
   hands_on_at port so onward more =
-      let r = kept_at_rank (is_onward t.domain) (links_from t.domain number) place 0 number_inside (sym onward_read ∙ onward) in
+      let r = kept_at_rank (is_onward t.domain) (links_from t.domain number) index 0 number_inside (sym onward_read ∙ onward) in
       let there : slice_get (links_onward t.domain number) port ≡ Some read.trace.link =
       ap (slice_get (links_onward t.domain number)) so
-      ∙ slice_get-get_or (links_onward t.domain number) (rank (is_onward t.domain) (links_from t.domain number) place) 0 r.inside
+      ∙ slice_get-get_or (links_onward t.domain number) (rank (is_onward t.domain) (links_from t.domain number) index) 0 r.inside
       ∙ ap Some (r.same ∙ number_read) in
       let at = made_of_some link_of (slice_get w.outs.items port) read.trace.link
-      (sym (slice_get-map link_of w.outs.items port) ∙ ap (λ (links : List ℕ). slice_get links port) way.links_out ∙ there) in
+      (sym (slice_get-map link_of w.outs.items port) ∙ ap (λ (links : List ℕ). slice_get links port) under_way.links_out ∙ there) in
       record { outlet = read; there = outlet_at; onward = onward; more = more; at = at.0; its_port = at.1; same_link = at.2 }
 
 -- one link adds at most one port

@@ -13,9 +13,9 @@ use Rattle.cqf_worker_loops.specs.PipeRule.{most_items}
 pub record HandsOn {T : Type 0} (xs : List T) (before after : List (End T)) (count : ℕ) (all : Bool) : Type 0 where
   pub many : length after ≡ length before
   pub pipes : pipes_of after ≡ pipes_of before
-  pub behind : (place : ℕ) (d : End T) → count ≤ place → get_or after place d ≡ get_or before place d
+  pub following : (index : ℕ) (d : End T) → count ≤ index → get_or after index d ≡ get_or before index d
   pub some : GivesSome xs before after
-  pub given : all ≡ true → (place : ℕ) (d : End T) → place < count → (get_or after place d).items ≡ (get_or before place d).items ++ xs
+  pub given : all ≡ true → (index : ℕ) (d : End T) → index < count → (get_or after index d).items ≡ (get_or before index d).items ++ xs
 
 -- an end at which at most these items were put
 pub record IsHanded {T : Type 0} (xs : List T) (before after : End T) (given : Bool) : Type 0 where
@@ -51,7 +51,7 @@ got_as {T} xs before after was now is_was is_now may =
 
 -- if not all got the items, one of the first ends is unchanged
 abbrev pub MissesFirst : {T : Type 0} → List (End T) → List (End T) → ℕ → Bool → Type 0
-MissesFirst {T} before after count all = all ≡ false → (place : ℕ) × (place < count) × ((d : End T) → get_or after place d ≡ get_or before place d)
+MissesFirst {T} before after count all = all ≡ false → (index : ℕ) × (index < count) × ((d : End T) → get_or after index d ≡ get_or before index d)
 
 -- whether all got them, by whether those before did and whether this one did
 abbrev pub HaveAll : Bool → Bool → Bool → Type 0
@@ -63,9 +63,9 @@ module _ {T : Type 0} (xs : List T) where
   hands_none before = record {
     many = refl;
     pipes = refl;
-    behind = λ place d h. refl;
-    some = λ place d inside. inl refl;
-    given = λ all place d h. absurd (omega (arith, h));
+    following = λ index d h. refl;
+    some = λ index d inside. inl refl;
+    given = λ all index d h. absurd (omega (arith, h));
   }
 
   -- and all got that
@@ -77,9 +77,9 @@ module _ {T : Type 0} (xs : List T) where
   hands_some before = record {
     many = refl;
     pipes = refl;
-    behind = λ place d h. refl;
-    some = λ place d inside. inl refl;
-    given = λ all place d h. absurd (omega (arith, h));
+    following = λ index d h. refl;
+    some = λ index d inside. inl refl;
+    given = λ all index d h. absurd (omega (arith, h));
   }
 
   module _ (before after : List (End T)) (count : ℕ) (all : Bool) (d end : End T) (given more : Bool) (so_far : HandsOn xs before after count all)
@@ -90,31 +90,31 @@ module _ {T : Type 0} (xs : List T) where
 
     -- each end has the new items, or nothing new
     some_next : GivesSome xs before (set after count end)
-    some_next place e inside =
-        elim (cases_eq place count) [
+    some_next index e inside =
+        elim (cases_eq index count) [
           | inl here ↦
-              let now : get_or (set after count end) place e ≡ end = ap (λ (k : ℕ). get_or (set after count end) k e) here ∙ at_next e in
-              let was : get_or after count d ≡ get_or before place e =
-              so_far.behind count d (omega arith) ∙ get_or_default before count d e below ∙ ap (λ (k : ℕ). get_or before k e) (sym here) in
-              got_as xs (get_or after count d) end (get_or before place e) (get_or (set after count end) place e) was now handed.got
+              let now : get_or (set after count end) index e ≡ end = ap (λ (k : ℕ). get_or (set after count end) k e) here ∙ at_next e in
+              let was : get_or after count d ≡ get_or before index e =
+              so_far.following count d (omega arith) ∙ get_or_default before count d e below ∙ ap (λ (k : ℕ). get_or before k e) (sym here) in
+              got_as xs (get_or after count d) end (get_or before index e) (get_or (set after count end) index e) was now handed.got
           | inr other ↦
-              let same : get_or (set after count end) place e ≡ get_or after place e = get_or-set_other after count place end e other in
-              got_as xs (get_or before place e) (get_or after place e) (get_or before place e) (get_or (set after count end) place e) refl same
-              (so_far.some place e inside)
+              let same : get_or (set after count end) index e ≡ get_or after index e = get_or-set_other after count index end e other in
+              got_as xs (get_or before index e) (get_or after index e) (get_or before index e) (get_or (set after count end) index e) refl same
+              (so_far.some index e inside)
         ]
 
     -- each of those so far has the items if all got them
-    given_next : more ≡ true → (place : ℕ) (e : End T) → place < count + 1 → (get_or (set after count end) place e).items ≡ (get_or before place e).items ++ xs
-    given_next is place e inside =
-        elim (cases_eq place count) [
+    given_next : more ≡ true → (index : ℕ) (e : End T) → index < count + 1 → (get_or (set after count end) index e).items ≡ (get_or before index e).items ++ xs
+    given_next is index e inside =
+        elim (cases_eq index count) [
           | inl here ↦
-              let now : get_or (set after count end) place e ≡ end = ap (λ (k : ℕ). get_or (set after count end) k e) here ∙ at_next e in
-              let was : get_or after count d ≡ get_or before place e =
-              so_far.behind count d (omega arith) ∙ get_or_default before count d e below ∙ ap (λ (k : ℕ). get_or before k e) (sym here) in
+              let now : get_or (set after count end) index e ≡ end = ap (λ (k : ℕ). get_or (set after count end) k e) here ∙ at_next e in
+              let was : get_or after count d ≡ get_or before index e =
+              so_far.following count d (omega arith) ∙ get_or_default before count d e below ∙ ap (λ (k : ℕ). get_or before k e) (sym here) in
               ap (λ (z : End T). z.items) now ∙ handed.has (have is).1 ∙ ap (λ (z : End T). z.items ++ xs) was
           | inr other ↦
-              ap (λ (z : End T). z.items) (get_or-set_other after count place end e other)
-              ∙ so_far.given (have is).0 place e (omega (arith, inside, other))
+              ap (λ (z : End T). z.items) (get_or-set_other after count index end e other)
+              ∙ so_far.given (have is).0 index e (omega (arith, inside, other))
         ]
 
     -- so it goes on
@@ -122,7 +122,7 @@ module _ {T : Type 0} (xs : List T) where
     hands_next = record {
       many = length-set after count end ∙ so_far.many;
       pipes = map-set_same (λ (z : End T). z.pipe) after count end d (same_pipe xs (get_or after count d) end handed.got) ∙ so_far.pipes;
-      behind = λ place e h. get_or-set_other after count place end e (λ same. omega (arith, same, h)) ∙ so_far.behind place e (omega (arith, h));
+      following = λ index e h. get_or-set_other after count index end e (λ same. omega (arith, same, h)) ∙ so_far.following index e (omega (arith, h));
       some = some_next;
       given = given_next;
     }
@@ -142,7 +142,7 @@ module _ {T : Type 0} (xs : List T) where
         | inr now ↦ (
           count,
           omega arith,
-          λ e. get_or-set_same after count end e (omega (arith, below, so_far.many)) ∙ gone now ∙ so_far.behind count d (omega arith)
+          λ e. get_or-set_same after count end e (omega (arith, below, so_far.many)) ∙ gone now ∙ so_far.following count d (omega arith)
               ∙ get_or_default before count d e below,
         )
       ]
@@ -150,10 +150,10 @@ module _ {T : Type 0} (xs : List T) where
   -- at the end it holds of all
   pub hands_all : (before after : List (End T)) (count : ℕ) (all : Bool) → HandsOn xs before after count all → length before ≤ count → all ≡ true →
       GivesEach xs before after
-  hands_all before after count all h upto is place d inside = h.given is place d (omega (arith, inside, upto))
+  hands_all before after count all h upto is index d inside = h.given is index d (omega (arith, inside, upto))
 
   -- the next end still has room
   pub room_next : (more : ℕ) (before after : List (End T)) (count : ℕ) (all : Bool) (d : End T) → HandsOn xs before after count all →
       All (λ (e : End T). length e.items + more < most_items) before → count < length before → length (get_or after count d).items + more < most_items
   room_next more before after count all d h room below =
-      omega (arith, room count d below, ap (λ (e : End T). length e.items) (h.behind count d (omega arith)))
+      omega (arith, room count d below, ap (λ (e : End T). length e.items) (h.following count d (omega arith)))

@@ -47,7 +47,7 @@ module _ {T : Type 0} where
   items_snoc (b ∷ bs) x = ap (λ l. bundle_items b ++ l) (items_snoc bs x) ∙ sym (append_assoc (bundle_items b) (items_of bs) (bundle_items x))
 
   -- sending: one more bundle was put, and waits after the others
-  pub sends : (n pass : ℕ) (v : PipeLog T) (x : Bundle T) → v.puts ≡ true → length v.put + length x.behind.items < most_items
+  pub sends : (n pass : ℕ) (v : PipeLog T) (x : Bundle T) → v.puts ≡ true → length v.put + length x.following.items < most_items
       → Pushes Piped n pass v x (IsPut v x)
   sends n pass v x may room items views _ h at =
       let w : PipeLog T = log v.puts v.takes (v.put ++ bundle_items x) v.taken in

@@ -7,7 +7,7 @@ use Rattle.std.proofs.lemmas.Grind.{flat_map-append}
 use Rattle.std.proofs.lemmas.List.{length-map}
 use Rattle.std.proofs.lemmas.List.Kept.{AllPairs-filter}
 use Rattle.std.proofs.lemmas.Option.{same_Some, slice_get-map}
-use Rattle.cqf_lists.proofs.Members.{contains_at, contains_cases, contains_later, contains_none, place_of_member}
+use Rattle.cqf_lists.proofs.Members.{contains_at, contains_cases, contains_later, contains_none, index_of_member}
 use Rattle.cqf_lists.proofs.Numbers.{numbers_ascend}
 use Rattle.cqf_lists.proofs.Pairs.{one_of_pairs, pairs_from_map, pairs_head, pairs_tail}
 use Rattle.cqf_model.specs.Domain.{Domain, enters, leaves}
@@ -56,7 +56,7 @@ as_long f g xs ys same = sym (length-map xs f) ∙ ap length same ∙ length-map
 -- a member of a list with one element replaced is the new element, or was a member before
 pub member_of_set : {X : Type 0} (xs : List X) (k : ℕ) (y x : X) → Contains (set xs k y) x → (x ≡ y) ⊎ Contains xs x
 member_of_set {X} xs k y x held =
-    let at = place_of_member (set xs k y) x held in
+    let at = index_of_member (set xs k y) x held in
     stands xs k at.0 at.1
   where
     -- the element at an index is the new one, or was there before

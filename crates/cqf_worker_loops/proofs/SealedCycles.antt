@@ -5,7 +5,7 @@ use Rattle.std.specs.Prelude.{All, true, drop, replicate, slice_get, take}
 use Rattle.std.proofs.lemmas.List.{length-append, length-map, map-append, replicate-append-replicate}
 use Rattle.std.proofs.lemmas.Bool.{false≢true}
 use Rattle.std.proofs.lemmas.Option.{same_Some}
-use Rattle.cqf_lists.proofs.Places.{slice_get_behind}
+use Rattle.cqf_lists.proofs.Indices.{slice_get_after}
 use Rattle.cqf_model.specs.History.{Act, Recorded, Seals}
 use Rattle.cqf_model.specs.Calls.{acts_of}
 use Rattle.cqf_admission.specs.declared.entries.SealFault.{SealFault}
@@ -38,9 +38,9 @@ pub seals_one : (old new : Sitting) (table last copy : CycleTable) → new ≡ w
     copy ≡ last → SealsOne old new copy
 seals_one old new table last copy is newest copied =
     let tables : new.tables ≡ old.tables ++ table ∷ [] = ap (λ (s : Sitting). s.tables) is in
-    let place : length new.tables - 1 ≡ length old.tables = omega (arith, ap length tables, length-append old.tables (table ∷ [])) in
+    let index : length new.tables - 1 ≡ length old.tables = omega (arith, ap length tables, length-append old.tables (table ∷ [])) in
     let there : slice_get new.tables (length new.tables - 1) ≡ Some table =
-    ap (λ (ts : List CycleTable). slice_get ts (length new.tables - 1)) tables ∙ slice_get_behind old.tables table [] (length new.tables - 1) place in
+    ap (λ (ts : List CycleTable). slice_get ts (length new.tables - 1)) tables ∙ slice_get_after old.tables table [] (length new.tables - 1) index in
     let same : copy ≡ table = copied ∙ same_Some last table (newest ∙ there) in
     subst (SealsOne old new) (sym same) (seals_as old new table is)
 
@@ -50,7 +50,7 @@ seals_nothing seat tables none = record {
   number = refl;
   acts = sym (append-nil (acts_of seat.calls));
   many = ap length none;
-  behind = sym (append-nil seat.tables) ∙ ap (λ (ts : List CycleTable). seat.tables ++ ts) (sym none);
+  following = sym (append-nil seat.tables) ∙ ap (λ (ts : List CycleTable). seat.tables ++ ts) (sym none);
 }
 
 -- one more Seal, with its table
@@ -61,7 +61,7 @@ seals_more count old now new tables table many one = record {
   acts = one.acts ∙ ap (λ (acts : List Act). acts ++ Seals ∷ []) many.acts ∙ append_assoc (acts_of old.calls) (replicate count Seals) (Seals ∷ [])
       ∙ ap (λ (acts : List Act). acts_of old.calls ++ acts) (replicate-append-replicate count 1 Seals);
   many = length-append tables (table ∷ []) ∙ ap (λ (n : ℕ). n + 1) many.many;
-  behind = one.tables ∙ ap (λ (ts : List CycleTable). ts ++ table ∷ []) many.behind ∙ append_assoc old.tables tables (table ∷ []);
+  following = one.tables ∙ ap (λ (ts : List CycleTable). ts ++ table ∷ []) many.following ∙ append_assoc old.tables tables (table ∷ []);
 }
 
 -- some cycles are closed, and then more
@@ -73,17 +73,17 @@ seals_on count more old now new tables others one other = record {
       ∙ append_assoc (acts_of old.calls) (replicate count Seals) (replicate more Seals)
       ∙ ap (λ (acts : List Act). acts_of old.calls ++ acts) (replicate-append-replicate count more Seals);
   many = omega (arith, length-append tables others, one.many, other.many);
-  behind = other.behind ∙ ap (λ (ts : List CycleTable). ts ++ others) one.behind ∙ append_assoc old.tables tables others;
+  following = other.following ∙ ap (λ (ts : List CycleTable). ts ++ others) one.following ∙ append_assoc old.tables tables others;
 }
 
 -- one cycle alone is closed
 seals_first : (old new : Sitting) (table : CycleTable) → SealsOne old new table → SealsMany 1 old new (table ∷ [])
-seals_first old new table one = record { number = one.number; acts = one.acts; many = refl; behind = one.tables }
+seals_first old new table one = record { number = one.number; acts = one.acts; many = refl; following = one.tables }
 
 -- one cycle is closed, and then the others
-pub seals_behind : (count : ℕ) (old now new : Sitting) (table : CycleTable) (tables : List CycleTable) → 0 < count → SealsOne old now table →
+pub seals_after : (count : ℕ) (old now new : Sitting) (table : CycleTable) (tables : List CycleTable) → 0 < count → SealsOne old now table →
     SealsMany (count - 1) now new tables → SealsMany count old new (table ∷ tables)
-seals_behind count old now new table tables some one many =
+seals_after count old now new table tables some one many =
     let all : 1 + (count - 1) ≡ count = omega (arith, some) in
     subst (λ (n : ℕ). SealsMany n old new (table ∷ tables)) all (seals_on 1 (count - 1) old now new (table ∷ []) tables (seals_first old now table one) many)
 
@@ -144,9 +144,9 @@ some_first count old new fault some few =
     some_on 0 1 count old old new [] fault (seals_nothing old [] refl) some (omega (arith, few))
 
 -- or only some of the later ones are
-pub some_behind : (count : ℕ) (old now new : Sitting) (table : CycleTable) (fault : SealingFault) → SealsOne old now table →
+pub some_after : (count : ℕ) (old now new : Sitting) (table : CycleTable) (fault : SealingFault) → SealsOne old now table →
     SealsSome (count - 1) now new fault → 0 < count → SealsSome count old new fault
-some_behind count old now new table fault one some few =
+some_after count old now new table fault one some few =
     some_on 1 (count - 1) count old now new (table ∷ []) fault (seals_first old now table one) some (omega (arith, few))
 
 -- the cycles so far are closed, and if all workers were there, each has their tables
@@ -155,8 +155,8 @@ pub record IsSealing (seat : Sitting) (ends : List TableEnd) (count : ℕ) (now 
   pub acts : acts_of now.calls ≡ replicate count Seals
   pub many : length now.tables ≡ count
   pub pipes : pipes_of after ≡ pipes_of ends
-  pub put : (place : ℕ) (d : TableEnd) → place < length after → HasItems (get_or after place d) × (length (get_or after place d).items ≤ count)
-  pub given : all ≡ true → (place : ℕ) (d : TableEnd) → place < length after → (get_or after place d).items ≡ map Item now.tables
+  pub put : (index : ℕ) (d : TableEnd) → index < length after → HasItems (get_or after index d) × (length (get_or after index d).items ≤ count)
+  pub given : all ≡ true → (index : ℕ) (d : TableEnd) → index < length after → (get_or after index d).items ≡ map Item now.tables
   pub lacks : all ≡ false → LacksOne after count
 
 -- none at first
@@ -167,8 +167,8 @@ seals_none seat ends no_calls no_tables nothing = record {
   acts = ap acts_of no_calls;
   many = ap length no_tables;
   pipes = refl;
-  put = λ place d inside. (([], nothing place d inside), omega (arith, ap length (nothing place d inside)));
-  given = λ all place d inside. nothing place d inside ∙ sym (ap (map Item) no_tables);
+  put = λ index d inside. (([], nothing index d inside), omega (arith, ap length (nothing index d inside)));
+  given = λ all index d inside. nothing index d inside ∙ sym (ap (map Item) no_tables);
   lacks = λ is. absurd (false≢true (sym is));
 }
 
@@ -178,27 +178,27 @@ as_many before after pipes =
     sym (length-map after (λ (e : TableEnd). e.pipe)) ∙ ap length pipes ∙ length-map before (λ (e : TableEnd). e.pipe)
 
 -- tables were put for some workers, or none
-more_put : (more : ℕ) (after later : List TableEnd) → GivesTables more after later → (place : ℕ) (d : TableEnd) → place < length after →
-    HasItems (get_or after place d) → HasItems (get_or later place d) × (length (get_or later place d).items ≤ length (get_or after place d).items + more)
-more_put more after later gives place d below was =
+more_put : (more : ℕ) (after later : List TableEnd) → GivesTables more after later → (index : ℕ) (d : TableEnd) → index < length after →
+    HasItems (get_or after index d) → HasItems (get_or later index d) × (length (get_or later index d).items ≤ length (get_or after index d).items + more)
+more_put more after later gives index d below was =
     elim gives [
       | inl same ↦
-          let is : get_or later place d ≡ get_or after place d = ap (λ (es : List TableEnd). get_or es place d) same in
+          let is : get_or later index d ≡ get_or after index d = ap (λ (es : List TableEnd). get_or es index d) same in
           (subst HasItems (sym is) was, omega (arith, ap (λ (e : TableEnd). length e.items) is))
       | inr some ↦
-          let then = items_or_none (get_or after place d) (get_or later place d) some.0 was (some.2 place d below) in
+          let then = items_or_none (get_or after index d) (get_or later index d) some.0 was (some.2 index d below) in
           (then.0, omega (arith, then.1, some.1))
     ]
 
 -- and so after the cycles before
 table_put : (seat : Sitting) (ends : List TableEnd) (count more : ℕ) (now : Sitting) (after later : List TableEnd) (all : Bool) →
-    IsSealing seat ends count now after all → pipes_of later ≡ pipes_of after → GivesTables more after later → (place : ℕ) (d : TableEnd) →
-    place < length later →
-    HasItems (get_or later place d) × (length (get_or later place d).items ≤ count + more)
-table_put seat ends count more now after later all s pipes gives place d inside =
-    let below : place < length after = omega (arith, inside, as_many after later pipes) in
-    let was = s.put place d below in
-    let then = more_put more after later gives place d below was.0 in
+    IsSealing seat ends count now after all → pipes_of later ≡ pipes_of after → GivesTables more after later → (index : ℕ) (d : TableEnd) →
+    index < length later →
+    HasItems (get_or later index d) × (length (get_or later index d).items ≤ count + more)
+table_put seat ends count more now after later all s pipes gives index d inside =
+    let below : index < length after = omega (arith, inside, as_many after later pipes) in
+    let was = s.put index d below in
+    let then = more_put more after later gives index d below was.0 in
     (then.0, omega (arith, then.1, was.1))
 
 -- if an end lacked a table, or lacks one now, it lacks one after count more cycles
@@ -226,40 +226,40 @@ lacks_next seat ends count more now next after later all given have s pipes give
 pub stop_room : (seat : Sitting) (ends : List TableEnd) (count more : ℕ) (now : Sitting) (after later : List TableEnd) (all : Bool) →
     IsSealing seat ends count now after all → pipes_of later ≡ pipes_of after → GivesTables more after later → count + more ≤ 100000 →
     All (λ (e : TableEnd). length e.items < most_items) later
-stop_room seat ends count more now after later all s pipes gives few place d inside =
-    omega (arith, (table_put seat ends count more now after later all s pipes gives place d inside).1, few)
+stop_room seat ends count more now after later all s pipes gives few index d inside =
+    omega (arith, (table_put seat ends count more now after later all s pipes gives index d inside).1, few)
 
 -- and tables were put, and then at most one Stop
 then_stopped : (seat : Sitting) (ends : List TableEnd) (count more : ℕ) (now : Sitting) (after later last : List TableEnd) (all : Bool) →
     IsSealing seat ends count now after all → pipes_of later ≡ pipes_of after → GivesTables more after later → pipes_of last ≡ pipes_of later →
     GivesSome (Stop ∷ []) later last → All (λ (e : TableEnd). AreItemsThenStop e.items) last
-then_stopped seat ends count more now after later last all s pipes gives same stopped place d inside =
-    let below : place < length later = omega (arith, inside, as_many later last same) in
-    items_then_stop (get_or later place d) (get_or last place d) (table_put seat ends count more now after later all s pipes gives place d below).0
-    (stopped place d below)
+then_stopped seat ends count more now after later last all s pipes gives same stopped index d inside =
+    let below : index < length later = omega (arith, inside, as_many later last same) in
+    items_then_stop (get_or later index d) (get_or last index d) (table_put seat ends count more now after later all s pipes gives index d below).0
+    (stopped index d below)
 
 -- the same of ends that are written back
-pub told_stop : (seat : Sitting) (ends : List TableEnd) (count more : ℕ) (now : Sitting) (after first later before last : List TableEnd) (n : ℕ) (all : Bool) →
+pub reported_stop : (seat : Sitting) (ends : List TableEnd) (count more : ℕ) (now : Sitting) (after first later before last : List TableEnd) (n : ℕ) (all : Bool) →
     IsSealing seat ends count now after all → n ≡ length after → first ≡ after → pipes_of later ≡ pipes_of first → GivesTables more first later →
     before ≡ take n (later ++ drop (length later) after) → pipes_of last ≡ pipes_of before → GivesSome (Stop ∷ []) before last →
     All (λ (e : TableEnd). AreItemsThenStop e.items) (take n (last ++ drop (length last) (take n (later ++ drop (length later) after))))
-told_stop seat ends count more now after first later before last n all s many is pipes gives was same stopped =
+reported_stop seat ends count more now after first later before last n all s many is pipes gives was same stopped =
     let pipes_then : pipes_of later ≡ pipes_of after = pipes ∙ ap pipes_of is in
     let back : take n (later ++ drop (length later) after) ≡ later = written_back later after n (as_many after later pipes_then) many in
-    let told : before ≡ later = was ∙ back in
-    let pipes_last : pipes_of last ≡ pipes_of later = same ∙ ap pipes_of told in
+    let reported : before ≡ later = was ∙ back in
+    let pipes_last : pipes_of last ≡ pipes_of later = same ∙ ap pipes_of reported in
     let back_again : take n (last ++ drop (length last) (take n (later ++ drop (length later) after))) ≡ last =
     ap (λ (old : List TableEnd). take n (last ++ drop (length last) old)) back
     ∙ written_back last later n (as_many later last pipes_last) (many ∙ sym (as_many after later pipes_then)) in
     subst (All (λ (e : TableEnd). AreItemsThenStop e.items)) (sym back_again)
     (then_stopped seat ends count more now after later last all s pipes_then (subst (λ (old : List TableEnd). GivesTables more old later) is gives) pipes_last
-    (subst (λ (old : List TableEnd). GivesSome (Stop ∷ []) old last) told stopped))
+    (subst (λ (old : List TableEnd). GivesSome (Stop ∷ []) old last) reported stopped))
 
 -- if all cycles are closed, none is left
 pub none_stopped : (seat : Sitting) (ends : List TableEnd) (count : ℕ) (now : Sitting) (after : List TableEnd) (all : Bool) →
     IsSealing seat ends count now after all → All (λ (e : TableEnd). AreItemsThenStop e.items) after
-none_stopped seat ends count now after all s place d inside =
-    let items : HasItems (get_or after place d) = (s.put place d inside).0 in
+none_stopped seat ends count now after all s index d inside =
+    let items : HasItems (get_or after index d) = (s.put index d inside).0 in
     (items.0, inl items.1)
 
 -- whether all have their tables, by whether they had the earlier ones and were given these
@@ -277,13 +277,13 @@ seals_next seat ends count more now next after later all given have s pipes give
     record {
       number = sealed.number ∙ s.number;
       acts = sealed.acts ∙ ap (λ (acts : List Act). acts ++ replicate more Seals) s.acts ∙ replicate-append-replicate count more Seals;
-      many = ap length sealed.behind ∙ length-append now.tables block.tables ∙ omega (arith, s.many, sealed.many);
+      many = ap length sealed.following ∙ length-append now.tables block.tables ∙ omega (arith, s.many, sealed.many);
       pipes = pipes ∙ s.pipes;
       put = table_put seat ends count more now after later all s pipes gives;
-      given = λ is place d inside.
-          block.given (then.had is).1 place d (omega (arith, inside, same))
-          ∙ ap (λ (xs : List (Carried CycleTable)). xs ++ map Item block.tables) (s.given (then.had is).0 place d (omega (arith, inside, same)))
-          ∙ sym (ap (map Item) sealed.behind ∙ map-append Item now.tables block.tables);
+      given = λ is index d inside.
+          block.given (then.had is).1 index d (omega (arith, inside, same))
+          ∙ ap (λ (xs : List (Carried CycleTable)). xs ++ map Item block.tables) (s.given (then.had is).0 index d (omega (arith, inside, same)))
+          ∙ sym (ap (map Item) sealed.following ∙ map-append Item now.tables block.tables);
       lacks = lacks_next seat ends count more now next after later all given have s pipes gives block some then.lack;
     }
 
@@ -303,7 +303,7 @@ seals_back seat ends count more now next after first later n all given have s ma
 -- each end has room for what is still to be put
 pub seals_room : (seat : Sitting) (ends : List TableEnd) (count more : ℕ) (now : Sitting) (after : List TableEnd) (all : Bool) →
     IsSealing seat ends count now after all → count + more ≤ 100000 → All (λ (e : TableEnd). length e.items + more < most_items) after
-seals_room seat ends count more now after all s few place d inside = omega (arith, (s.put place d inside).1, few)
+seals_room seat ends count more now after all s few index d inside = omega (arith, (s.put index d inside).1, few)
 
 -- at the end all cycles are closed
 pub seals_all : (seat : Sitting) (ends : List TableEnd) (cycles : ℕ) (now : Sitting) (after : List TableEnd) (all : Bool) →
@@ -326,7 +326,7 @@ closes_some seat ends count more cycles now next after all fault s some few =
       closed = record {
         number = sealed.number ∙ s.number;
         acts = sealed.acts ∙ ap (λ (acts : List Act). acts ++ replicate some.closed Seals) s.acts ∙ replicate-append-replicate count some.closed Seals;
-        many = ap length sealed.behind ∙ length-append now.tables some.tables ∙ omega (arith, s.many, sealed.many);
+        many = ap length sealed.following ∙ length-append now.tables some.tables ∙ omega (arith, s.many, sealed.many);
       };
       upto = omega (arith, some.upto, few);
       spent = λ is. omega (arith, some.spent is, few);

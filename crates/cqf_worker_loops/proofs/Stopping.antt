@@ -44,20 +44,20 @@ module _ {T : Type 0} where
   -- and at each of several
   ports_then_stop : (before after : List (LinkEnd (End (Carried T)))) → length after ≡ length before → AreStopped before after → All CarriesItems before
       → All (λ (port : LinkEnd (End (Carried T))). AreItemsThenStop port.pipe.items) after
-  ports_then_stop before after many stopped items place d below =
-      port_then_stop (get_or before place d) (get_or after place d) (items place d (omega (arith, below, many)))
-      (stopped place d (omega (arith, below, many)))
+  ports_then_stop before after many stopped items index d below =
+      port_then_stop (get_or before index d) (get_or after index d) (items index d (omega (arith, below, many)))
+      (stopped index d (omega (arith, below, many)))
 
   -- the same of ports that are written back
-  pub told_at_each : (ports first now : List (LinkEnd (End (Carried T)))) (n : ℕ) → n ≡ length ports → first ≡ ports → length now ≡ length first
+  pub reported_at_each : (ports first now : List (LinkEnd (End (Carried T)))) (n : ℕ) → n ≡ length ports → first ≡ ports → length now ≡ length first
       → AreStopped first now → All CarriesItems ports → AreStopped ports (take n (now ++ drop (length now) ports))
       × All (λ (port : LinkEnd (End (Carried T))). AreItemsThenStop port.pipe.items) (take n (now ++ drop (length now) ports))
-  told_at_each ports first now n many is same stopped items =
+  reported_at_each ports first now n many is same stopped items =
       let all : length now ≡ length ports = same ∙ ap length is in
       let back : take n (now ++ drop (length now) ports) ≡ now = written_back now ports n all many in
-      let told : AreStopped ports now = subst (λ (old : List (LinkEnd (End (Carried T)))). AreStopped old now) is stopped in (
-        subst (AreStopped ports) (sym back) told,
-        subst (All (λ (port : LinkEnd (End (Carried T))). AreItemsThenStop port.pipe.items)) (sym back) (ports_then_stop ports now all told items),
+      let reported : AreStopped ports now = subst (λ (old : List (LinkEnd (End (Carried T)))). AreStopped old now) is stopped in (
+        subst (AreStopped ports) (sym back) reported,
+        subst (All (λ (port : LinkEnd (End (Carried T))). AreItemsThenStop port.pipe.items)) (sym back) (ports_then_stop ports now all reported items),
       )
 
   -- a port at which a Stop was put, or nothing, still has its wire
@@ -76,7 +76,7 @@ module _ {T : Type 0} where
   wires_kept (p ∷ before) (q ∷ after) same stopped =
       let first : wire_at q ≡ wire_at p = wire_kept p q (stopped 0 p (omega arith)) in
       let rest : wires_of after ≡ wires_of before = wires_kept before after (omega (arith, same))
-      (λ place d below. stopped (suc place) d (omega (arith, below))) in
+      (λ index d below. stopped (suc index) d (omega (arith, below))) in
       λ i. first i ∷ rest i
 
   -- the same of ports that are written back

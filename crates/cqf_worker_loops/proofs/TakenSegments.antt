@@ -24,20 +24,20 @@ use Rattle.cqf_worker_loops.proofs.Ports.{IsPartner, ascend_by, end_more, frames
 use Rattle.cqf_worker_loops.proofs.Stopping.{CarriesItems, items_and_one}
 use Rattle.cqf_worker_loops.proofs.UnderWay.{handed_still, takes_under_way}
 
-module _ (t : Offering) (number place : ℕ) (before after : Worker) (port : SegmentPort) (segment : Segment)
-    (there : slice_get before.ins.items place ≡ Some port) (ins : after.ins.items ≡ set before.ins.items place (with_item_at port (Item segment)))
-    (takes : TakesSegment place segment before.relay after.relay) (agenda : after.agenda ≡ before.agenda) (tables : after.tables.items ≡ before.tables.items)
-    (outs : after.outs.items ≡ before.outs.items) (way : IsUnderWay t number before) where
+module _ (t : Offering) (number index : ℕ) (before after : Worker) (port : SegmentPort) (segment : Segment)
+    (there : slice_get before.ins.items index ≡ Some port) (ins : after.ins.items ≡ set before.ins.items index (with_item_at port (Item segment)))
+    (takes : TakesSegment index segment before.relay after.relay) (agenda : after.agenda ≡ before.agenda) (tables : after.tables.items ≡ before.tables.items)
+    (outs : after.outs.items ≡ before.outs.items) (under_way : IsUnderWay t number before) where
   -- what arrived through the link ends with the segment
   segment_by_link : segments_at after.ins.items port.link ≡ segments_at before.ins.items port.link ++ segment ∷ []
   segment_by_link =
       ap (λ (ports : List SegmentPort). segments_at ports port.link) ins
-      ∙ segments_at_own before.ins.items place port segment
-      (ascend_by link_of before.ins.items (links_into t.domain number) way.links_in (into_ascends t.domain number)) there
+      ∙ segments_at_own before.ins.items index port segment
+      (ascend_by link_of before.ins.items (links_into t.domain number) under_way.links_in (into_ascends t.domain number)) there
 
   -- and through each other link it is the same
   same_by_others : (l : ℕ) → (port.link ≡ l → ⊥) → segments_at after.ins.items l ≡ segments_at before.ins.items l
-  same_by_others l apart = ap (λ (ports : List SegmentPort). segments_at ports l) ins ∙ segments_at_other before.ins.items place port segment l there apart
+  same_by_others l apart = ap (λ (ports : List SegmentPort). segments_at ports l) ins ∙ segments_at_other before.ins.items index port segment l there apart
 
   -- the cycle up to which it arrived
   comes_upto : (k : ℕ) → end_of_segments 0 (segments_at after.ins.items k) ≡ (with_segment (come_to before) port.link segment).upto k
@@ -93,11 +93,11 @@ module _ (t : Offering) (number place : ℕ) (before after : Worker) (port : Seg
   -- so its bridge is in the state that follows from it
   stands_with_segment : MayHaveComeTo t after → HasComeSoFar t number after
   stands_with_segment may =
-      let so = way.come (may_before_segment may) in
-      let inlet : IsPartner link_of link_in before.relay.inlets.items place port =
-      partner link_of link_in before.ins.items before.relay.inlets.items place port (way.links_in ∙ sym way.inlets) there in
+      let so = under_way.come (may_before_segment may) in
+      let inlet : IsPartner link_of link_in before.relay.inlets.items index port =
+      partner link_of link_in before.ins.items before.relay.inlets.items index port (under_way.links_in ∙ sym under_way.inlets) there in
       let upto : inlet.other.upto ≡ end_of_segments 0 (segments_at before.ins.items port.link) =
-      (all_at (IsInletOf (come_to before) so.stands.least) before.relay.inlets.items place inlet.other so.stands.inlets inlet.there).upto
+      (all_at (IsInletOf (come_to before) so.stands.least) before.relay.inlets.items index inlet.other so.stands.inlets inlet.there).upto
       ∙ ap (λ (l : ℕ). end_of_segments 0 (segments_at before.ins.items l)) inlet.alike in
       let next : IsNextSegment inlet.other.upto segment = subst (λ (n : ℕ). IsNextSegment n segment) (sym upto) (segment_may_come may).1 in
       let stands : StandsSo t.domain (with_segment (come_to before) port.link segment) so.sends after.relay =
@@ -108,7 +108,7 @@ module _ (t : Offering) (number place : ℕ) (before after : Worker) (port : Seg
       record {
         sends = so.sends;
         stands = subst (λ (come : Come). StandsSo t.domain come so.sends after.relay) (sym come_with_segment) stands;
-        handed = handed_still t before after takes.same (ap (λ outlets. map (λ (outlet : Outlet). outlet.told) outlets.items) takes.outlets_same) outs so.sends
+        handed = handed_still t before after takes.same (ap (λ outlets. map (λ (outlet : Outlet). outlet.reported) outlets.items) takes.outlets_same) outs so.sends
             so.sends (λ _ _ _ _. refl) so.handed;
         drops = subst (λ (come : Come). AreDropsOf t.domain number come after.relay.tables after.relay.edge.drops.items) (sym come_with_segment)
             (subst (λ (n : ℕ). AreDropsOf t.domain number (with_segment (come_to before) port.link segment) n after.relay.edge.drops.items) (sym takes.tables_same)
@@ -121,31 +121,31 @@ module _ (t : Offering) (number place : ℕ) (before after : Worker) (port : Seg
   segment_under_way = takes_under_way t number before after
       (record {
         stays = takes.same;
-        told = ap (λ outlets. map (λ (outlet : Outlet). outlet.told) outlets.items) takes.outlets_same;
+        reported = ap (λ outlets. map (λ (outlet : Outlet). outlet.reported) outlets.items) takes.outlets_same;
         outs = outs;
         agenda = agenda;
-        links_in = ap (map link_of) ins ∙ map_kept link_of before.ins.items place port (with_item_at port (Item segment)) there refl;
+        links_in = ap (map link_of) ins ∙ map_kept link_of before.ins.items index port (with_item_at port (Item segment)) there refl;
         tables = λ items. subst AreItems (sym tables) items;
         taken = λ taken. takes.tables_same ∙ taken ∙ ap (λ carried. length (items_in carried)) (sym tables);
-        early = omega (arith, takes.tables_same, way.early);
+        early = omega (arith, takes.tables_same, under_way.early);
         ins = λ items. subst (All CarriesItems) (sym ins)
-            (All-set CarriesItems before.ins.items place (with_item_at port (Item segment))
-            (items_and_one port.pipe.items segment (all_at CarriesItems before.ins.items place port items there)) items);
-      }) way stands_with_segment
+            (All-set CarriesItems before.ins.items index (with_item_at port (Item segment))
+            (items_and_one port.pipe.items segment (all_at CarriesItems before.ins.items index port items there)) items);
+      }) under_way stands_with_segment
 
 -- a worker goes on if its bridge takes what arrived
-pub goes_with_segment : (place : ℕ) (before after : Worker) (port : SegmentPort) (segment : Segment) → slice_get before.ins.items place ≡ Some port →
-    after.ins.items ≡ set before.ins.items place (with_item_at port (Item segment)) → TakesSegment place segment before.relay after.relay →
+pub goes_with_segment : (index : ℕ) (before after : Worker) (port : SegmentPort) (segment : Segment) → slice_get before.ins.items index ≡ Some port →
+    after.ins.items ≡ set before.ins.items index (with_item_at port (Item segment)) → TakesSegment index segment before.relay after.relay →
     after.agenda ≡ before.agenda → after.tables ≡ before.tables → after.outs ≡ before.outs → GoesFurther before after
-goes_with_segment place before after port segment there ins takes agenda tables outs = record {
+goes_with_segment index before after port segment there ins takes agenda tables outs = record {
   same = record {
     number = takes.same.number;
     cycles = takes.same.cycles;
     agenda = agenda;
     tables = ap (λ end. end.pipe) tables;
-    ins = ap wires_of ins ∙ wires_with before.ins.items place port segment there;
+    ins = ap wires_of ins ∙ wires_with before.ins.items index port segment there;
     outs = ap (λ ports. wires_of ports.items) outs;
   };
-  way = λ t number.
-      segment_under_way t number place before after port segment there ins takes agenda (ap (λ end. end.items) tables) (ap (λ ports. ports.items) outs);
+  under_way = λ t number.
+      segment_under_way t number index before after port segment there ins takes agenda (ap (λ end. end.items) tables) (ap (λ ports. ports.items) outs);
 }

@@ -17,11 +17,11 @@ use Rattle.cqf_model.specs.declared.frames.Offered.{Offered}
 use Rattle.cqf_model.specs.declared.topology.Row.{Row}
 use Rattle.cqf_model.specs.Domain.{Domain, budget}
 use Rattle.cqf_model.specs.Table.{AreOrderly, link_cost, table_of}
-use Rattle.cqf_model.specs.Traffic.{is_offered_at, numbered}
+use Rattle.cqf_model.specs.Policing.{is_offered_at, numbered}
 use Rattle.cqf_admission.specs.Tables.{CycleTable}
 use Rattle.cqf_bridge.specs.Agenda.{AgendaOf, offers_listed_at}
 use Rattle.cqf_relay.specs.Segments.{AreNextSegments}
-use Rattle.cqf_relay.specs.Offering.{IsOfCycle, dropped_behind}
+use Rattle.cqf_relay.specs.Offering.{IsOfCycle, dropped_after}
 use Rattle.cqf_relay.specs.Standing.{AreOfCycle, Come, MayBeTables, StandsSo, TakesTable, offers_in, with_table}
 use Rattle.cqf_worker_loops.specs.declared.carried.Carried.{Carried}
 use Rattle.cqf_worker_loops.specs.declared.carried.Carried.TheVariants.{Item}
@@ -100,15 +100,16 @@ module _ (xs : List (List Row)) (last : List Row) where
         stays = λ cycle later row held live from upto inside.
             let s = may.orderly.stays cycle later row (row_there cycle row held).1 live from upto (omega (arith, inside, length-append xs (last ∷ []))) in
             (s.0, subst (λ (rows : List Row). Contains rows s.0) (early_table later inside) s.1, s.2);
-        loads = λ cycle l turn inside.
-            held_before (λ (rows : List Row). link_cost rows l turn ≤ budget d l) cycle (omega arith) (may.orderly.loads cycle l turn inside);
+        loads = λ cycle l active_cycle inside.
+            held_before (λ (rows : List Row). link_cost rows l active_cycle ≤ budget d l) cycle (omega arith) (may.orderly.loads cycle l active_cycle inside);
+        overheads = λ cycle row held. may.orderly.overheads cycle row (row_there cycle row held).1;
       } in
       record {
         orderly = orderly;
         by_number = λ cycle.
             held_before (AllPairs (λ (row other : Row). row.no < other.no)) cycle (pairs_none (λ (row other : Row). row.no < other.no)) (may.by_number cycle);
-        behind = λ cycle later row other less here there new.
-            may.behind cycle later row other less (row_there cycle row here).1 (row_there later other there).1 (λ before early.
+        following = λ cycle later row other less here there new.
+            may.following cycle later row other less (row_there cycle row here).1 (row_there later other there).1 (λ before early.
             ap (list_any (λ (it : Row). it.no == other.no)) (early_table before (omega (arith, early, (row_there later other there).0))) ∙ new before early);
       }
 
@@ -117,7 +118,7 @@ module _ (xs : List (List Row)) (last : List Row) where
 -- the drops of one more cycle follow those before
 pub drops_more : (d : Domain) (number : ℕ) (come : Come) (table : List Row) (offers : List Offered) (cycles : ℕ) (drops fresh : List Dropped) →
     length come.tables ≡ cycles → length come.offers ≡ cycles → AreDropsOf d number come cycles drops →
-    IsPermutation (dropped_behind d number cycles table [] offers) fresh → IsNonDecreasingBy (λ (x : Dropped). x.frame) fresh →
+    IsPermutation (dropped_after d number cycles table [] offers) fresh → IsNonDecreasingBy (λ (x : Dropped). x.frame) fresh →
     AreDropsOf d number (with_table come table offers) (cycles + 1) (drops ++ fresh)
 drops_more d number come table offers cycles drops fresh many long was own up =
     let all : ℕ → List Dropped = λ cycle. if cycle == cycles then fresh else was.fresh cycle in
@@ -125,7 +126,7 @@ drops_more d number come table offers cycles drops fresh many long was own up =
     let before : (cycle : ℕ) → cycle < cycles → all cycle ≡ was.fresh cycle = λ cycle early.
     cond-false (cycle == cycles) fresh (was.fresh cycle) (ne_eqb cycle cycles (λ same. omega (arith, same, early))) in
     let own_there : fresh ≡ all cycles = sym at_own in
-    let so : ℕ → List Row → List Offered → List Dropped → Type 0 = λ cycle rows xs made. IsPermutation (dropped_behind d number cycle rows [] xs) made in
+    let so : ℕ → List Row → List Offered → List Dropped → Type 0 = λ cycle rows xs made. IsPermutation (dropped_after d number cycle rows [] xs) made in
     let old : drops ≡ each_below all cycles = was.are ∙ sym (same_below all was.fresh cycles before) in
     record {
       fresh = all;
@@ -165,7 +166,7 @@ drops_more d number come table offers cycles drops fresh many long was own up =
 module _ (t : Offering) (number : ℕ) (table : CycleTable) (older after : Worker) (offers : List Offered)
     (takes : TakesTable table.rows offers older.relay after.relay) (listed : offers ≡ offers_listed_at older.agenda older.relay.tables)
     (agenda : after.agenda ≡ older.agenda) (tables : after.tables.items ≡ older.tables.items ++ Item table ∷ [])
-    (ins : after.ins.items ≡ older.ins.items) (outs : after.outs.items ≡ older.outs.items) (way : IsUnderWay t number older) where
+    (ins : after.ins.items ≡ older.ins.items) (outs : after.outs.items ≡ older.outs.items) (under_way : IsUnderWay t number older) where
   -- one more table among the items
   one_table_more : items_in after.tables.items ≡ items_in older.tables.items ++ table ∷ []
   one_table_more = ap items_in tables ∙ items_in_more older.tables.items table
@@ -173,10 +174,10 @@ module _ (t : Offering) (number : ℕ) (table : CycleTable) (older after : Worke
   -- as many offer lists as tables
   as_many_offers : length (come_to older).offers ≡ older.relay.tables
   as_many_offers =
-      length-singles (λ cycle. offers_listed_at older.agenda cycle) (length (items_in older.tables.items)) ∙ sym way.tables_taken
+      length-singles (λ cycle. offers_listed_at older.agenda cycle) (length (items_in older.tables.items)) ∙ sym under_way.tables_taken
 
   as_many_tables : length (come_to older).tables ≡ older.relay.tables
-  as_many_tables = length-map (items_in older.tables.items) rows_in ∙ sym way.tables_taken
+  as_many_tables = length-map (items_in older.tables.items) rows_in ∙ sym under_way.tables_taken
 
   -- what has arrived now is the former with the table and the cycle's offers
   come_with_table : come_to after ≡ with_table (come_to older) table.rows offers
@@ -188,7 +189,7 @@ module _ (t : Offering) (number : ℕ) (table : CycleTable) (older after : Worke
       let count : length (items_in older.tables.items ++ table ∷ []) ≡ suc (length (items_in older.tables.items)) =
       length-append (items_in older.tables.items) (table ∷ []) ∙ add-one (length (items_in older.tables.items)) in
       let last : offers_listed_at older.agenda (length (items_in older.tables.items)) ≡ offers =
-      ap (offers_listed_at older.agenda) (sym way.tables_taken) ∙ sym listed in
+      ap (offers_listed_at older.agenda) (sym under_way.tables_taken) ∙ sym listed in
       let each : each_below (λ cycle. offers_listed_at older.agenda cycle ∷ []) (length (items_in older.tables.items ++ table ∷ []))
       ≡ (come_to older).offers ++ offers ∷ [] =
       ap (each_below (λ cycle. offers_listed_at older.agenda cycle ∷ [])) count
@@ -206,11 +207,11 @@ module _ (t : Offering) (number : ℕ) (table : CycleTable) (older after : Worke
   -- so its bridge is in the state that follows from it
   stands_with_table : MayHaveComeTo t after → HasComeSoFar t number after
   stands_with_table may =
-      let before = way.come (may_before_table may) in
+      let before = under_way.come (may_before_table may) in
       let can : MayBeTables t.domain ((come_to older).tables ++ table.rows ∷ []) =
       subst (λ (come : Come). MayBeTables t.domain come.tables) come_with_table may.tables in
-      let fresh : IsPermutation (dropped_behind t.domain number older.relay.tables table.rows [] offers) takes.fresh =
-      subst (λ (n : ℕ). IsPermutation (dropped_behind t.domain n older.relay.tables table.rows [] offers) takes.fresh) way.number_is
+      let fresh : IsPermutation (dropped_after t.domain number older.relay.tables table.rows [] offers) takes.fresh =
+      subst (λ (n : ℕ). IsPermutation (dropped_after t.domain n older.relay.tables table.rows [] offers) takes.fresh) under_way.number_is
       (takes.are_drops t.domain (come_to older) before.sends before.stands can) in
       let drops : AreDropsOf t.domain number (with_table (come_to older) table.rows offers) (older.relay.tables + 1)
       (older.relay.edge.drops.items ++ takes.fresh) =
@@ -220,10 +221,10 @@ module _ (t : Offering) (number : ℕ) (table : CycleTable) (older after : Worke
         sends = before.sends;
         stands = subst (λ (come : Come). StandsSo t.domain come before.sends after.relay) (sym come_with_table)
             (takes.stands t.domain (come_to older) before.sends before.stands can);
-        handed = handed_still t older after takes.same takes.told_same outs before.sends before.sends (λ _ _ _ _. refl) before.handed;
+        handed = handed_still t older after takes.same takes.reported_same outs before.sends before.sends (λ _ _ _ _. refl) before.handed;
         drops = subst (λ (come : Come). AreDropsOf t.domain number come after.relay.tables after.relay.edge.drops.items) (sym come_with_table)
             (subst (λ (n : ℕ). AreDropsOf t.domain number (with_table (come_to older) table.rows offers) n after.relay.edge.drops.items) (sym takes.taken)
-            (subst (AreDropsOf t.domain number (with_table (come_to older) table.rows offers) (older.relay.tables + 1)) (sym takes.behind) drops));
+            (subst (AreDropsOf t.domain number (with_table (come_to older) table.rows offers) (older.relay.tables + 1)) (sym takes.following) drops));
       }
 
   -- and it is under way with it
@@ -231,7 +232,7 @@ module _ (t : Offering) (number : ℕ) (table : CycleTable) (older after : Worke
   table_under_way early = takes_under_way t number older after
       (record {
         stays = takes.same;
-        told = takes.told_same;
+        reported = takes.reported_same;
         outs = outs;
         agenda = agenda;
         links_in = ap (map link_of) ins;
@@ -240,14 +241,14 @@ module _ (t : Offering) (number : ℕ) (table : CycleTable) (older after : Worke
             takes.taken ∙ ap (λ (n : ℕ). n + 1) taken ∙ sym (ap length one_table_more ∙ length-append (items_in older.tables.items) (table ∷ []));
         early = omega (arith, takes.taken, early);
         ins = subst (All CarriesItems) (sym ins);
-      }) way stands_with_table
+      }) under_way stands_with_table
 
 -- a worker that has taken its table goes on if its bridge takes it
 pub entered : (t : Offering) (number : ℕ) (table : CycleTable) (older before after : Worker) (offers : List Offered) → IsUnderWay t number older →
     older.relay.tables < older.relay.cycles → before ≡ record older { tables = with_item older.tables (Item table) } →
     TakesTable table.rows offers before.relay after.relay → offers ≡ offers_listed_at before.agenda before.relay.tables →
     after.agenda ≡ before.agenda → after.tables ≡ before.tables → after.ins ≡ before.ins → after.outs ≡ before.outs → IsUnderWay t number after
-entered t number table older before after offers way early was takes listed agenda tables ins outs =
+entered t number table older before after offers under_way early was takes listed agenda tables ins outs =
     table_under_way t number table older after offers
     (subst (λ (w : Worker). TakesTable table.rows offers w.relay after.relay) was takes)
     (subst (λ (w : Worker). offers ≡ offers_listed_at w.agenda w.relay.tables) was listed)
@@ -255,7 +256,7 @@ entered t number table older before after offers way early was takes listed agen
     (ap (λ end. end.items) (tables ∙ ap (λ (w : Worker). w.tables) was))
     (ap (λ ports. ports.items) (ins ∙ ap (λ (w : Worker). w.ins) was))
     (ap (λ ports. ports.items) (outs ∙ ap (λ (w : Worker). w.outs) was))
-    way early
+    under_way early
 
 -- the offers that are listed for the cycle are of that cycle
 pub offers_entered : (w : Worker) (table : CycleTable) (offers : List Offered) (cycle : ℕ) → HasTable table w → cycle ≡ w.relay.tables →
@@ -286,8 +287,8 @@ enters_table table before after offers takes listed agenda tables ins outs = rec
   };
   tables = tables;
   taken = takes.taken;
-  way = λ t number older way early was.
-      entered t number table older before after offers way early was takes listed agenda tables ins outs;
+  under_way = λ t number older under_way early was.
+      entered t number table older before after offers under_way early was takes listed agenda tables ins outs;
 }
 
 -- ---- what a look at a pipe finds
@@ -322,7 +323,7 @@ goes_with_table table before after new wants is enters = record {
     ins = enters.same.ins;
     outs = enters.same.outs;
   };
-  way = λ t number way. enters.way t number before way wants (λ i. record before { tables = is i });
+  under_way = λ t number under_way. enters.under_way t number before under_way wants (λ i. record before { tables = is i });
 }
 
 -- and one that has found none is unchanged

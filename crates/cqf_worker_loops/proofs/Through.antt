@@ -8,7 +8,7 @@ use Rattle.std.proofs.lemmas.List.{get_or_past}
 use Rattle.std.proofs.lemmas.List.Elements.{All-contains, All-head, All-map, All-tail, All-weaker}
 use Rattle.std.proofs.lemmas.Simd.{map-map}
 use Rattle.cqf_lists.specs.Lists.{each_below}
-use Rattle.cqf_lists.proofs.Members.{all_from_members, contains_cases, contains_from_map, contains_none, place_of_member}
+use Rattle.cqf_lists.proofs.Members.{all_from_members, contains_cases, contains_from_map, contains_none, index_of_member}
 use Rattle.cqf_model.specs.declared.frames.Sent.{Sent}
 use Rattle.cqf_model.specs.Domain.{leaves}
 use Rattle.cqf_model.specs.Limits.{most_cycles}
@@ -60,8 +60,8 @@ module _ (t : Offering) (number : ℕ) (w : Worker) (few : w.relay.cycles ≤ mo
       All-contains (λ (it : Outlet). IsOutletOf t.domain w.relay.number nothing_yet [] it) w.relay.outlets.items o new.stands.outlets held
 
   -- or passed on
-  none_told : (o : Outlet) → Contains w.relay.outlets.items o → o.told ≡ 0
-  none_told o held = let at = link_at_first o held in omega (arith, at.handed, at.as_far)
+  none_reported : (o : Outlet) → Contains w.relay.outlets.items o → o.reported ≡ 0
+  none_reported o held = let at = link_at_first o held in omega (arith, at.handed, at.as_far)
 
   -- so it is under way
   pub begins_under_way : IsUnderWay t number w
@@ -83,7 +83,7 @@ module _ (t : Offering) (number : ℕ) (w : Worker) (few : w.relay.cycles ≤ mo
         ap (λ (wire : Wire). wire.onward) (link_at_first o held).wire);
     tidy = new.tidy;
     within = all_from_members (IsWithin w.relay.cycles) w.relay.outlets.items (λ o held. omega (arith, (link_at_first o held).as_far));
-    outs = λ port o here there same. unused_port port o (All-contains IsUnused w.outs.items port new.none_put here) (none_told o there);
+    outs = λ port o here there same. unused_port port o (All-contains IsUnused w.outs.items port new.none_put here) (none_reported o there);
     come = λ may. record {
       sends = λ l. [];
       stands = subst (λ (come : Come). StandsSo t.domain come (λ l. []) w.relay) (sym nothing_came) new.stands;
@@ -91,7 +91,7 @@ module _ (t : Offering) (number : ℕ) (w : Worker) (few : w.relay.cycles ≤ mo
         each = λ cycle goes.
             let made : List ArrivedFrame = map (came_in t.domain o.trace.link cycle) (batch_at [] cycle) in
             ap (λ segments. filter (is_in cycle) (all_frames segments)) (none_at w.outs.items o.trace.link new.none_put)
-            ∙ sym (cond-false (nat_lt cycle o.told) made [] (le-ltb cycle o.told (omega (arith, none_told o held))));
+            ∙ sym (cond-false (nat_lt cycle o.reported) made [] (le-ltb cycle o.reported (omega (arith, none_reported o held))));
       });
       drops = record {
         fresh = λ cycle. [];
@@ -103,7 +103,7 @@ module _ (t : Offering) (number : ℕ) (w : Worker) (few : w.relay.cycles ≤ mo
   }
     where
       -- through an unused port nothing was put
-      unused_port : (port : SegmentPort) (o : Outlet) → port.pipe.items ≡ [] → o.told ≡ 0 → HasPut o.told port
+      unused_port : (port : SegmentPort) (o : Outlet) → port.pipe.items ≡ [] → o.reported ≡ 0 → HasPut o.reported port
       unused_port port o unused untold = record {
         items = ([], unused);
         next = subst (λ carried. AreNextSegments 0 (items_in carried)) (sym unused) tt;
@@ -134,38 +134,38 @@ marks_of_link marks (o ∷ outlets) l all held = elim (cases_eq o.trace.link l) 
       ])
 ]
 
-module _ (t : Offering) (number : ℕ) (w done : Worker) (way : IsUnderWay t number w) (over : IsOver w.relay) (keeps : KeepsBridgeTrace w done)
+module _ (t : Offering) (number : ℕ) (w done : Worker) (under_way : IsUnderWay t number w) (over : IsOver w.relay) (keeps : KeepsBridgeTrace w done)
     (outs : done.outs.items ≡ w.outs.items) where
   -- it took each table
   all_tables : w.relay.tables ≡ w.relay.cycles
-  all_tables = omega (arith, way.early, over.tables)
+  all_tables = omega (arith, under_way.early, over.tables)
 
   -- each link has sent all cycles
   all_sent : (o : Outlet) → Contains w.relay.outlets.items o → o.sent ≡ w.relay.cycles
   all_sent o held =
       omega (
         arith,
-        All-contains (IsWithin w.relay.cycles) w.relay.outlets.items o way.within held,
+        All-contains (IsWithin w.relay.cycles) w.relay.outlets.items o under_way.within held,
         All-contains (λ (it : Outlet). w.relay.cycles ≤ it.sent) w.relay.outlets.items o over.sent held,
       )
 
   -- and each link that ends in another bridge has passed them on
-  all_told : (o : Outlet) → Contains w.relay.outlets.items o → is_onward t.domain o.trace.link ≡ true → o.told ≡ w.relay.cycles
-  all_told o held goes =
+  all_reported : (o : Outlet) → Contains w.relay.outlets.items o → is_onward t.domain o.trace.link ≡ true → o.reported ≡ w.relay.cycles
+  all_reported o held goes =
       let onward : o.wire.onward ≡ true =
-      All-contains (λ (it : Outlet). it.wire.onward ≡ is_onward t.domain it.trace.link) w.relay.outlets.items o way.wires held ∙ goes in
+      All-contains (λ (it : Outlet). it.wire.onward ≡ is_onward t.domain it.trace.link) w.relay.outlets.items o under_way.wires held ∙ goes in
       omega (
         arith,
         all_sent o held,
-        (All-contains IsTidy w.relay.outlets.items o way.tidy held).handed,
-        All-contains (λ (it : Outlet). it.wire.onward ≡ true → w.relay.cycles ≤ it.told) w.relay.outlets.items o over.told held onward,
+        (All-contains IsTidy w.relay.outlets.items o under_way.tidy held).handed,
+        All-contains (λ (it : Outlet). it.wire.onward ≡ true → w.relay.cycles ≤ it.reported) w.relay.outlets.items o over.reported held onward,
       )
 
   -- the link of a number that leaves the bridge
   link_there : (l : ℕ) → leaves t.domain l number ≡ true → (o : Outlet) × Contains w.relay.outlets.items o × (link_out o ≡ l)
   link_there l own =
       contains_from_map link_out w.relay.outlets.items l
-      (subst (λ (links : List ℕ). Contains links l) (sym way.outlets) (leaving_listed t.domain number l own))
+      (subst (λ (links : List ℕ). Contains links l) (sym under_way.outlets) (leaving_listed t.domain number l own))
 
   -- what has arrived is still the same
   came_still : come_to done ≡ come_to w
@@ -177,13 +177,13 @@ module _ (t : Offering) (number : ℕ) (w done : Worker) (way : IsUnderWay t num
       filter (is_in cycle) (all_frames (segments_at done.outs.items o.trace.link)) ≡ map (came_in t.domain o.trace.link cycle) (batch_at (sends o.trace.link) cycle)
   all_put sends o held cycle goes long handed =
       let made : List ArrivedFrame = map (came_in t.domain o.trace.link cycle) (batch_at (sends o.trace.link) cycle) in
-      let told : o.told ≡ w.relay.cycles = all_told o held goes in
-      let last : (if nat_lt cycle o.told then made else []) ≡ made = elim (cases_lt cycle o.told) [
-        | inl early ↦ cond-true (nat_lt cycle o.told) made [] (lt-ltb cycle o.told early)
+      let reported : o.reported ≡ w.relay.cycles = all_reported o held goes in
+      let last : (if nat_lt cycle o.reported then made else []) ≡ made = elim (cases_lt cycle o.reported) [
+        | inl early ↦ cond-true (nat_lt cycle o.reported) made [] (lt-ltb cycle o.reported early)
         | inr late ↦
             let none : made ≡ [] =
-            ap (map (came_in t.domain o.trace.link cycle)) (get_or_past (sends o.trace.link) cycle [] (omega (arith, late, told, long))) in
-            cond-false (nat_lt cycle o.told) made [] (le-ltb cycle o.told late) ∙ sym none
+            ap (map (came_in t.domain o.trace.link cycle)) (get_or_past (sends o.trace.link) cycle [] (omega (arith, late, reported, long))) in
+            cond-false (nat_lt cycle o.reported) made [] (le-ltb cycle o.reported late) ∙ sym none
       ] in
       ap (λ (ports : List SegmentPort). filter (is_in cycle) (all_frames (segments_at ports o.trace.link))) outs ∙ handed.each cycle goes ∙ last
 
@@ -191,20 +191,20 @@ module _ (t : Offering) (number : ℕ) (w done : Worker) (way : IsUnderWay t num
   all_came : (least : ℕ) → All (IsInletOf (come_to w) least) w.relay.inlets.items → (port : SegmentPort) → Contains w.ins.items port →
       w.relay.cycles ≤ end_of_segments 0 (segments_in port)
   all_came least inlets port held =
-      let at = place_of_member w.ins.items port held in
+      let at = index_of_member w.ins.items port held in
       let p : IsPartner link_of link_in w.relay.inlets.items at.0 port =
-      partner link_of link_in w.ins.items w.relay.inlets.items at.0 port (way.links_in ∙ sym way.inlets) at.1 in
+      partner link_of link_in w.ins.items w.relay.inlets.items at.0 port (under_way.links_in ∙ sym under_way.inlets) at.1 in
       let upto : p.other.upto ≡ end_of_segments 0 (segments_in port) =
       (all_at (IsInletOf (come_to w) least) w.relay.inlets.items at.0 p.other inlets p.there).upto
       ∙ ap (λ (l : ℕ). end_of_segments 0 (segments_at w.ins.items l)) p.alike
       ∙ ap (end_of_segments 0)
-      (segments_at_port w.ins.items port (ascend_by link_of w.ins.items (links_into t.domain number) way.links_in (into_ascends t.domain number)) held) in
+      (segments_at_port w.ins.items port (ascend_by link_of w.ins.items (links_into t.domain number) under_way.links_in (into_ascends t.domain number)) held) in
       omega (arith, upto, all_at (λ (it : Inlet). w.relay.cycles ≤ it.upto) w.relay.inlets.items at.0 p.other over.come p.there)
 
   -- so its links have sent everything
   sent_all : MayHaveComeTo t done → HasSentAll t number w.relay.cycles done
   sent_all may =
-      let so = way.come (may_same w done keeps.agenda (ap (λ end. end.items) keeps.tables) (ap (λ ports. ports.items) keeps.ins) t may) in
+      let so = under_way.come (may_same w done keeps.agenda (ap (λ end. end.items) keeps.tables) (ap (λ ports. ports.items) keeps.ins) t may) in
       let of : (o : Outlet) → Contains w.relay.outlets.items o → IsOutletOf t.domain w.relay.number (come_to w) (so.sends o.trace.link) o =
       λ o held. All-contains (λ (it : Outlet). IsOutletOf t.domain w.relay.number (come_to w) (so.sends it.trace.link) it) w.relay.outlets.items o
       so.stands.outlets held in
@@ -213,7 +213,7 @@ module _ (t : Offering) (number : ℕ) (w done : Worker) (way : IsUnderWay t num
         gone = λ l own.
             let at = link_there l own in
             subst (λ (come : Come). HasGoneOnBy t.domain number come l (so.sends l)) (sym came_still)
-            (subst (λ (n : ℕ). HasGoneOnBy t.domain n (come_to w) l (so.sends l)) way.number_is
+            (subst (λ (n : ℕ). HasGoneOnBy t.domain n (come_to w) l (so.sends l)) under_way.number_is
             (subst (λ (m : ℕ). HasGoneOnBy t.domain w.relay.number (come_to w) m (so.sends m)) at.2 (of at.0 at.1).gone));
         all = λ l own.
             let at = link_there l own in
@@ -231,7 +231,7 @@ module _ (t : Offering) (number : ℕ) (w done : Worker) (way : IsUnderWay t num
             (all_from_members
             (λ (o : Outlet). o.trace.starts.items ≡ map mark_of_sent (flat_map (λ (batch : List Sent). batch) (so.sends o.trace.link))) w.relay.outlets.items
             (λ o held. (of o held).marked))
-            (subst (λ (links : List ℕ). Contains links l) (sym way.outlets) (leaving_listed t.domain number l own));
+            (subst (λ (links : List ℕ). Contains links l) (sym under_way.outlets) (leaving_listed t.domain number l own));
         no_background = subst (All (λ (trace : Trace). trace.background.items ≡ [])) (sym keeps.traces)
             (All-map (λ (trace : Trace). trace.background.items ≡ []) (λ (o : Outlet). o.trace) w.relay.outlets.items
             (all_from_members (λ (o : Outlet). o.trace.background.items ≡ []) w.relay.outlets.items (λ o held. (of o held).no_background)));
@@ -246,15 +246,15 @@ module _ (t : Offering) (number : ℕ) (w done : Worker) (way : IsUnderWay t num
   -- and it has gone through all cycles
   pub through_all : HasGoneThrough t number w.relay.cycles done
   through_all = record {
-    is_agenda = subst (HasItsOffers t number) (sym keeps.agenda) way.is_agenda;
-    tables = subst (λ end. AreItems end.items) (sym keeps.tables) way.tables;
-    had_tables = ap (λ end. length (items_in end.items)) keeps.tables ∙ sym way.tables_taken ∙ all_tables;
-    ins = subst (λ ports. All CarriesItems ports.items) (sym keeps.ins) way.ins;
+    is_agenda = subst (HasItsOffers t number) (sym keeps.agenda) under_way.is_agenda;
+    tables = subst (λ end. AreItems end.items) (sym keeps.tables) under_way.tables;
+    had_tables = ap (λ end. length (items_in end.items)) keeps.tables ∙ sym under_way.tables_taken ∙ all_tables;
+    ins = subst (λ ports. All CarriesItems ports.items) (sym keeps.ins) under_way.ins;
     outs = subst (All (HasPut w.relay.cycles)) (sym outs) (all_from_members (HasPut w.relay.cycles) w.outs.items (λ port held.
-        let from = outlet_of_port t number w port way held in
-        subst (λ (n : ℕ). HasPut n port) (all_told from.outlet from.there (ap (is_onward t.domain) (sym from.link) ∙ from.onward))
-        (way.outs port from.outlet held from.there from.link)));
-    links = ap links_of keeps.traces ∙ map-map link_of_trace (λ (o : Outlet). o.trace) w.relay.outlets.items ∙ way.outlets;
+        let from = outlet_of_port t number w port under_way held in
+        subst (λ (n : ℕ). HasPut n port) (all_reported from.outlet from.there (ap (is_onward t.domain) (sym from.link) ∙ from.onward))
+        (under_way.outs port from.outlet held from.there from.link)));
+    links = ap links_of keeps.traces ∙ map-map link_of_trace (λ (o : Outlet). o.trace) w.relay.outlets.items ∙ under_way.outlets;
     sent = sent_all;
   }
 
@@ -270,8 +270,8 @@ ends_so before w done some goes over keeps outs =
       outs = put.outs ∙ goes.same.outs;
       items = put.items;
       room = put.room;
-      part = λ t number way.
-          subst (λ (n : ℕ). HasGoneThrough t number n done) goes.same.cycles (through_all t number w done (goes.way t number way) over keeps same);
+      part = λ t number under_way.
+          subst (λ (n : ℕ). HasGoneThrough t number n done) goes.same.cycles (through_all t number w done (goes.under_way t number under_way) over keeps same);
     }
 
 -- so it does what a worker promises

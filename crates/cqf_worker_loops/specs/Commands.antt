@@ -27,6 +27,6 @@ answer_of call.Memory = refused.Memory
 
 -- an administrator that gives up at one of its commands: with its seat the commands before that one were made, in order, and no other calls
 pub record HasLeftOff (commands : List Command) (seat : Sitting) (why : Unmade) : Type 0 where
-  pub place : ℕ
-  pub there : place < length commands
-  pub called : HasCalled (take place commands) seat why.seat
+  pub index : ℕ
+  pub there : index < length commands
+  pub called : HasCalled (take index commands) seat why.seat

@@ -26,25 +26,25 @@ pipes_of ends = map (λ end. end.pipe) ends
 
 -- the tables of a block
 abbrev pub tables_handed : Block → List CycleTable
-tables_handed block = block.first ∷ block.behind.items
+tables_handed block = block.first ∷ block.following.items
 
 -- each end got these items
 abbrev pub GivesEach : {T : Type 0} → List T → List (End T) → List (End T) → Type 0
-GivesEach {T} xs before after = (place : ℕ) (d : End T) → place < length before →
-    (slice_index_or after place d).items ≡ (slice_index_or before place d).items ++ xs
+GivesEach {T} xs before after = (index : ℕ) (d : End T) → index < length before →
+    (slice_index_or after index d).items ≡ (slice_index_or before index d).items ++ xs
 
 -- each end got these items or nothing
 abbrev pub GivesSome : {T : Type 0} → List T → List (End T) → List (End T) → Type 0
-GivesSome {T} xs before after = (place : ℕ) (d : End T) → place < length before →
-    MayGet xs (slice_index_or before place d) (slice_index_or after place d)
+GivesSome {T} xs before after = (index : ℕ) (d : End T) → index < length before →
+    MayGet xs (slice_index_or before index d) (slice_index_or after index d)
 
 -- at one of the ends nothing was put
 abbrev pub MissesOne : {T : Type 0} → List (End T) → List (End T) → Type 0
-MissesOne {T} before after = (place : ℕ) × (place < length before) × ((d : End T) → slice_index_or after place d ≡ slice_index_or before place d)
+MissesOne {T} before after = (index : ℕ) × (index < length before) × ((d : End T) → slice_index_or after index d ≡ slice_index_or before index d)
 
 -- at one of the ends fewer than count items were put
 abbrev pub LacksOne : {T : Type 0} → List (End T) → ℕ → Type 0
-LacksOne {T} ends count = (place : ℕ) × (place < length ends) × ((d : End T) → length (slice_index_or ends place d).items < count)
+LacksOne {T} ends count = (index : ℕ) × (index < length ends) × ((d : End T) → length (slice_index_or ends index d).items < count)
 
 -- count tables were put at each of some of the ends and nothing at the others; or nothing was put at any end
 abbrev pub GivesTables : ℕ → List TableEnd → List TableEnd → Type 0
@@ -61,7 +61,7 @@ pub record SealsMany (count : ℕ) (old new : Sitting) (tables : List CycleTable
   pub number : new.number ≡ old.number
   pub acts : acts_of new.calls ≡ acts_of old.calls ++ replicate count Seals
   pub many : length tables ≡ count
-  pub behind : new.tables ≡ old.tables ++ tables
+  pub following : new.tables ≡ old.tables ++ tables
 
 -- the fault with which the conductor gives up, from the reason of a refused Seal
 abbrev pub fault_of_seal : SealFault → SealingFault
@@ -104,7 +104,7 @@ pub record HasSealed (cycles : ℕ) (seat done : Sitting) (before after : List T
   pub acts : acts_of done.calls ≡ replicate cycles Seals
   pub many : length done.tables ≡ cycles
   pub pipes : pipes_of after ≡ pipes_of before
-  pub given : (place : ℕ) (d : TableEnd) → place < length after → (slice_index_or after place d).items ≡ map Item done.tables
+  pub given : (index : ℕ) (d : TableEnd) → index < length after → (slice_index_or after index d).items ≡ map Item done.tables
 
 -- a conductor that gives up. The first of the cycles are closed: not all of them if the fault is that no more cycles can be closed, and all
 -- of them if a worker had ended, which then lacks tables. At each end tables were put, and then at most one Stop

@@ -12,7 +12,7 @@ most_items = 1000000
 module _ {T : Type 0} where
   -- the items of a bundle, and those of several bundles in order
   abbrev pub bundle_items : Bundle T → List T
-  bundle_items b = b.first ∷ b.behind.items
+  bundle_items b = b.first ∷ b.following.items
 
   abbrev pub items_of : List (Bundle T) → List T
   items_of bundles = flat_map bundle_items bundles

@@ -22,7 +22,7 @@ use Rattle.cqf_worker_loops.specs.PipeRule.{most_items}
 pub record HasHandedOn (t : Offering) (w : Worker) (sends : Sendings) (outlet : Outlet) : Type 0 where
   pub each : (cycle : ℕ) → is_onward t.domain outlet.trace.link ≡ true →
       filter (is_in cycle) (all_frames (segments_at w.outs.items outlet.trace.link))
-      ≡ (if nat_lt cycle outlet.told then map (came_in t.domain outlet.trace.link cycle) (batch_at (sends outlet.trace.link) cycle) else [])
+      ≡ (if nat_lt cycle outlet.reported then map (came_in t.domain outlet.trace.link cycle) (batch_at (sends outlet.trace.link) cycle) else [])
 
 -- the worker's bridge is in the state that follows from what has arrived: its links have sent these frames, each link has passed on the
 -- cycles that it records as passed on, and the drops are those of the offers that weren't covered
@@ -53,7 +53,7 @@ pub record IsUnderWay (t : Offering) (number : ℕ) (w : Worker) : Type 0 where
   pub tidy : All IsTidy w.relay.outlets.items
   pub within : All (IsWithin w.relay.cycles) w.relay.outlets.items
   pub outs : (port : SegmentPort) (outlet : Outlet) → Contains w.outs.items port → Contains w.relay.outlets.items outlet →
-      port.link ≡ outlet.trace.link → HasPut outlet.told port
+      port.link ≡ outlet.trace.link → HasPut outlet.reported port
   pub come : MayHaveComeTo t w → HasComeSoFar t number w
 
 -- a worker under way, for some traffic
@@ -74,7 +74,7 @@ pub record IsSameWorker (before after : Worker) : Type 0 where
 -- a worker goes on: it is still under way for all traffic for which it was under way before
 pub record GoesFurther (before after : Worker) : Type 0 where
   pub same : IsSameWorker before after
-  pub way : (t : Offering) (number : ℕ) → IsUnderWay t number before → IsUnderWay t number after
+  pub under_way : (t : Offering) (number : ℕ) → IsUnderWay t number before → IsUnderWay t number after
 
 -- a worker that gives up has put only segments, and there is room for a Stop
 pub record HasPutSegments (before after : Worker) : Type 0 where
@@ -95,15 +95,15 @@ pub record EntersTable (table : CycleTable) (before after : Worker) : Type 0 whe
   pub same : IsSameWorker before after
   pub tables : after.tables ≡ before.tables
   pub taken : after.relay.tables ≡ before.relay.tables + 1
-  pub way : (t : Offering) (number : ℕ) (older : Worker) → IsUnderWay t number older → older.relay.tables < older.relay.cycles →
+  pub under_way : (t : Offering) (number : ℕ) (older : Worker) → IsUnderWay t number older → older.relay.tables < older.relay.cycles →
       before ≡ record older { tables = with_item older.tables (Item table) } → IsUnderWay t number after
 
--- the link at index place has something to pass on, through the port at index port
-pub record HandsOnAt (place port : ℕ) (w : Worker) : Type 0 where
+-- the link at the index `index` has something to pass on, through the port at the index `port`
+pub record HandsOnAt (index port : ℕ) (w : Worker) : Type 0 where
   pub outlet : Outlet
-  pub there : slice_get w.relay.outlets.items place ≡ Some outlet
+  pub there : slice_get w.relay.outlets.items index ≡ Some outlet
   pub onward : outlet.wire.onward ≡ true
-  pub more : outlet.told < outlet.sent
+  pub more : outlet.reported < outlet.sent
   pub at : SegmentPort
   pub its_port : slice_get w.outs.items port ≡ Some at
   pub same_link : at.link ≡ outlet.trace.link

@@ -17,5 +17,5 @@ module _ {T : Type 0} where
 
   -- at each of the ports a Stop was put, or nothing
   abbrev pub AreStopped : List (LinkEnd (End (Carried T))) → List (LinkEnd (End (Carried T))) → Type 0
-  AreStopped before after = (place : ℕ) (d : LinkEnd (End (Carried T))) → place < length before →
-      MayHaveGot Stop (slice_index_or before place d) (slice_index_or after place d)
+  AreStopped before after = (index : ℕ) (d : LinkEnd (End (Carried T))) → index < length before →
+      MayHaveGot Stop (slice_index_or before index d) (slice_index_or after index d)

@@ -18,7 +18,7 @@ use Rattle.cqf_trace.specs.Traces.{links_of, mark_of_sent, starts_at}
 use Rattle.cqf_relay.specs.declared.moving.Segment.{Segment}
 use Rattle.cqf_relay.specs.Segments.{AreNextSegments, Sendings, all_frames, batch_at, came_in, end_of_segments}
 use Rattle.cqf_relay.specs.Logs.{is_in}
-use Rattle.cqf_relay.specs.Offering.{dropped_behind}
+use Rattle.cqf_relay.specs.Offering.{dropped_after}
 use Rattle.cqf_relay.specs.Standing.{Come, HasGoneOnBy, MayBeTables, StandsSo, is_onward, links_from, links_into, nothing_yet, offers_in}
 use Rattle.cqf_relay.specs.Sending.{IsTidy}
 use Rattle.cqf_worker_loops.specs.declared.carried.Carried.{Carried}
@@ -125,7 +125,7 @@ pub record AreDropsOf (d : Domain) (number : ℕ) (come : Come) (cycles : ℕ) (
   pub fresh : ℕ → List Dropped
   pub are : drops ≡ each_below fresh cycles
   pub each : (cycle : ℕ) → cycle < cycles →
-      IsPermutation (dropped_behind d number cycle (table_of come.tables cycle) [] (offers_in come cycle)) (fresh cycle)
+      IsPermutation (dropped_after d number cycle (table_of come.tables cycle) [] (offers_in come cycle)) (fresh cycle)
   pub by_frame : (cycle : ℕ) → cycle < cycles → IsNonDecreasingBy (λ (x : Dropped). x.frame) (fresh cycle)
 
 -- what a bridge's links have sent in the first cycles, given what arrived. Each link sends what follows from what arrived; the same was put

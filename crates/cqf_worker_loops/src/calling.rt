@@ -75,9 +75,9 @@ pub fn make_calls<R: Wait, P: Pace>(
     ensures err { IfErr result (HasLeftOff commands.items seat) }
 {
     let mut seat = seat;
-    for place in 0..commands.as_slice().len() {
-        pace.before_call(admin, place);
-        match make_call(rt, desk, &mut seat, &commands[place]) {
+    for index in 0..commands.as_slice().len() {
+        pace.before_call(admin, index);
+        match make_call(rt, desk, &mut seat, &commands[index]) {
             Ok(()) => {}
             Err(fault) => return Err(Unmade { fault, seat }),
         }

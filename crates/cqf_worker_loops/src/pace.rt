@@ -5,10 +5,10 @@ use cqf_units::Cycle;
 /// threads or to delay them. Several threads call it at once, and none of them holds a lock then. Administrators and bridges are numbered
 /// from 0.
 pub trait Pace: Sync {
-    /// An administrator is about to make its command at this index, from 0.
-    fn before_call(&self, admin: usize, place: usize);
+    /// Called before an administrator makes its command at the index `index`, from 0.
+    fn before_call(&self, admin: usize, index: usize);
 
-    /// A bridge has received the table of this cycle and is about to take it.
+    /// Called when a bridge has received the table of this cycle and is about to take it.
     fn before_step(&self, bridge: usize, cycle: Cycle);
 }
 
@@ -17,7 +17,7 @@ pub trait Pace: Sync {
 pub struct Free;
 
 impl Pace for Free {
-    fn before_call(&self, _admin: usize, _place: usize) {}
+    fn before_call(&self, _admin: usize, _index: usize) {}
 
     fn before_step(&self, _bridge: usize, _cycle: Cycle) {}
 }

@@ -82,7 +82,7 @@ impl<T: Drop> Model for PipeOut<T> {
 /// What a look at a pipe finds.
 #[derive(Drop)]
 pub enum FoundItem<T> {
-    /// The first item put of those that wait.
+    /// The item that was put first of those that wait.
     Item(T),
     /// No item waits.
     Nothing,
@@ -110,8 +110,8 @@ pub fn pipe<T: Drop + Send>(alloc: Global) -> Result<(PipeIn<T>, PipeOut<T>), Me
     Ok(ends)
 }
 
-/// Returns the two ends of such a pipe to a thread that waits at a notifier. The notifier is rung after each put, and when the putting end is gone.
-/// Returns `Memory` if an allocation fails.
+/// Returns the two ends of a pipe as [`pipe`] does. The thread that takes waits at `taker`, which is rung after each put, and when the
+/// putting end is gone. Returns `Memory` if an allocation fails.
 pub fn pipe_to<T: Drop + Send>(
     alloc: Global,
     taker: &Notifier,
@@ -125,9 +125,9 @@ pub fn pipe_to<T: Drop + Send>(
     Ok(ends)
 }
 
-/// Returns the two ends of such a pipe between two threads that wait at notifiers. The taker's notifier is rung after each put, and when the
-/// putting end is gone. The putter's notifier is rung when there is room in the pipe again, and when the taking end is gone. Returns `Memory`
-/// if an allocation fails.
+/// Returns the two ends of a pipe as [`pipe`] does, between two threads that wait at notifiers. `taker` is rung after each put, and when
+/// the putting end is gone. `putter` is rung when there is room in the pipe again, and when the taking end is gone. Returns `Memory` if an
+/// allocation fails.
 pub fn pipe_between<T: Drop + Send>(
     alloc: Global,
     putter: &Notifier,
@@ -143,7 +143,8 @@ pub fn pipe_between<T: Drop + Send>(
     Ok(ends)
 }
 
-/// Returns the two ends of such a pipe, with what is rung after each put (`onward`), and when there is room again (`back`).
+/// Returns the two ends of a pipe, with what is rung after each put (`onward`), and when there is room again (`back`). Returns `Memory` if
+/// an allocation fails.
 fn pipe_with<T: Drop + Send>(
     alloc: Global,
     onward: Option<Ringer>,
@@ -182,8 +183,8 @@ fn ring(notifier: &Option<Ringer>) {
     }
 }
 
-/// Takes the first bundle put of those in the channel. It looks for one repeatedly and lets other threads run in between. Then it waits
-/// while there is none, and returns `None` if the other end is gone too. It allocates no memory.
+/// Takes the bundle that was put first of those in the channel. It looks for one repeatedly and lets other threads run in between. Then it
+/// waits while there is none, and returns `None` if the other end is gone too. It allocates no memory.
 fn receive<T: Drop, R: Wait>(
     rt: &R,
     receiver: &PipeReceiver<T>,
@@ -208,8 +209,8 @@ fn receive<T: Drop, R: Wait>(
 }
 
 impl<T: Drop> PipeIn<T> {
-    /// Puts an item in the pipe, up to 1,000,000 in all. It waits while the pipe is full. If the other end is gone, it returns the item,
-    /// and nothing was put. It allocates no memory.
+    /// Puts an item in the pipe, in which fewer than 1,000,000 items were put before. It waits while the pipe is full. If the other end is
+    /// gone, it returns the item, and nothing was put. It allocates no memory.
     pub fn put<R: Wait>(&mut self, rt: &R, item: T) -> Result<(), T>
         requires room { length self.old.items < most_items }
         ensures pipe { self.new.pipe ≡ self.old.pipe }
@@ -223,22 +224,23 @@ impl<T: Drop> PipeIn<T> {
         }
     }
 
-    /// Puts an item in the pipe and others after it, all at once, up to 1,000,000 in all. They wait in the pipe as one. It waits while the
-    /// pipe is full. If the other end is gone, it returns all of them, and nothing was put. It allocates no memory.
+    /// Puts an item in the pipe and others after it, all at once. With those put before they are at most 1,000,000 items. They wait in the
+    /// pipe as one. It waits while the pipe is full. If the other end is gone, it returns all of them, and nothing was put. It allocates no
+    /// memory.
     pub fn put_with<R: Wait>(
         &mut self,
         rt: &R,
         first: T,
-        behind: VecDeque<T>,
+        following: VecDeque<T>,
     ) -> Result<(), (T, VecDeque<T>)>
-        requires room { length self.old.items + length behind.items < most_items }
+        requires room { length self.old.items + length following.items < most_items }
         ensures pipe { self.new.pipe ≡ self.old.pipe }
-        ensures ok { OnOk result (self.new.items ≡ self.old.items ++ first ∷ behind.items) }
+        ensures ok { OnOk result (self.new.items ≡ self.old.items ++ first ∷ following.items) }
         ensures err { IfErr result (λ back. self.new.items ≡ self.old.items) }
-        ensures back { IfErr result (λ back. (back.0 ≡ first) × (back.1.items ≡ behind.items)) }
+        ensures back { IfErr result (λ back. (back.0 ≡ first) × (back.1.items ≡ following.items)) }
     {
-        let count = behind.len() as u64 + 1;
-        let bundle = Bundle { first, behind };
+        let count = following.len() as u64 + 1;
+        let bundle = Bundle { first, following };
         match self.sender.send_as::<Puts, R>(rt, &mut self.pass, bundle) {
             Ok(()) => {
                 self.puts += count;
@@ -246,14 +248,14 @@ impl<T: Drop> PipeIn<T> {
                 Ok(())
             }
             Err(refused) => {
-                let Bundle { first, behind } = refused.into_inner();
-                Err((first, behind))
+                let Bundle { first, following } = refused.into_inner();
+                Err((first, following))
             }
         }
     }
 
-    /// Puts an item in the pipe if there is room, up to 1,000,000 in all. Else it returns the item, and nothing was put: `Full` if the pipe
-    /// was full, `Gone` if the other end is gone. It doesn't block and allocates no memory.
+    /// Puts an item in the pipe if there is room. Fewer than 1,000,000 items were put in it before. Else it returns the item, and nothing
+    /// was put: `Full` if the pipe was full, `Gone` if the other end is gone. It doesn't block and allocates no memory.
     pub fn try_put<R: Wait>(&mut self, rt: &R, item: T) -> Result<(), NotPut<T>>
         requires room { length self.old.items < most_items }
         ensures pipe { self.new.pipe ≡ self.old.pipe }
@@ -263,7 +265,7 @@ impl<T: Drop> PipeIn<T> {
     {
         let bundle = Bundle {
             first: item,
-            behind: VecDeque::new(self.alloc),
+            following: VecDeque::new(self.alloc),
         };
         match self
             .sender
@@ -277,14 +279,14 @@ impl<T: Drop> PipeIn<T> {
             Err(TrySendError::Full(back)) => {
                 let Bundle {
                     first,
-                    behind: _none,
+                    following: _none,
                 } = back;
                 Err(NotPut::Full(first))
             }
             Err(refused) => {
                 let Bundle {
                     first,
-                    behind: _none,
+                    following: _none,
                 } = refused.into_inner();
                 Err(NotPut::Gone(first))
             }
@@ -319,9 +321,9 @@ impl<T: Drop> PipeIn<T> {
 }
 
 impl<T: Drop> PipeOut<T> {
-    /// Takes the first item put of those that wait. Returns `Nothing` if none waits, and `Gone` if also the other end is gone. If `Nothing`
-    /// is found, and the pipe may have been full since the last time, the notifier of the other end's thread is rung. So a thread that takes
-    /// items until none is left leaves nobody waiting for room. It doesn't block and allocates no memory.
+    /// Takes the item that was put first of those that wait. Returns `Nothing` if none waits, and `Gone` if also the other end is gone. If
+    /// `Nothing` is found, and the pipe may have been full since the last time, the notifier of the other end's thread is rung. So a thread
+    /// that takes items until none is left leaves nobody waiting for room. It doesn't block and allocates no memory.
     pub fn look<R: Wait>(&mut self, rt: &R) -> FoundItem<T>
         ensures pipe { self.new.pipe ≡ self.old.pipe }
         ensures items { self.new.items ≡ self.old.items ++ items_found result }
@@ -332,8 +334,8 @@ impl<T: Drop> PipeOut<T> {
         }
         match self.receiver.try_recv_as::<Takes, R>(rt, &mut self.pass) {
             Ok(bundle) => {
-                let Bundle { first, behind } = bundle;
-                self.waiting = behind;
+                let Bundle { first, following } = bundle;
+                self.waiting = following;
                 self.takes += 1;
                 self.streak = self.streak.saturating_add(1);
                 FoundItem::Item(first)
@@ -356,8 +358,8 @@ impl<T: Drop> PipeOut<T> {
         self.streak = 0;
     }
 
-    /// Takes the first item put of those that wait. It waits while there is none, and returns `None` if the other end is gone too. It
-    /// allocates no memory.
+    /// Takes the item that was put first of those that wait. It waits while there is none, and returns `None` if the other end is gone too.
+    /// It allocates no memory.
     pub fn take<R: Wait>(&mut self, rt: &R) -> Option<T>
         ensures pipe { self.new.pipe ≡ self.old.pipe }
         ensures some { IfSome result (λ item. self.new.items ≡ self.old.items ++ item ∷ []) }
@@ -367,8 +369,8 @@ impl<T: Drop> PipeOut<T> {
             self.takes += 1;
             return Some(item);
         }
-        let Bundle { first, behind } = receive(rt, &self.receiver, &mut self.pass)?;
-        self.waiting = behind;
+        let Bundle { first, following } = receive(rt, &self.receiver, &mut self.pass)?;
+        self.waiting = following;
         self.takes += 1;
         Some(first)
     }

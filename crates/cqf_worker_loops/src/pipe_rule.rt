@@ -7,7 +7,7 @@ use std::collections::{LinkedList, VecDeque};
 #[derive(Drop)]
 pub(crate) struct Bundle<T> {
     pub first: T,
-    pub behind: VecDeque<T>,
+    pub following: VecDeque<T>,
 }
 
 /// What a thread knows of a pipe by its pass: whether it may put and take, and what it has put and taken. No value of this type is ever

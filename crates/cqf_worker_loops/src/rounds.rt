@@ -13,7 +13,7 @@ use cqf_units::Cycle;
 use std::alloc::Global;
 use std::sync::Wait;
 
-/// Has the bridge take the table of its next cycle, which has arrived.
+/// Makes the bridge take the table of its next cycle, which has arrived.
 fn enter_table<P: Pace>(pace: &P, worker: &mut Worker, table: &Table) -> Result<(), WorkerFault>
     requires { HasTable table.now worker.old }
     ensures ok { OnOk result (EntersTable table.now worker.old worker.new) }
@@ -51,15 +51,15 @@ fn look_for_tables<R: Wait, P: Pace>(
 }
 
 /// Takes the segments that have arrived through the inlet at this index, until none is left.
-fn look_for_segments<R: Wait>(rt: &R, worker: &mut Worker, place: usize) -> Result<(), WorkerFault>
-    requires way { SomeUnderWay worker.old }
-    requires place { place < length worker.old.ins.items }
+fn look_for_segments<R: Wait>(rt: &R, worker: &mut Worker, index: usize) -> Result<(), WorkerFault>
+    requires under_way { SomeUnderWay worker.old }
+    requires index { index < length worker.old.ins.items }
     ensures ok { OnOk result (GoesFurther worker.old worker.new) }
     ensures err { OnErr result (HasPutSegments worker.old worker.new) }
 {
     for _segment in 0..u64::MAX {
-        match worker.ins[place].pipe.look(rt) {
-            FoundItem::Item(Carried::Item(segment)) => worker.relay.take_segment(place, &segment)?,
+        match worker.ins[index].pipe.look(rt) {
+            FoundItem::Item(Carried::Item(segment)) => worker.relay.take_segment(index, &segment)?,
             FoundItem::Nothing => break,
             _ => return Err(WorkerFault::Stopped),
         }
@@ -74,32 +74,32 @@ fn look<R: Wait, P: Pace>(rt: &R, pace: &P, worker: &mut Worker) -> Result<(), W
     ensures err { OnErr result (HasPutSegments worker.old worker.new) }
 {
     look_for_tables(rt, pace, worker)?;
-    for place in 0..worker.ins.len() {
-        look_for_segments(rt, worker, place)?;
+    for index in 0..worker.ins.len() {
+        look_for_segments(rt, worker, index)?;
     }
     Ok(())
 }
 
-/// Passes on what the link at index `place` has sent, to the bridge at its end, through the port at index `port`. If the pipe is full, the
+/// Passes on what the link at index `index` has sent, to the bridge at its end, through the port at index `port`. If the pipe is full, the
 /// bridge keeps it for later: the notifier rings when there is room.
-fn tell_on<R: Wait>(
+fn report_on<R: Wait>(
     rt: &R,
     alloc: Global,
     worker: &mut Worker,
-    place: usize,
+    index: usize,
     port: usize,
 ) -> Result<(), WorkerFault>
-    requires way { SomeUnderWay worker.old }
-    requires at { HandsOnAt place port worker.old }
+    requires under_way { SomeUnderWay worker.old }
+    requires at { HandsOnAt index port worker.old }
     ensures ok { OnOk result (GoesFurther worker.old worker.new) }
     ensures err { OnErr result (HasPutSegments worker.old worker.new) }
 {
-    let told = worker.relay.outlets()[place].told();
-    let segment = worker.relay.segment_of(alloc, place);
+    let reported = worker.relay.outlets()[index].reported();
+    let segment = worker.relay.segment_of(alloc, index);
     match worker.outs[port].pipe.try_put(rt, Carried::Item(segment)) {
         Ok(()) => Ok(()),
         Err(NotPut::Full(Carried::Item(back))) => {
-            worker.relay.keep_back(place, told, back);
+            worker.relay.keep_back(index, reported, back);
             Ok(())
         }
         Err(_) => Err(WorkerFault::Stopped),
@@ -107,17 +107,17 @@ fn tell_on<R: Wait>(
 }
 
 /// Passes on what the links have sent to the bridges at their ends, as far as there is room in their pipes.
-fn tell<R: Wait>(rt: &R, alloc: Global, worker: &mut Worker) -> Result<(), WorkerFault>
+fn report<R: Wait>(rt: &R, alloc: Global, worker: &mut Worker) -> Result<(), WorkerFault>
     requires { SomeUnderWay worker.old }
     ensures ok { OnOk result (GoesFurther worker.old worker.new) }
     ensures err { OnErr result (HasPutSegments worker.old worker.new) }
 {
     let cycles = worker.relay.cycles();
     let mut port = 0;
-    for place in 0..worker.relay.outlets().len() {
-        let is_onward = worker.relay.outlets()[place].is_onward();
-        if worker.relay.outlets()[place].has_news(cycles) {
-            tell_on(rt, alloc, worker, place, port)?;
+    for index in 0..worker.relay.outlets().len() {
+        let is_onward = worker.relay.outlets()[index].is_onward();
+        if worker.relay.outlets()[index].has_news(cycles) {
+            report_on(rt, alloc, worker, index, port)?;
         }
         if is_onward {
             port += 1;
@@ -143,7 +143,7 @@ fn go_on<R: Wait, P: Pace>(
         worker.relay.send()?;
     }
     // a link that a new row now leads to has something to pass on, even if it can't go on itself
-    tell(rt, alloc, worker)?;
+    report(rt, alloc, worker)?;
     Ok(may_send)
 }
 

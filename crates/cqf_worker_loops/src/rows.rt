@@ -15,8 +15,8 @@ pub fn stop_each<T: Drop, R: Wait>(rt: &R, ports: &mut [LinkEnd<PipeIn<Carried<T
     ensures count { length ports.new ≡ length ports.old }
     ensures stopped { AreStopped ports.old ports.new }
 {
-    for place in 0..ports.len() {
-        match ports[place].pipe.put(rt, Carried::Stop) {
+    for index in 0..ports.len() {
+        match ports[index].pipe.put(rt, Carried::Stop) {
             Ok(()) => {}
             Err(_) => {}
         }

@@ -50,7 +50,7 @@ pub enum SealingFault {
     Lost,
 }
 
-/// Converts an allocation failure into a fault.
+/// Converts a failed allocation into a fault.
 impl From<Memory> for SealingFault {
     ghost use Rattle.cqf_worker_loops.specs.declared.sealing.SealingFault.TheVariants as variant;
 
@@ -61,7 +61,7 @@ impl From<Memory> for SealingFault {
     }
 }
 
-/// Likewise converts a failed allocation of a value.
+/// Converts a failed allocation of a value into a fault.
 impl<T: Drop> From<AllocFailed<T>> for SealingFault {
     ghost use Rattle.cqf_worker_loops.specs.declared.sealing.SealingFault.TheVariants as variant;
 
@@ -102,7 +102,7 @@ pub struct Unsealed {
 #[derive(Drop)]
 pub(crate) struct Block {
     first: Table,
-    behind: Vec<Table>,
+    following: Vec<Table>,
 }
 
 /// Returns how many cycles are closed before their tables are passed on together, if `closed` cycles are closed already. It is 1 at the
@@ -121,13 +121,13 @@ fn hand<R: Wait>(
     rt: &R,
     end: &mut PipeIn<Carried<Table>>,
     first: Carried<Table>,
-    behind: VecDeque<Carried<Table>>,
+    following: VecDeque<Carried<Table>>,
 ) -> bool
-    requires room { length end.old.items + length behind.items < most_items }
-    ensures given { result ≡ true → end.new ≡ with_items end.old (first ∷ behind.items) }
+    requires room { length end.old.items + length following.items < most_items }
+    ensures given { result ≡ true → end.new ≡ with_items end.old (first ∷ following.items) }
     ensures gone { result ≡ false → end.new ≡ end.old }
 {
-    match end.put_with(rt, first, behind) {
+    match end.put_with(rt, first, following) {
         Ok(()) => true,
         Err(_) => false,
     }
@@ -158,10 +158,10 @@ fn hand_on<R: Wait>(
     ensures missed { IfOk result (λ all. all ≡ false → MissesOne tables.old tables.new) }
 {
     let mut all = true;
-    for place in 0..tables.len() {
+    for index in 0..tables.len() {
         let first = block.first.try_copy(alloc)?;
-        let behind = carried(alloc, block.behind.as_slice())?;
-        if !hand(rt, &mut tables[place], Carried::Item(first), behind) {
+        let following = carried(alloc, block.following.as_slice())?;
+        if !hand(rt, &mut tables[index], Carried::Item(first), following) {
             all = false;
         }
     }
@@ -169,7 +169,7 @@ fn hand_on<R: Wait>(
 }
 
 /// Puts a `Stop` in a pipe. Returns whether the other end still existed.
-fn tell<R: Wait>(rt: &R, end: &mut PipeIn<Carried<Table>>) -> bool
+fn report<R: Wait>(rt: &R, end: &mut PipeIn<Carried<Table>>) -> bool
     requires room { length end.old.items < most_items }
     ensures given { result ≡ true → end.new ≡ with_items end.old (Stop ∷ []) }
     ensures gone { result ≡ false → end.new ≡ end.old }
@@ -187,8 +187,8 @@ pub fn stop_tables<R: Wait>(rt: &R, tables: &mut [PipeIn<Carried<Table>>])
     ensures pipes { pipes_of tables.new ≡ pipes_of tables.old }
     ensures stopped { GivesSome (Stop ∷ []) tables.old tables.new }
 {
-    for place in 0..tables.len() {
-        tell(rt, &mut tables[place]);
+    for index in 0..tables.len() {
+        report(rt, &mut tables[index]);
     }
 }
 
@@ -242,8 +242,8 @@ fn seal_block<R: Wait>(
     ensures err { IfErr result (SealsSome count seat.old seat.new) }
 {
     let first = seal_one(rt, alloc, desk, seat)?;
-    let behind = seal_many(rt, alloc, desk, count - 1, seat)?;
-    Ok(Block { first, behind })
+    let following = seal_many(rt, alloc, desk, count - 1, seat)?;
+    Ok(Block { first, following })
 }
 
 /// Closes the next `count` cycles with the seat and passes their tables on. Returns whether every worker was given them.
@@ -307,9 +307,9 @@ fn seal_cycles<R: Wait>(
 }
 
 /// Closes `cycles` cycles to changes, at most 100,000, with a seat that has no calls and no tables yet, and passes the table of each to
-/// every worker, at ends where nothing was put. Returns `CyclesSpent` or `Memory` if a Seal is refused or an allocation fails; each worker
-/// that still takes is then notified by a `Stop`. Returns `Lost` if a worker had ended before; all cycles are closed then, and the other
-/// workers have all tables. With a fault the seat and the ends come back. It waits for the desk's lock and for room in the pipes.
+/// every worker, at ends where nothing was put. Returns `CyclesSpent` if no more cycles can be closed, and `Memory` if an allocation fails;
+/// each worker that still takes is then notified by a `Stop`. Returns `Lost` if a worker had ended before; all cycles are closed then, and
+/// the other workers have all tables. With a fault the seat and the ends come back. It waits for the desk's lock and for room in the pipes.
 pub fn seal_all<R: Wait>(
     rt: &R,
     alloc: Global,

@@ -48,7 +48,7 @@ pub enum WorkerFault {
     Stopped,
 }
 
-/// Converts an allocation failure into a fault.
+/// Converts a failed allocation into a fault.
 impl From<Memory> for WorkerFault {
     ghost use Rattle.cqf_worker_loops.specs.declared.worker.WorkerFault.TheVariants as variant;
 
@@ -94,12 +94,13 @@ fn let_go<R: Wait>(rt: &R, worker: Worker) -> Vec<LinkEnd<PipeIn<Carried<Segment
     outs
 }
 
-/// Goes through all cycles of a run with a bridge on its thread. The worker has done nothing before. It comes back with what went through
-/// its pipes, and with what its bridge sent and dropped on its bridge trace. The pace is called in each cycle once the cycle's table has arrived,
-/// while no lock is held. The worker waits only at its notifier, unless it gives up. If it gives up, it first notifies the threads that put
-/// items for it, and then those that take from it. The ends at which it notifies the latter come back. The rest is gone with its bridge trace, and
-/// without the bridge trace there is no book. It returns `Memory` if an allocation fails, and `Stopped`, only if there are cycles, if it is
-/// stopped. The caller ensures that there are at most 100,000 cycles.
+/// Goes through all cycles of a run (at most 100,000) with a bridge on its thread. The worker has done nothing before. It comes back with
+/// what went through its pipes, and with what its bridge sent and dropped in `bridge_trace`. The pace is called in each cycle once the
+/// cycle's table has arrived, while no lock is held. The worker waits only at its notifier, unless it gives up.
+///
+/// Returns `Memory` if an allocation fails. Returns `Stopped` if the worker is stopped, which happens only if there are cycles. In both
+/// cases it first notifies the threads that put items for it, and then those that take from it. The ends at which it put items come back.
+/// Its bridge trace doesn't, so the run has no book then.
 pub fn work<R: Wait, P: Pace>(
     rt: &R,
     alloc: Global,

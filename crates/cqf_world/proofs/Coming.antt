@@ -15,7 +15,7 @@ pub none_coming : (d : Domain) (lines : List Line) → AreComing d [] lines line
 none_coming d lines = record {
   as_many = refl;
   counts = refl;
-  behind = λ link bridge x ends. sym (append-nil (get_or lines link x).waiting.items);
+  following = λ link bridge x ends. sym (append-nil (get_or lines link x).waiting.items);
 }
 
 -- a batch of a link that ends in no bridge
@@ -24,9 +24,9 @@ pub passed_by : (d : Domain) (batches : List LinkBatch) (before after : List Lin
 passed_by d batches before after batch none so = record {
   as_many = so.as_many;
   counts = so.counts;
-  behind = λ link bridge x ends.
+  following = λ link bridge x ends.
       (let other : (batch.link == link) ≡ false = ne_eqb batch.link link (λ e. false_true (sym (none bridge) ∙ ap (λ (k : ℕ). enters d k bridge) e ∙ ends)) in
-      so.behind link bridge x ends
+      so.following link bridge x ends
       ∙ ap (λ (ys : List LinkBatch). (get_or before link x).waiting.items ++ ys)
       (sym (filter-append (λ (b : LinkBatch). b.link == link) batches (batch ∷ [])
       ∙ ap (λ (ys : List LinkBatch). filter (λ (b : LinkBatch). b.link == link) batches ++ ys) (cond-false (batch.link == link) (batch ∷ []) [] other)
@@ -38,29 +38,29 @@ passed_by d batches before after batch none so = record {
     false_true e = absurd cc
 
 -- a batch of a link that ends in a bridge
-pub one_coming : (d : Domain) (batches : List LinkBatch) (before after : List Line) (batch : LinkBatch) (x y : Line) (place : ℕ) → place ≡ batch.link →
-    place < length after → x ≡ get_or after place x → y.taken ≡ x.taken → y.waiting.items ≡ x.waiting.items ++ batch ∷ [] →
-    AreComing d batches before after → AreComing d (batches ++ batch ∷ []) before (set after place y)
-one_coming d batches before after batch x y place at inside there counted pushed so = record {
-  as_many = length-set after place y ∙ so.as_many;
-  counts = count_kept taken_of after place x y there counted ∙ so.counts;
-  behind = λ link bridge z ends. elim (cases_eq link place) [
+pub one_coming : (d : Domain) (batches : List LinkBatch) (before after : List Line) (batch : LinkBatch) (x y : Line) (index : ℕ) → index ≡ batch.link →
+    index < length after → x ≡ get_or after index x → y.taken ≡ x.taken → y.waiting.items ≡ x.waiting.items ++ batch ∷ [] →
+    AreComing d batches before after → AreComing d (batches ++ batch ∷ []) before (set after index y)
+one_coming d batches before after batch x y index at inside there counted pushed so = record {
+  as_many = length-set after index y ∙ so.as_many;
+  counts = count_kept taken_of after index x y there counted ∙ so.counts;
+  following = λ link bridge z ends. elim (cases_eq link index) [
     | inl e ↦
         let own : (batch.link == link) ≡ true = eq-eqb batch.link link (sym at ∙ sym e) in
-        let same_default : get_or after place x ≡ get_or after place z = get_or_default after place x z inside in
-        ap (λ (k : ℕ). (get_or (set after place y) k z).waiting.items) e
-        ∙ ap (λ (w : Line). w.waiting.items) (get_or-set_same after place y z inside)
+        let same_default : get_or after index x ≡ get_or after index z = get_or_default after index x z inside in
+        ap (λ (k : ℕ). (get_or (set after index y) k z).waiting.items) e
+        ∙ ap (λ (w : Line). w.waiting.items) (get_or-set_same after index y z inside)
         ∙ pushed
         ∙ ap (λ (w : Line). w.waiting.items ++ batch ∷ []) (there ∙ same_default ∙ ap (λ (k : ℕ). get_or after k z) (sym e))
-        ∙ ap (λ (ys : List LinkBatch). ys ++ batch ∷ []) (so.behind link bridge z ends)
+        ∙ ap (λ (ys : List LinkBatch). ys ++ batch ∷ []) (so.following link bridge z ends)
         ∙ append_assoc (get_or before link z).waiting.items (filter (λ (b : LinkBatch). b.link == link) batches) (batch ∷ [])
         ∙ ap (λ (ys : List LinkBatch). (get_or before link z).waiting.items ++ ys)
         (sym (filter-append (λ (b : LinkBatch). b.link == link) batches (batch ∷ [])
         ∙ ap (λ (ys : List LinkBatch). filter (λ (b : LinkBatch). b.link == link) batches ++ ys) (cond-true (batch.link == link) (batch ∷ []) [] own)))
     | inr differ ↦
         let other : (batch.link == link) ≡ false = ne_eqb batch.link link (λ is. differ (sym is ∙ sym at)) in
-        ap (λ (w : Line). w.waiting.items) (get_or-set_other after place link y z differ)
-        ∙ so.behind link bridge z ends
+        ap (λ (w : Line). w.waiting.items) (get_or-set_other after index link y z differ)
+        ∙ so.following link bridge z ends
         ∙ ap (λ (ys : List LinkBatch). (get_or before link z).waiting.items ++ ys)
         (sym (filter-append (λ (b : LinkBatch). b.link == link) batches (batch ∷ [])
         ∙ ap (λ (ys : List LinkBatch). filter (λ (b : LinkBatch). b.link == link) batches ++ ys) (cond-false (batch.link == link) (batch ∷ []) [] other)

@@ -78,7 +78,7 @@ module _ (w : WorldState) (tables : List CycleTable) (driven : List WorldBridge)
       let c = counts_given bridge s inside there may in
       let with_it : IsDriven (sealed_run w) (seals w.entries) is.net bridge (cycle_of_bridge w bridge) (links_taken w bridge) (with_table s) = record {
         in_cycle = st.in_cycle;
-        not_behind = st.not_behind;
+        not_after = st.not_after;
         with_table = omega (arith, st.with_table, c.0);
         not_ahead = omega arith;
         closed = omega (arith, c.2, is.all_tables);
@@ -109,10 +109,10 @@ module _ (w : WorldState) (tables : List CycleTable) (driven : List WorldBridge)
             (get_or sent (bridge_of w.domain link) 0) (get_or lines link x)) (sym same) (is.line link to x ends);
       }
 
-module _ (w : WorldState) (tables : List CycleTable) (driven : List WorldBridge) (lines : List Line) (bridge place : ℕ) (s : WorldBridge)
+module _ (w : WorldState) (tables : List CycleTable) (driven : List WorldBridge) (lines : List Line) (bridge index : ℕ) (s : WorldBridge)
     (old : WorldState)
     (same : w ≡ old) (world : IsWorld w tables driven lines) (old_goes_on : old.stopped ≡ false) (old_may : MayBeGiven old bridge)
-    (at : place ≡ bridge) (there : s ≡ get_or driven place s) where
+    (at : index ≡ bridge) (there : s ≡ get_or driven index s) where
   goes_on : w.stopped ≡ false
   goes_on = subst (λ (v : WorldState). v.stopped ≡ false) (sym same) old_goes_on
 

@@ -7,7 +7,7 @@ use Rattle.std.proofs.lemmas.List.{get_or-set_other, get_or-set_same, length-map
 use Rattle.std.proofs.lemmas.Option.{same_Some, slice_get_cases, slice_get_within}
 use Rattle.cqf_lists.proofs.EachBelow.{filter_none, get_or-singles}
 use Rattle.cqf_lists.proofs.Members.{contains_cases, contains_here, contains_later, contains_none}
-use Rattle.cqf_lists.proofs.Places.{slice_get_behind, slice_get_front}
+use Rattle.cqf_lists.proofs.Indices.{slice_get_after, slice_get_front}
 use Rattle.cqf_model.specs.declared.frames.Dropped.{Dropped}
 use Rattle.cqf_model.specs.declared.frames.Offered.{Offered}
 use Rattle.cqf_model.specs.declared.frames.Page.{Page}
@@ -133,7 +133,7 @@ module _ (v : WorldState) (tables : List CycleTable) (driven : List WorldBridge)
   pub may_post : (s.sent ≡ s.posted → ⊥) → length s.taken.items ≡ s.incoming → MayPost v bridge
   may_post sent all = record {
     inside = omega (arith, inside, is.all_driven);
-    has_sent = omega (arith, sent_is, sent, st.not_behind, st.with_table, st.not_ahead, st.in_cycle);
+    has_sent = omega (arith, sent_is, sent, st.not_after, st.with_table, st.not_ahead, st.in_cycle);
     has_taken = λ link ends.
         (let listed = link_listed v.domain bridge link ends in
         let passes = all_pass (λ l. nat_lt (cycle_of_bridge v bridge) (taken_from v l)) (links_into v.domain bridge)
@@ -280,7 +280,7 @@ module _ (v : WorldState) (tables : List CycleTable) (driven : List WorldBridge)
                   let more : cycle < length (pages_of v.pages bridge ++ page ∷ []) = slice_get_within (pages_of v.pages bridge ++ page ∷ []) cycle other at in
                   let last : cycle ≡ cycle_of_bridge v bridge = omega (arith, past, more, length_push (pages_of v.pages bridge) page) in
                   let same : page ≡ other =
-                  same_Some page other (sym (slice_get_behind (pages_of v.pages bridge) page [] cycle last) ∙ at) in
+                  same_Some page other (sym (slice_get_after (pages_of v.pages bridge) page [] cycle last) ∙ at) in
                   let is_book = subst (λ (n : ℕ). IsBook (sealed_run v) (compiled_lists v.domain) n book) (count v.domain v.entries (seals v.entries))
                   of_history.is_book in
                   ap contents_posted (sym same) ∙ page_is page_follows book is_book
@@ -301,7 +301,7 @@ module _ (v : WorldState) (tables : List CycleTable) (driven : List WorldBridge)
           subst (IsDriven (sealed_run v) (seals v.entries) is.net bridge (cycle_of_bridge after bridge) (links_taken after bridge)) (sym z_is)
           (record {
             in_cycle = omega (arith, st.in_cycle, cycle_here);
-            not_behind = omega (arith, sent_it);
+            not_after = omega (arith, sent_it);
             with_table = st.with_table;
             not_ahead = omega (arith, st.not_ahead);
             closed = st.closed;
@@ -367,8 +367,8 @@ module _ (v : WorldState) (tables : List CycleTable) (driven : List WorldBridge)
       }
 
 module _ (v : WorldState) (tables : List CycleTable) (driven : List WorldBridge) (lines : List Line) (old : WorldState) (old_same : v ≡ old)
-    (world : IsWorld v tables driven lines) (old_on : old.stopped ≡ false) (bridge place : ℕ) (s : WorldBridge) (at : place ≡ bridge)
-    (at_place : s ≡ get_or driven place s) where
+    (world : IsWorld v tables driven lines) (old_on : old.stopped ≡ false) (bridge index : ℕ) (s : WorldBridge) (at : index ≡ bridge)
+    (at_index : s ≡ get_or driven index s) where
   on : v.stopped ≡ false
   on = subst (λ (w : WorldState). w.stopped ≡ false) (sym old_same) old_on
 
@@ -376,9 +376,9 @@ module _ (v : WorldState) (tables : List CycleTable) (driven : List WorldBridge)
   run = world.running on
 
   here_v : s ≡ get_or driven bridge s
-  here_v = at_place ∙ ap (λ (k : ℕ). get_or driven k s) at
+  here_v = at_index ∙ ap (λ (k : ℕ). get_or driven k s) at
 
-  module _ (there : place < length driven) where
+  module _ (there : index < length driven) where
     inside_v : bridge < length driven
     inside_v = omega (arith, there, at)
 

@@ -146,14 +146,14 @@ module _ (v : WorldState) (tables : List CycleTable) (driven : List WorldBridge)
       let sent = count_at sent_of_driven v.sent driven bridge s is.sent_are inside in
       record {
         in_cycle = st.in_cycle;
-        not_behind = st.not_behind;
+        not_after = st.not_after;
         with_table = st.with_table;
         not_ahead = st.not_ahead;
         closed = omega (arith, st.closed, counted);
         number = st.number;
         received = st.received;
         follows = λ e. longer (sealed_run more) (sealed_run v).tables (seals v.entries) (seals entries) is.net some.0 x.bridge is_longer
-            (omega (arith, st.received, st.not_behind, st.with_table, st.closed)) (st.follows e);
+            (omega (arith, st.received, st.not_after, st.with_table, st.closed)) (st.follows e);
         has_sent = λ e. longer_halfway (sealed_run more) (sealed_run v).tables (seals v.entries) (seals entries) is.net some.0 x.bridge is_longer
             (omega (arith, st.received, e, st.with_table, st.closed)) (st.has_sent e);
         starts = λ e. st.starts e
@@ -235,7 +235,7 @@ closed_world v tables after driven lines old new seat was world same was_on was_
     let is_more : new.entries ≡ with_it v.entries = closes.entries ∙ ap with_it (sym entries) in
     subst (λ (d : Domain). IsWorld (record v { domain = d; entries = new.entries }) after driven lines) (sym same_domain)
     (subst (λ (es : List Recorded). IsWorld (record v { entries = es }) after driven lines) (sym is_more)
-    (subst (λ (ts : List CycleTable). IsWorld (record v { entries = with_it v.entries }) ts driven lines) (sym closes.behind)
+    (subst (λ (ts : List CycleTable). IsWorld (record v { entries = with_it v.entries }) ts driven lines) (sym closes.following)
     (sealed_world v tables driven lines (with_it v.entries) closes.table world goes_on
     (subst (λ (es : List Recorded). IsLegalHistory v.domain es) is_more (subst (λ (d : Domain). IsLegalHistory d new.entries) same_domain legal))
     (counted v.entries seat Seals Sealed)

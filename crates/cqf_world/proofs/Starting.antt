@@ -33,11 +33,11 @@ use Rattle.cqf_world.specs.World.{WorldState, cycle_of_bridge, sealed_run, sent_
 none_of_each : {X : Type 0} (count : X → ℕ) (xs : List X) (n : ℕ) → length xs ≡ n → ((k : ℕ) (x : X) → k < n → count (get_or xs k x) ≡ 0) →
     map count xs ≡ replicate n 0
 none_of_each {X} count xs n many none = same_lists (map count xs) (replicate n 0) (length-map xs count ∙ many ∙ sym (length-replicate n 0))
-    (λ k d inside. of_place k d (omega (arith, inside, length-map xs count)))
+    (λ k d inside. of_index k d (omega (arith, inside, length-map xs count)))
   where
     -- at an index
-    of_place : (k d : ℕ) → k < length xs → get_or (map count xs) k d ≡ get_or (replicate n 0) k d
-    of_place k d inside =
+    of_index : (k d : ℕ) → k < length xs → get_or (map count xs) k d ≡ get_or (replicate n 0) k d
+    of_index k d inside =
         let within : k < n = omega (arith, inside, many) in
         elim (slice_get_cases xs k).1 [
           | inl x ↦ get_or-map count xs k x.0 d inside ∙ none k x.0 within ∙ sym (get_or-replicate n k 0 d within)
@@ -104,7 +104,7 @@ module _ (w : WorldState) (driven : List WorldBridge) (lines : List Line) (accep
       (links_taken w bridge) s
   driven_begins net follows bridge s inside is = record {
     in_cycle = is.none_posted ∙ sym (in_cycle_0 bridge);
-    not_behind = omega (arith, is.none_posted);
+    not_after = omega (arith, is.none_posted);
     with_table = omega (arith, is.none_sent);
     not_ahead = omega (arith, is.no_table);
     closed = omega (arith, is.no_table);

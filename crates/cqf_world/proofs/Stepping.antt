@@ -15,7 +15,7 @@ use Rattle.cqf_model.specs.declared.topology.Link.{Link}
 use Rattle.cqf_model.specs.Domain.{Domain, bridge_of, enters, leaves}
 use Rattle.cqf_model.specs.History.{seals}
 use Rattle.cqf_model.specs.Network.{Network}
-use Rattle.cqf_model.specs.Traffic.{Carried}
+use Rattle.cqf_model.specs.Policing.{Carried}
 use Rattle.cqf_laws_cycle.specs.Gathered.{backed_for}
 use Rattle.cqf_admission.specs.Tables.{CycleTable}
 use Rattle.cqf_bridge.specs.Batch.{LinkBatch}
@@ -161,7 +161,7 @@ module _ (v : WorldState) (tables : List CycleTable) (driven : List WorldBridge)
           subst (IsDriven (sealed_run v) (seals v.entries) is.net bridge (cycle_of_bridge v bridge) (links_taken v bridge)) (sym z_is)
           (record {
             in_cycle = st.in_cycle;
-            not_behind = omega arith;
+            not_after = omega arith;
             with_table = omega (arith, (counts_step may).0);
             not_ahead = st.not_ahead;
             closed = st.closed;
@@ -188,7 +188,7 @@ module _ (v : WorldState) (tables : List CycleTable) (driven : List WorldBridge)
           sym (get_or-map taken_of w link x 0 (omega (arith, in_lines, coming.as_many)))
           ∙ ap (λ (ns : List ℕ). get_or ns link 0) coming.counts
           ∙ get_or-map taken_of lines link x 0 in_lines in
-          let put = coming.behind link to x ends ∙ ap (λ (ys : List LinkBatch). ys ++ filter (λ (b : LinkBatch). b.link == link) batches) li.waiting
+          let put = coming.following link to x ends ∙ ap (λ (ys : List LinkBatch). ys ++ filter (λ (b : LinkBatch). b.link == link) batches) li.waiting
           ∙ ap (λ (bs : List LinkBatch). under_way v.domain is.net link before.taken (sent_by_driven v from - before.taken)
           ++ filter (λ (b : LinkBatch). b.link == link) bs) batches_are
           ∙ ap (λ (bs : List LinkBatch). under_way v.domain is.net link before.taken (sent_by_driven v from - before.taken) ++ bs)
@@ -240,8 +240,8 @@ module _ (v : WorldState) (tables : List CycleTable) (driven : List WorldBridge)
       }
 
 module _ (v : WorldState) (tables : List CycleTable) (driven : List WorldBridge) (lines : List Line) (old : WorldState) (old_same : v ≡ old)
-    (world : IsWorld v tables driven lines) (old_on : old.stopped ≡ false) (bridge place : ℕ) (s : WorldBridge) (old_may : MayStep old bridge) (at : place ≡ bridge)
-    (at_place : s ≡ get_or driven place s) where
+    (world : IsWorld v tables driven lines) (old_on : old.stopped ≡ false) (bridge index : ℕ) (s : WorldBridge) (old_may : MayStep old bridge) (at : index ≡ bridge)
+    (at_index : s ≡ get_or driven index s) where
   on : v.stopped ≡ false
   on = subst (λ (w : WorldState). w.stopped ≡ false) (sym old_same) old_on
 
@@ -255,7 +255,7 @@ module _ (v : WorldState) (tables : List CycleTable) (driven : List WorldBridge)
   inside_v = omega (arith, may_v.inside, run.all_driven)
 
   here_v : s ≡ get_or driven bridge s
-  here_v = at_place ∙ ap (λ (k : ℕ). get_or driven k s) at
+  here_v = at_index ∙ ap (λ (k : ℕ). get_or driven k s) at
 
   -- the bridge's sending may be called
   pub next_so : IsNextToSend s.bridge s.posted

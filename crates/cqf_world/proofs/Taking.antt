@@ -73,7 +73,7 @@ module _ (v : WorldState) (tables : List CycleTable) (driven : List WorldBridge)
   may_take sent not_taken some = record {
     bridge = bridge;
     ends = ends;
-    has_sent = omega (arith, sent_is, sent, st.not_behind, st.with_table, st.not_ahead, st.in_cycle);
+    has_sent = omega (arith, sent_is, sent, st.not_after, st.with_table, st.not_ahead, st.in_cycle);
     not_taken = omega (arith, taken_is, not_taken, st.in_cycle);
     under_way = omega (arith, taken_is, some, waiting_is);
   }
@@ -158,12 +158,12 @@ module _ (v : WorldState) (tables : List CycleTable) (driven : List WorldBridge)
         let f = batch_of v.domain is.net.carried s.posted in
         let kept = links_taken v bridge in
         let is_batch : batch ≡ f link = parts.0 ∙ ap (λ (k : ℕ). batch_of v.domain is.net.carried k link) c.1 in
-        let place : length (filter (λ (b : LinkBatch). nat_lt b.link batch.link) s.taken.items) ≡ before link kept =
+        let index : length (filter (λ (b : LinkBatch). nat_lt b.link batch.link) s.taken.items) ≡ before link kept =
         (λ i. length (filter (λ (b : LinkBatch). nat_lt b.link (is_batch i).link) (st.taken i)))
         ∙ ap length (filter-map f (λ (b : LinkBatch). nat_lt b.link link) kept)
         ∙ length-map (filter (λ m. nat_lt m link) kept) f in
         put
-        ∙ (λ i. insert (st.taken i) (place i) (is_batch i))
+        ∙ (λ i. insert (st.taken i) (index i) (is_batch i))
         ∙ sym (insert_map f kept (before link kept) link)
         ∙ ap (map f) (sym one_more)
 
@@ -176,7 +176,7 @@ module _ (v : WorldState) (tables : List CycleTable) (driven : List WorldBridge)
         subst (IsDriven (sealed_run v) (seals v.entries) is.net bridge (cycle_of_bridge v bridge) (links_taken after bridge)) (sym same)
         (record {
           in_cycle = st.in_cycle;
-          not_behind = st.not_behind;
+          not_after = st.not_after;
           with_table = st.with_table;
           not_ahead = st.not_ahead;
           closed = st.closed;
@@ -238,9 +238,9 @@ module _ (v : WorldState) (tables : List CycleTable) (driven : List WorldBridge)
     }
 
 module _ (v : WorldState) (tables : List CycleTable) (driven : List WorldBridge) (lines : List Line) (old : WorldState) (old_same : v ≡ old)
-    (world : IsWorld v tables driven lines) (old_on : old.stopped ≡ false) (link bridge place lplace : ℕ) (s : WorldBridge) (x : Line)
-    (d : Domain) (of_domain : d ≡ v.domain) (ends_d : enters d link bridge ≡ true) (at : place ≡ bridge) (lat : lplace ≡ link)
-    (at_place : s ≡ get_or driven place s)
+    (world : IsWorld v tables driven lines) (old_on : old.stopped ≡ false) (link bridge index lplace : ℕ) (s : WorldBridge) (x : Line)
+    (d : Domain) (of_domain : d ≡ v.domain) (ends_d : enters d link bridge ≡ true) (at : index ≡ bridge) (lat : lplace ≡ link)
+    (at_index : s ≡ get_or driven index s)
     (at_lplace : x ≡ get_or lines lplace x) where
   on : v.stopped ≡ false
   on = subst (λ (w : WorldState). w.stopped ≡ false) (sym old_same) old_on
@@ -255,7 +255,7 @@ module _ (v : WorldState) (tables : List CycleTable) (driven : List WorldBridge)
   in_driven = omega (arith, end_inside v.domain link bridge world.given.accepted ends_v, run.all_driven)
 
   here_v : s ≡ get_or driven bridge s
-  here_v = at_place ∙ ap (λ (k : ℕ). get_or driven k s) at
+  here_v = at_index ∙ ap (λ (k : ℕ). get_or driven k s) at
 
   there_v : x ≡ get_or lines link x
   there_v = at_lplace ∙ ap (λ (k : ℕ). get_or lines k x) lat

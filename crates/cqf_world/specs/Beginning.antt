@@ -41,12 +41,12 @@ pub record IsNewDriven (d : Domain) (offers : List Offer) (background : List Bac
   pub none_posted : s.posted ≡ 0
   pub none_taken : s.taken.items ≡ []
 
--- the first count bridges of a domain
+-- the first `count` bridges of a domain
 pub record AreNewDriven (d : Domain) (offers : List Offer) (background : List Background) (count : ℕ) (driven : List WorldBridge) : Type 0 where
   pub one_each : length driven ≡ count
   pub each : (bridge : ℕ) (s : WorldBridge) → bridge < count → IsNewDriven d offers background bridge (slice_index_or driven bridge s)
 
--- count links on which no batch is under way, and from which none was taken
+-- `count` links on which no batch is under way, and from which none was taken
 pub record AreNewLines (count : ℕ) (lines : List Line) : Type 0 where
   pub one_each : length lines ≡ count
   pub none_taken : (link : ℕ) (x : Line) → link < count → (slice_index_or lines link x).taken ≡ 0

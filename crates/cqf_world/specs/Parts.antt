@@ -43,12 +43,12 @@ pub record IsGivenWorld (w : WorldState) : Type 0 where
 abbrev pub links_taken : WorldState → ℕ → List ℕ
 links_taken w bridge = filter (λ l. nat_lt (cycle_of_bridge w bridge) (taken_from w l)) (links_into w.domain bridge)
 
--- a bridge with what it was given, in one of its cycles. It may have the cycle's table, and then may have sent the cycle. Before sending it
--- follows the network. After sending it has sent what the network sends, and keeps it for its page. The batches that it has taken are the
--- network's
+-- a bridge with what it was given, in one of its cycles. It may have the cycle's table, and then may have sent the cycle. Before it sends
+-- the cycle, it follows the network. Afterwards it has sent what the network sends, and keeps it for its page. The batches that it has
+-- taken are the network's
 pub record IsDriven (run : Run) (sealed : ℕ) (net : Network) (bridge cycle : ℕ) (links : List ℕ) (s : WorldBridge) : Type 0 where
   pub in_cycle : s.posted ≡ cycle
-  pub not_behind : s.posted ≤ s.sent
+  pub not_after : s.posted ≤ s.sent
   pub with_table : s.sent ≤ s.given
   pub not_ahead : s.given ≤ s.posted + 1
   pub closed : s.given ≤ sealed
@@ -61,12 +61,13 @@ pub record IsDriven (run : Run) (sealed : ℕ) (net : Network) (bridge cycle : �
   pub incoming : s.incoming ≡ length (links_into run.domain bridge)
   pub agenda : IsAgendaOf run.domain run.offers run.background bridge s.agenda
 
--- the batches under way on a link: the network's batches of count cycles, beginning with cycle from
+-- the batches under way on a link: the network's batches of `count` cycles, beginning with the cycle `from`
 abbrev pub under_way : Domain → Network → ℕ → ℕ → ℕ → List LinkBatch
 under_way d net link from count = each_below (λ k. batch_of d net.carried (from + k) link ∷ []) count
 
--- a link that ends in a bridge which is in cycle cycle and has sent sent cycles. The bridge has taken the batches of the cycles before its
--- own, and perhaps that of its own cycle. Those batches are under way that the bridge at the link's start has sent and that weren't taken
+-- a link that ends in a bridge; the bridge is in the cycle `cycle` and has sent `sent` cycles. It has taken the batches of the cycles
+-- before its own, and perhaps that of its own cycle. Under ingress are the batches that the bridge at the link's start has sent and that
+-- weren't taken
 pub record IsLine (d : Domain) (net : Network) (link cycle sent sent_from : ℕ) (x : Line) : Type 0 where
   pub at_least : cycle ≤ x.taken
   pub at_most : x.taken ≤ sent
@@ -115,7 +116,7 @@ pub record ClosesInWorld (old new : Administration) (seat : ℕ) (before after :
   pub table : CycleTable
   pub of_cycle : table.cycle ≡ seals old.entries
   pub rows : table.rows ≡ table_at old.domain new.entries (seals old.entries)
-  pub behind : after ≡ before ++ table ∷ []
+  pub following : after ≡ before ++ table ∷ []
 
 -- the oldest batch under way on a link goes to the bridge, where it is inserted by link number
 pub record Moves (line line_after : Line) (bridge_driven driven_after : WorldBridge) : Type 0 where
@@ -136,7 +137,7 @@ pub record SendsItsCycle (before after : WorldBridge) (batches : List LinkBatch)
 pub record AreComing (d : Domain) (batches : List LinkBatch) (before after : List Line) : Type 0 where
   pub as_many : length after ≡ length before
   pub counts : map taken_of after ≡ map taken_of before
-  pub behind : (link bridge : ℕ) (x : Line) → enters d link bridge ≡ true →
+  pub following : (link bridge : ℕ) (x : Line) → enters d link bridge ≡ true →
       (slice_index_or after link x).waiting.items
       ≡ (slice_index_or before link x).waiting.items ++ filter (λ (b : LinkBatch). b.link == link) batches
 
@@ -156,7 +157,7 @@ handed_to s table = record { table_cycle = table.cycle; rows = table.rows; batch
 abbrev pub IsRunAt : WorldBridge → CycleTable → Run → Type 0
 IsRunAt s table run = IsRunOfBridge s.bridge.domain s.bridge.number s.posted table.rows (offers_listed_at s.agenda s.posted) run
 
--- a bridge may receive its cycle with the table: there is such a run, and the bridge can fail only for lack of memory
+-- a bridge may receive its cycle with the table: there is such a run, and the bridge can fail only if an allocation fails
 pub record MayReceiveItsCycle (s : WorldBridge) (table : CycleTable) : Type 0 where
   pub run : Run
   pub of_run : IsRunAt s table run

@@ -11,7 +11,7 @@ use cqf_model::{Receipt, Refused};
 use cqf_units::Memory;
 use std::alloc::AllocError;
 
-/// Makes an administrator's call.
+/// Makes an administrator's call with a seat, and returns the answer.
 pub(crate) fn ask(
     admission: &mut Admission,
     seat: u16,
@@ -26,7 +26,8 @@ pub(crate) fn ask(
     }
 }
 
-/// Closes the next cycle, and appends its table to the others.
+/// Closes the next cycle, and appends its table to the others. Returns `Memory` if an allocation fails; the admission
+/// is then unchanged.
 pub(crate) fn close_cycle(
     admission: &mut Admission,
     tables: &mut Vec<Table>,

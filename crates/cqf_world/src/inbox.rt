@@ -27,18 +27,18 @@ pub(crate) fn bridge_at_end(domain: &Domain, link: u16) -> Option<u16>
     }
 }
 
-/// Returns how many of the batches are of links with a lower number.
-fn place_of(taken: &[Batch], link: u16) -> usize
+/// Returns how many of the batches are of links with a lower number than `link`.
+fn index_of(taken: &[Batch], link: u16) -> usize
     ensures value { result ≡ length (filter (λ (x : LinkBatch). nat_lt x.link link) taken.now) }
     ensures within { result ≤ length taken.now }
 {
-    let mut place = 0;
+    let mut index = 0;
     for other in taken {
         if other.link() < link {
-            place += 1;
+            index += 1;
         }
     }
-    place
+    index
 }
 
 /// Inserts a batch among those that were taken, by link number.
@@ -46,8 +46,8 @@ pub(crate) fn put_in(taken: &mut Vec<Batch>, batch: Batch) -> Result<(), Memory>
     ensures { OnOk result (taken.new.items
         ≡ insert taken.old.items (length (filter (λ (x : LinkBatch). nat_lt x.link batch.link) taken.old.items)) batch) }
 {
-    let place = place_of(taken.as_slice(), batch.link());
-    taken.insert(place, batch)?;
+    let index = index_of(taken.as_slice(), batch.link());
+    taken.insert(index, batch)?;
     Ok(())
 }
 
@@ -59,7 +59,7 @@ pub(crate) fn is_quiet(line: &Line) -> bool
     line.waiting.is_empty()
 }
 
-/// Moves the oldest batch under way on a link to the bridge in which the link ends. There is one.
+/// Moves the oldest batch under way on a link to the bridge in which the link ends. There is at least one.
 pub(crate) fn move_batch(line: &mut Line, bridge_driven: &mut WorldBridge) -> Result<(), Memory>
     requires some { 0 < length line.old.waiting.items }
     requires few { line.old.taken < most_cycles }

@@ -39,11 +39,11 @@ pub struct World<'a> {
     background: &'a [Background],
     cycles: u32,
     admission: Admission,
-    /// By cycle.
+    /// The tables of the Seals, by cycle.
     tables: Vec<Table>,
-    /// By bridge number.
+    /// The bridges, by number.
     driven: Vec<WorldBridge>,
-    /// By link number.
+    /// The links, by number.
     lines: Vec<Line>,
     pages: Pages,
     /// Whether an allocation failed. It is also set while an event that allocates is carried out, so a failed allocation leaves the world
@@ -87,8 +87,9 @@ impl<'a> Model for World<'a> {
 
 impl<'a> World<'a> {
     /// Returns a world of the plan's domain for `cycles` cycles, at most 100,000, with these offers and background frames. It begins with
-    /// the history of an admission for that domain that has no Seal, and with no page. There are at most 16,777,215 offers and as many
-    /// background frames. Returns `Memory` if an allocation fails; the admission is then dropped.
+    /// the history of an admission for that domain that has no Seal, and with no page. There are at most 16,777,215 offers, each at a
+    /// bridge of the domain, and at most 16,777,215 background frames, each on a link of it. Returns `Memory` if an allocation fails; the
+    /// admission is then dropped.
     pub fn new(
         alloc: Global,
         plan: &Plan,
@@ -379,8 +380,8 @@ impl World<'_> {
     /// then, and nothing was allocated. Returns `Memory` if an allocation fails: the history and the pages are then unchanged, and no event
     /// can happen any more.
     ///
-    /// A law says what the page of one bridge means for the others: the state of each bridge follows from its own lists, no matter in which order
-    /// the others act. Once it has its table and its batches, it receives its cycle unless an allocation fails (`halfway` and `receives` of
+    /// The state of each bridge follows from its own tables, offers and batches, no matter in which order the other bridges act. Once it
+    /// has its table and its batches, it receives its cycle unless an allocation fails (`halfway` and `receives` of
     /// [`cqf_bridge::bridges_go_on`]).
     pub fn apply(&mut self, event: Event) -> Result<Applied, Memory>
         ensures { AnswersEvent self.old self.new event result }

@@ -166,7 +166,7 @@ static struct stream_gate *gate_of(struct port *port, struct vlan_ethhdr *head)
 	return NULL;
 }
 
-/* returns whether a gate passes so many octets at an instant, and their class */
+/* returns whether a gate passes this number of octets at an instant, and their class */
 static bool passes(struct stream_gate *gate, u32 octets, u64 at, u32 *class)
 {
 	struct interval *now = gate->intervals;
@@ -341,7 +341,7 @@ static void drop_gate(struct port *port, unsigned long cookie)
 	spin_unlock_irqrestore(&port->lock, flags);
 }
 
-/* returns a gate with room for so many intervals */
+/* returns a gate with room for this number of intervals */
 static struct stream_gate *new_gate(u32 count)
 {
 	struct stream_gate *gate = kzalloc(sizeof(*gate), GFP_KERNEL);

@@ -1,5 +1,5 @@
 use Rattle.cqf_laws_shift.proofs.CycleLaws.{cycle_laws}
-use Rattle.cqf_laws_coverage.proofs.Told.{cells_fit}
+use Rattle.cqf_laws_coverage.proofs.Reported.{cells_fit}
 use Rattle.cqf_laws_coverage.proofs.cells_fit.Goals as goal
 
 pub returns : goal.returns

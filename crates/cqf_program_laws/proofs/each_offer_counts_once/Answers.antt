@@ -5,7 +5,7 @@ pub returns-clause-once : goal.returns-clause-once
 returns-clause-once c =
     let s = c.scripts_admit_only.ensures in
     each_offer_counts s.scripts s.histories s.legal c.lists_bound_costs.ensures.rows c.tables_are_orderly.ensures.orderly
-    c.each_is_told_once.ensures.once c.each_is_told_once.ensures.listeners
+    c.each_is_written_once.ensures.once c.each_is_written_once.ensures.listeners
 
 pub returns-clause-rows : goal.returns-clause-rows
 returns-clause-rows c =

@@ -1,4 +1,4 @@
--- Configurations with stream gates at edge bridges alone.
+-- Configurations with stream gates only at edge bridges.
 use Rattle.std.specs.Prelude.{ℕ, ◌≡◌, ◌↔◌, Bool, true, Contains, List, filter, if◌then◌else◌, is_none, is_some, map}
 use Rattle.cqf_compile.specs.BridgeGates.{first_hop, gate_at}
 use Rattle.cqf_model.specs.declared.topology.Hop.{Hop}
@@ -18,7 +18,8 @@ edge_row row = record row { tree = record { items = edge_hops row.tree.items } }
 abbrev pub gated_rows : Bool → List Row → List Row
 gated_rows edge_gates rows = if edge_gates then map edge_row rows else rows
 
--- with edge gates, a configuration has a gate of the stream at a bridge exactly if the stream begins there, and the gate is the same
+-- with edge gates, a configuration has a gate of the stream at a bridge if and only if the stream begins there, and that gate is the one
+-- that it has without edge gates
 pub record HasGateAtItsEdge (d : Domain) (row : Row) (bridge : ℕ) : Type 0 where
   pub gates : Contains (bridges_of d (edge_row row)) bridge ↔ (begins_at d row bridge ≡ true)
   pub leaves : is_some (first_hop d bridge (edge_row row)) ≡ begins_at d row bridge

@@ -22,7 +22,7 @@ use Rattle.cqf_model.specs.Limits.{most_streams}
 
 -- the line for a stream that isn't admitted, by its position among the streams, from 1
 abbrev pub stream_line : ℕ → Refused → List ℕ
-stream_line place refused = line_of (codes "cqf: stream " ++ (decimal place ++ (codes ": " ++ text_of_refusal refused)))
+stream_line index refused = line_of (codes "cqf: stream " ++ (decimal index ++ (codes ": " ++ text_of_refusal refused)))
 
 -- the history with a request for a stream by seat 0, and its due answer
 abbrev pub with_asked : Domain → List Recorded → Asked → List Recorded
@@ -30,9 +30,9 @@ with_asked d entries asked = with_entry entries 0 (Admits asked) (reply_to d ent
 
 -- the history with streams admitted in turn, the first of them at this position; or the line of the first stream that is refused
 abbrev pub admitted_from : Domain → List Recorded → ℕ → List Asked → Result (List Recorded) (List ℕ)
-admitted_from d entries place [] = Ok entries
-admitted_from d entries place (asked ∷ more) =
-    refuse (refusal_of d (held_in d entries (seals entries)) asked) (stream_line place) (admitted_from d (with_asked d entries asked) (place + 1) more)
+admitted_from d entries index [] = Ok entries
+admitted_from d entries index (asked ∷ more) =
+    refuse (refusal_of d (held_in d entries (seals entries)) asked) (stream_line index) (admitted_from d (with_asked d entries asked) (index + 1) more)
 
 -- the domain of a network and the streams of a part for it, or the line of the part's first fault: of the streams, of the first that doesn't
 -- enter as its text says, of the first access link that is full, and of the first stream that reserves less than its traffic needs
@@ -45,7 +45,8 @@ abbrev pub compile_input : Limits → List ℕ → Result (Domain × List Asked)
 compile_input limits input = and_then (two_parts (parts_of input)) (λ parts.
     and_then (network_of_part limits parts.0) (λ network. plan_of_network network parts.1))
 
--- the configuration of a domain with all of these streams admitted before cycle 0, with stream gates at edge bridges alone or at all bridges
+-- the configuration of a domain with all of these streams admitted before cycle 0, with stream gates only at edge bridges, or at all
+-- bridges
 abbrev pub configuration_of : Bool → Domain → List Asked → Result (List ℕ) (List ℕ)
 configuration_of edge_gates d streams =
     and_then (admitted_from d [] 1 streams) (λ entries. Ok (config_text d (gated_rows edge_gates (held_in d entries 0))))

@@ -23,9 +23,9 @@ asked_in streams = map (λ (planned : PlannedText). asked_by planned.0) streams
 abbrev pub deadlines_in : List PlannedText → List (Option ℕ)
 deadlines_in streams = map (λ (planned : PlannedText). planned.1) streams
 
--- the plan of an input from where its streams begin, or the line of the first fault: of the parts, then of the domain, then of the streams,
--- of the first whose talker or listeners don't fit, of the first access link that is full, and of the first stream that reserves less than
--- its traffic needs
+-- the plan of an input as its talkers see it, or the line of the first fault: of the parts, then of the domain, then of the streams, of the
+-- first whose talker or listeners don't fit, of the first access link that is full, and of the first stream that reserves less than its
+-- traffic needs
 abbrev pub plan_with : NetworkDomain → EdgeFlowsText → List PacedText → PlanFromTalkers
 plan_with network edge requests =
     record { domain = domain_of network; streams = map asked_by requests; deadlines = edge.deadlines; times = edge.times }
@@ -45,7 +45,7 @@ latency_input limits input = and_then (two_parts (parts_of input)) (λ parts.
 abbrev pub latency_of_input : Limits → Bool → List ℕ → Result (List ℕ) (List ℕ)
 latency_of_input limits strict input = and_then (latency_input limits input) (latency_from_talkers strict)
 
--- what is read of it
+-- the plan that is read of it
 abbrev pub latency_input_value : LatencyInput → PlanFromTalkers
 latency_input_value found = record {
   domain = found.domain;

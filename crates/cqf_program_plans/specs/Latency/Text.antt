@@ -17,7 +17,7 @@ use Rattle.cqf_program_plans.specs.EndNames.{name_of_end}
 use Rattle.cqf_output.specs.Stops.{fault_line}
 use Rattle.cqf_program_plans.specs.declared.latency.latencies.Latency.{Latency}
 use Rattle.cqf_program_plans.specs.declared.latency.latencies.Verdict.{Verdict}
-use Rattle.cqf_program_plans.specs.declared.latency.latencies.Verdict.TheVariants as told
+use Rattle.cqf_program_plans.specs.declared.latency.latencies.Verdict.TheVariants as reported
 
 -- whether there is a node, and it is a station
 abbrev pub is_station : Option Node → Bool
@@ -34,9 +34,9 @@ abbrev pub latency_to : Domain → ℕ → Row → Option ℕ → Hop → Latenc
 latency_to d cost row deadline hop = record {
   stream = row.name;
   listener = name_of_end d hop.link;
-  bridges = hop.depth;
-  least = least_of d hop.link hop.depth;
-  most = most_of d hop.link hop.depth cost;
+  bridges = hop.hop_number;
+  least = least_of d hop.link hop.hop_number;
+  most = most_of d hop.link hop.hop_number cost;
   window = window_of d hop.link cost;
   deadline = deadline;
 }
@@ -54,10 +54,10 @@ deadline_of deadlines number = slice_index_or deadlines number None
 abbrev pub latencies_of : Domain → List Row → List (Option ℕ) → List Latency
 latencies_of d rows deadlines = flat_map (λ (row : Row). latencies_of_row d rows row (deadline_of deadlines row.no)) rows
 
--- a latency from the hand-over at the talker, where frames take so long from there to the edge bridge
-abbrev pub latency_behind : Option AccessTimes → Latency → Latency
-latency_behind None latency = latency
-latency_behind (Some times) latency = record {
+-- a latency counted from the hand-over by the talker, if frames take these times from there to the edge bridge
+abbrev pub latency_from_talker : Option AccessTimes → Latency → Latency
+latency_from_talker None latency = latency
+latency_from_talker (Some times) latency = record {
   stream = latency.stream;
   listener = latency.listener;
   bridges = latency.bridges;
@@ -67,28 +67,28 @@ latency_behind (Some times) latency = record {
   deadline = latency.deadline;
 }
 
--- that of each listener of each row, from where its stream begins: how long frames take to their edge bridges is by stream number, and so
--- are deadlines as they are written
+-- the latency to each listener of each row, counted from the hand-over if the stream's talker is a station. The times to the edge bridges
+-- are by stream number, and so are the deadlines, as they are written
 abbrev pub times_of : List (Option AccessTimes) → ℕ → Option AccessTimes
 times_of times number = slice_index_or times number None
 
 abbrev pub latencies_from : Domain → List Row → List (Option ℕ) → List (Option AccessTimes) → List Latency
 latencies_from d rows deadlines times =
-    flat_map (λ (row : Row). map (latency_behind (times_of times row.no)) (latencies_of_row d rows row (deadline_of deadlines row.no))) rows
+    flat_map (λ (row : Row). map (latency_from_talker (times_of times row.no)) (latencies_of_row d rows row (deadline_of deadlines row.no))) rows
 
 -- whether the frames are certain to keep their deadline, as a verdict and as its name
 abbrev pub said_of_latency : Sure → Verdict
-said_of_latency InTime = told.InTime
-said_of_latency Late = told.Late
-said_of_latency MayBeLate = told.MayBeLate
+said_of_latency InTime = reported.InTime
+said_of_latency Late = reported.Late
+said_of_latency MayBeLate = reported.MayBeLate
 
 abbrev pub verdict_on_deadline : Latency → Option Verdict
 verdict_on_deadline latency = option_map (λ (deadline : ℕ). said_of_latency (sure_of latency.least latency.most deadline)) latency.deadline
 
 abbrev pub name_of_verdict : Verdict → List ℕ
-name_of_verdict told.InTime = codes "in-time"
-name_of_verdict told.Late = codes "late"
-name_of_verdict told.MayBeLate = codes "may-be-late"
+name_of_verdict reported.InTime = codes "in-time"
+name_of_verdict reported.Late = codes "late"
+name_of_verdict reported.MayBeLate = codes "may-be-late"
 
 -- the header of latencies
 abbrev pub latency_header : Fields
@@ -124,9 +124,9 @@ latency_text d rows deadlines = text_of_latency (latencies_of d rows deadlines)
 -- whether there is a verdict, and frames may miss their deadline
 abbrev pub may_miss : Option Verdict → Bool
 may_miss None = false
-may_miss (Some told.InTime) = false
-may_miss (Some told.Late) = true
-may_miss (Some told.MayBeLate) = true
+may_miss (Some reported.InTime) = false
+may_miss (Some reported.Late) = true
+may_miss (Some reported.MayBeLate) = true
 
 abbrev pub is_not_sure : Latency → Bool
 is_not_sure latency = may_miss (verdict_on_deadline latency)

@@ -23,15 +23,16 @@ access_budget cycle_time rate = 25 * cycle_time / ticks_of_octet rate
 abbrev pub promised_in : ℕ → TrafficText → ℕ
 promised_in cycle_time t = div_ceil (t.frames * (t.size + 20) * cycle_time) t.interval
 
--- and what one takes that promises nothing: what its reservation of this many octets costs, in the one of `every` cycles in which it is offered
-abbrev pub reserved_in : ℕ → ℕ → ℕ
-reserved_in octets every = div_ceil (cost_of octets) (max every 1)
+-- how many octets of a cycle a talker that promises nothing takes: the mean per cycle, rounded up, of what its reservation of this many
+-- octets costs in one of `every` cycles
+abbrev pub reserved_in : ℕ → ℕ → ℕ → ℕ
+reserved_in overhead octets every = div_ceil (cost_of overhead octets) (max every 1)
 
--- what the stream takes that hands this over, and reserves this many octets in one of `every` cycles
-abbrev pub taken_by : ℕ → Handed → ℕ → ℕ → ℕ
-taken_by cycle_time handed octets every = option_map_or (promised_in cycle_time) handed.traffic (reserved_in octets every)
+-- how many octets of a cycle a stream takes that hands this over and reserves this many octets in one of `every` cycles
+abbrev pub taken_by : ℕ → ℕ → Handed → ℕ → ℕ → ℕ
+taken_by overhead cycle_time handed octets every = option_map_or (promised_in cycle_time) handed.traffic (reserved_in overhead octets every)
 
--- no stream takes more
+-- the most octets of a cycle that a stream takes of an access link
 abbrev pub most_taken : ℕ
 most_taken = 2 ^ 44
 
@@ -46,37 +47,37 @@ unloaded network cycle_time link = record {
   streams = 0;
 }
 
--- an access link, with what one stream more takes; and links, with what a stream takes of the one at a place, if there is one
+-- an access link, with what one stream more takes; and links, with what a stream takes of the one at an index, if there is one
 abbrev pub loaded_by : ℕ → AccessLoad → AccessLoad
 loaded_by taken load =
     record { from = load.from; to = load.to; rate = load.rate; budget = load.budget; held = load.held + taken; streams = load.streams + 1 }
 
 abbrev pub added_load : List AccessLoad → ℕ → ℕ → List AccessLoad
-added_load [] place taken = []
+added_load [] index taken = []
 added_load (load ∷ loads) zero taken = loaded_by taken load ∷ loads
-added_load (load ∷ loads) (suc place) taken = load ∷ added_load loads place taken
+added_load (load ∷ loads) (suc index) taken = load ∷ added_load loads index taken
 
 -- links, with what streams take, each of the link to which it is handed
-abbrev pub loads_with : ℕ → List AccessLoad → List (Option Handed) → List FlowText → List AccessLoad
-loads_with cycle_time loads [] flows = loads
-loads_with cycle_time loads (one ∷ more) [] = loads
-loads_with cycle_time loads (None ∷ more) (flow ∷ flows) = loads_with cycle_time loads more flows
-loads_with cycle_time loads (Some handed ∷ more) (flow ∷ flows) =
-    loads_with cycle_time (added_load loads handed.place (taken_by cycle_time handed flow.0.0.octets flow.0.0.every)) more flows
+abbrev pub loads_with : ℕ → ℕ → List AccessLoad → List (Option Handed) → List FlowText → List AccessLoad
+loads_with overhead cycle_time loads [] flows = loads
+loads_with overhead cycle_time loads (one ∷ more) [] = loads
+loads_with overhead cycle_time loads (None ∷ more) (flow ∷ flows) = loads_with overhead cycle_time loads more flows
+loads_with overhead cycle_time loads (Some handed ∷ more) (flow ∷ flows) =
+    loads_with overhead cycle_time (added_load loads handed.index (taken_by overhead cycle_time handed flow.0.0.octets flow.0.0.every)) more flows
 
 abbrev pub access_loads : NetworkDomain → ℕ → List (Option Handed) → List FlowText → List AccessLoad
-access_loads network cycle_time handed flows = loads_with cycle_time (map (unloaded network cycle_time) network.talkers) handed flows
+access_loads network cycle_time handed flows = loads_with network.overhead cycle_time (map (unloaded network cycle_time) network.talkers) handed flows
 
--- what is held is what as many streams can take
+-- what is held is at most what that many streams can take
 abbrev pub TakesLittle : AccessLoad → Type 0
 TakesLittle load = load.held ≤ load.streams * most_taken
 
--- and these are some of a number of streams
+-- what is held is at most what the link's streams can take, and there are at most `count` of them
 pub record IsLoadedBy (count : ℕ) (load : AccessLoad) : Type 0 where
   pub little : TakesLittle load
   pub few : load.streams ≤ count
 
--- its name: those of its ends
+-- the name of an access link: the names of its ends
 abbrev pub name_of_access : AccessLoad → List ℕ
 name_of_access load = load.from ++ (codes ">" ++ load.to)
 
@@ -86,6 +87,6 @@ access_fields load =
     name_of_access load ∷ decimal (megabits_of load.rate) ∷ decimal load.budget ∷ decimal load.held ∷ left_text load.budget load.held
     ∷ [] ∷ decimal load.streams ∷ used_text load.budget load.held ∷ []
 
--- one line a link, in their order
+-- one line per access link, in their order
 abbrev pub lines_of_access : List AccessLoad → List ℕ
 lines_of_access loads = flat_map (λ (load : AccessLoad). line_of_fields (access_fields load)) loads

@@ -13,7 +13,7 @@ use Rattle.cqf_admission.specs.Judging.{form_refusal, row_by}
 use Rattle.cqf_program_plans.specs.Load.Fitting.{streams_on}
 use Rattle.cqf_model.specs.Limits.{most_links, most_streams, streams_within}
 use Rattle.cqf_model.specs.Table.{link_cost}
-use Rattle.cqf_admission.specs.Turns.{IsOfGoodPace, Turned, sum_on}
+use Rattle.cqf_admission.specs.ActiveCycles.{IsOfGoodPace, SumsByCycle, sum_on}
 use Rattle.cqf_admission.specs.Rows.{IsCountable}
 
 -- why a stream isn't listed beside others: the reason for which it would be refused beside them if each link had room
@@ -28,7 +28,7 @@ abbrev pub listed_row : Domain → List Row → Asked → Row
 listed_row d rows asked = granted_row d (length rows) 0 asked
 
 -- what is kept of the rows: their names, and for each link what they cost of it in each cycle, and how many of them use it
-pub record IsListing (names : List (List ℕ)) (rows : List Row) (held : Turned) (crossing : List ℕ) : Type 0 where
+pub record IsListing (names : List (List ℕ)) (rows : List Row) (held : SumsByCycle) (crossing : List ℕ) : Type 0 where
   pub are_names : names ≡ map (λ (row : Row). row.name) rows
   pub few : length rows ≤ most_streams
   pub costs : held.links ≡ most_links

@@ -18,7 +18,7 @@ use Rattle.cqf_program_plans.specs.declared.load.shares.AccessShare.{AccessShare
 use Rattle.cqf_program_plans.specs.Compile.Output.{stream_line}
 use Rattle.cqf_program_plans.specs.Edges.{edges_of_part, has_access}
 use Rattle.cqf_program_plans.specs.Load.Access.{access_loads, most_taken}
-use Rattle.cqf_program_plans.specs.Load.Told.{text_of_load}
+use Rattle.cqf_program_plans.specs.Load.Written.{text_of_load}
 use Rattle.cqf_program_plans.specs.Load.Streams.{StreamLoads, access_shares, greatest_first, text_of_streams}
 use Rattle.cqf_program_plans.specs.Reserving.{requests_at, requests_in}
 use Rattle.cqf_program_plans.specs.Load.Listing.{listed_row, listing_refusal}
@@ -30,14 +30,14 @@ listed_from d rows [] = Ok rows
 listed_from d rows (asked ∷ more) =
     refuse (listing_refusal d rows asked) (stream_line (length rows + 1)) (listed_from d (rows ++ listed_row d rows asked ∷ []) more)
 
--- what is read: a domain, what its streams take of access links, what each hands to one, and what they ask for
+-- what is read: a domain, what its streams take of access links, what each hands to one, and what they request
 pub record LoadedInput : Type 0 where
   pub domain : Domain
   pub access : List AccessLoad
   pub handed : List (Option Handed)
   pub streams : List Asked
 
--- of a network in which a station has an access link: also where one is full, since it is here that one sees how full
+-- what is read of a network in which a station has an access link. An access link may be full, since `load` shows how full it is
 abbrev pub loaded_from : NetworkDomain → EdgeFlowsText → Result LoadedInput (List ℕ)
 loaded_from network edge = and_then (requests_at (domain_of network) edge.flows) (λ requests. Ok (record {
   domain = domain_of network;
@@ -49,16 +49,16 @@ loaded_from network edge = and_then (requests_at (domain_of network) edge.flows)
 abbrev pub loaded_by_access : NetworkDomain → List ℕ → Result LoadedInput (List ℕ)
 loaded_by_access network text = and_then (edges_of_part network text) (loaded_from network)
 
--- of one in which none has
+-- what is read of a network in which no station has an access link
 abbrev pub loaded_without : Domain → List ℕ → Result LoadedInput (List ℕ)
 loaded_without d text = and_then (requests_in d text) (λ requests. Ok (record { domain = d; access = []; handed = []; streams = map asked_by requests }))
 
--- of a network, and a part for it
+-- what is read of a network, and a part for it
 abbrev pub loaded_network : NetworkDomain → List ℕ → Result LoadedInput (List ℕ)
 loaded_network network text = if has_access network then loaded_by_access network text else loaded_without (domain_of network) text
 
--- that of an input, or the line of its first fault: of the parts, of the domain, of the streams, or of the first that doesn't enter as its
--- text says or reserves less than its traffic needs
+-- what is read of an input, or the line of its first fault: of the parts, of the domain, of the streams, or of the first that doesn't enter
+-- as its text says or reserves less than its traffic needs
 abbrev pub load_input : Limits → List ℕ → Result LoadedInput (List ℕ)
 load_input limits input = and_then (two_parts (parts_of input)) (λ parts.
     and_then (network_of_part limits parts.0) (λ network. loaded_network network parts.1))
@@ -72,14 +72,14 @@ load_of found = and_then (listed_from found.domain [] found.streams) (λ rows.
 abbrev pub loaded_input : Limits → List ℕ → Result (List ℕ) (List ℕ)
 loaded_input limits input = and_then (load_input limits input) load_of
 
--- of what is read, what each stream takes of each link: of a link the greatest reservation first, of an access link what takes the most, and
--- equal ones in the order of the text
+-- what each stream takes of each link, from what is read. On a link the stream that reserves the most is first, and on an access link the
+-- stream that takes the most. Equal ones are in the order of the text
 abbrev pub stream_loads : LoadedInput → List Row → StreamLoads
 stream_loads found rows = record {
   domain = found.domain;
   rows = greatest_first most_reserved (λ (row : Row). row.octets) rows;
   access = found.access;
-  shares = greatest_first most_taken (λ (share : AccessShare). share.taken) (access_shares found.domain.cycle_time found.handed rows);
+  shares = greatest_first most_taken (λ (share : AccessShare). share.taken) (access_shares found.domain.overhead found.domain.cycle_time found.handed rows);
 }
 
 -- the text of `load --streams` for what is read, or the line of the first stream that isn't listed

@@ -1,4 +1,4 @@
--- What `load` reads, as it is held.
+-- What `load` reads, in the form of the definitions.
 use Rattle.std.specs.Prelude.{map}
 use Rattle.cqf_admission.specs.Asking.{asked_paced}
 use Rattle.cqf_program_plans.specs.declared.load.command.LoadInput.{LoadInput}

@@ -24,17 +24,17 @@ greatest_first most figure items = each_below (λ less. filter (λ x. most - fig
 -- ---- access links
 
 -- what the stream of a row takes of an access link, if it hands its frames to one
-abbrev pub shares_of : ℕ → List (Option Handed) → Row → List AccessShare
-shares_of cycle_time handed row =
+abbrev pub shares_of : ℕ → ℕ → List (Option Handed) → Row → List AccessShare
+shares_of overhead cycle_time handed row =
     option_map_or (λ (one : Handed). record {
-      place = one.place;
+      index = one.index;
       stream = row.name;
-      taken = taken_by cycle_time one row.octets (row.pace.pause + 1);
+      taken = taken_by overhead cycle_time one row.octets (row.pace.pause + 1);
     } ∷ []) (slice_index_or handed row.no None) []
 
 -- what the streams of rows take of access links
-abbrev pub access_shares : ℕ → List (Option Handed) → List Row → List AccessShare
-access_shares cycle_time handed rows = flat_map (shares_of cycle_time handed) rows
+abbrev pub access_shares : ℕ → ℕ → List (Option Handed) → List Row → List AccessShare
+access_shares overhead cycle_time handed rows = flat_map (shares_of overhead cycle_time handed) rows
 
 -- ---- what is written
 
@@ -54,8 +54,8 @@ streams_header = codes "link" ∷ codes "stream" ∷ codes "octets" ∷ codes "c
 -- n cycles, and the share of the link's budget that it costs in such a cycle
 abbrev pub stream_fields : Domain → ℕ → Row → Fields
 stream_fields d l row =
-    name_of_link d l ∷ row.name ∷ decimal row.octets ∷ decimal (cost_of row.octets) ∷ decimal (row.pace.pause + 1)
-    ∷ used_text (budget d l) (cost_of row.octets) ∷ []
+    name_of_link d l ∷ row.name ∷ decimal row.octets ∷ decimal (cost_of d.overhead row.octets) ∷ decimal (row.pace.pause + 1)
+    ∷ used_text (budget d l) (cost_of d.overhead row.octets) ∷ []
 
 -- the line of a stream on a link, if its frames go by that link
 abbrev pub stream_line_on : Domain → ℕ → Row → List ℕ
@@ -70,13 +70,13 @@ stream_lines_on d rows l = flat_map (stream_line_on d l) rows
 abbrev pub share_fields : AccessLoad → AccessShare → Fields
 share_fields load share = name_of_access load ∷ share.stream ∷ [] ∷ decimal share.taken ∷ [] ∷ used_text load.budget share.taken ∷ []
 
--- the line of a stream on the access link at a place, if it hands its frames to that link
+-- the line of a stream on the access link at an index, if it hands its frames to that link
 abbrev pub share_line_on : AccessLoad → ℕ → AccessShare → List ℕ
-share_line_on load place share = if share.place == place then line_of_fields (share_fields load share) else []
+share_line_on load index share = if share.index == index then line_of_fields (share_fields load share) else []
 
--- the lines of the access link at a place
+-- the lines of the access link at an index
 abbrev pub share_lines_at : List AccessLoad → List AccessShare → ℕ → List ℕ
-share_lines_at access shares place = option_map_or (λ load. flat_map (share_line_on load place) shares) (slice_get access place) []
+share_lines_at access shares index = option_map_or (λ load. flat_map (share_line_on load index) shares) (slice_get access index) []
 
 -- the header, the lines of each link by number, and the lines of each access link in their order
 abbrev pub text_of_streams : StreamLoads → List ℕ

@@ -9,15 +9,15 @@ ghost use Rattle.cqf_model.specs.History.{Asked, Recorded};
 ghost use Rattle.cqf_program_plans.specs.Compile.Output.{stream_line, admitted_from, compile_input, compiled_input, plan_of_network};
 ghost use Rattle.cqf_program_plans.specs.Compile.Output.{configuration_of, AreAllHeld, ArePlanned, HoldsAll};
 ghost use Rattle.cqf_program_plans.specs.Compile.Gated.{gated_rows};
-ghost use Rattle.cqf_program_plans.specs.Compile.Told.{text_of_config};
-ghost use Rattle.cqf_admission.specs.Turns.{AreOfGoodPaces};
+ghost use Rattle.cqf_program_plans.specs.Compile.Written.{text_of_config};
+ghost use Rattle.cqf_admission.specs.ActiveCycles.{AreOfGoodPaces};
 ghost use Rattle.cqf_admission.specs.Orders.{request_at};
 ghost use Rattle.cqf_output.specs.Stops.{EndsWith, IsRefused};
 
 use crate::compile::gated::gated_rows;
 use crate::compile::outputs::ConfigOutput;
 use crate::reserving::requests_of_network;
-use cqf_admission::{Ledger, Receipt, Refused, count_places, judge_paced};
+use cqf_admission::{Ledger, Receipt, Refused, count_indices, judge_paced};
 use cqf_compile::compile;
 use cqf_laws_history::state_follows_history;
 use cqf_model::{Limits, Row};
@@ -31,7 +31,7 @@ use std::alloc::Global;
 /// The administrator who admits the streams of `compile`.
 const SEAT: u16 = 0;
 
-/// The domain of a network, and the streams of a part for it.
+/// Returns the domain of a network, and reads the streams of a part for it.
 fn plan_of_network(
     alloc: Global,
     network: &NetworkDomain,
@@ -45,13 +45,13 @@ fn plan_of_network(
     Ok((domain, requests))
 }
 
-/// The domain and the streams of the input, which is read within some limits. Each stream that has traffic reserves what it needs of a
-/// cycle at its edge bridge.
+/// Reads the domain and the streams of an input within some limits. Each stream that has traffic reserves what it needs of a cycle at its
+/// edge bridge.
 ///
 /// # Errors
-/// With status 1 and the line of the first fault of the input: of its parts, of the domain, of the streams, their traffic too, of the first
-/// stream that doesn't enter the network as its text says, of the first access link that is full, or of the first stream that reserves less
-/// than its traffic needs; and with status 3 for want of memory.
+/// With status 1 and the line of the first fault of the input: of its parts, of the domain, or of the streams or their traffic. If there is
+/// none, with status 1 and the line of the first stream that doesn't enter the network as its text says, else of the first access link that
+/// is full, else of the first stream that reserves less than its traffic needs. With status 3 if an allocation fails.
 pub fn read_plan(
     alloc: Global,
     limits: Limits,
@@ -65,34 +65,34 @@ pub fn read_plan(
     plan_of_network(alloc, &network, streams_text)
 }
 
-/// Returns the line for the stream at position `place` that isn't admitted.
-fn line_of_stream(alloc: Global, place: usize, refused: Refused) -> Result<String, Memory>
-    ensures { IfOk result (λ line. string_bytes line ≡ stream_line place refused) }
+/// Returns the line for the stream at position `index`, from 1, that isn't admitted.
+fn line_of_stream(alloc: Global, index: usize, refused: Refused) -> Result<String, Memory>
+    ensures { IfOk result (λ line. string_bytes line ≡ stream_line index refused) }
 {
-    let line = format!(in alloc; "cqf: stream {place}: {refused}\n")?;
+    let line = format!(in alloc; "cqf: stream {index}: {refused}\n")?;
     Ok(line)
 }
 
-/// Returns the end of a command in which the stream at position `place`, from 1, isn't admitted: status 1 with a line that gives the
+/// Returns the end of a command in which the stream at position `index`, from 1, isn't admitted: status 1 with a line that gives the
 /// position and the reason, or status 3 if an allocation fails.
-pub fn stream_stop(alloc: Global, place: usize, refused: Refused) -> Stop
-    ensures refused { refused ≢ Refused.Memory → EndsWith 1 (stream_line place refused) result }
+pub fn stream_stop(alloc: Global, index: usize, refused: Refused) -> Stop
+    ensures refused { refused ≢ Refused.Memory → EndsWith 1 (stream_line index refused) result }
     ensures memory { refused ≡ Refused.Memory → EndsWith 3 [] result }
 {
     match refused {
         Refused::Memory => Stop::memory(alloc),
-        _ => Stop::with_text(alloc, REFUSED, line_of_stream(alloc, place, refused)),
+        _ => Stop::with_text(alloc, REFUSED, line_of_stream(alloc, index, refused)),
     }
 }
 
-/// Returns the row of the stream at index `place`, from 0, with number 0 and admitted in cycle 0. The stream is of good form.
-fn row_at(alloc: Global, domain: &Domain, request: &PacedRequest, place: usize) -> Result<Row, Stop>
-    requires { place + 1 < 2 ^ 64 }
+/// Returns the row of the stream at index `index`, from 0, with number 0 and admitted in cycle 0. The stream is of good form.
+fn row_at(alloc: Global, domain: &Domain, request: &PacedRequest, index: usize) -> Result<Row, Stop>
+    requires { index + 1 < 2 ^ 64 }
     ensures ok { IfOk result (IsRowOfGoodForm domain.now (asked_paced request.now)) }
     ensures err { IfErr result (λ stop. (entries : List Recorded) → (more : List Asked) → IsRefused
-        (admitted_from domain.now entries (place + 1) (asked_paced request.now ∷ more)) stop) }
+        (admitted_from domain.now entries (index + 1) (asked_paced request.now ∷ more)) stop) }
 {
-    if count_places(request.paths.as_slice()).is_none() {
+    if count_indices(request.paths.as_slice()).is_none() {
         return Err(Stop::memory(alloc));
     }
     match judge_paced(domain, request) {
@@ -100,42 +100,42 @@ fn row_at(alloc: Global, domain: &Domain, request: &PacedRequest, place: usize) 
             Ok(row) => Ok(row),
             Err(_) => Err(Stop::memory(alloc)),
         },
-        Err(refused) => Err(stream_stop(alloc, place + 1, refused)),
+        Err(refused) => Err(stream_stop(alloc, index + 1, refused)),
     }
 }
 
-/// Admits the stream at index `place`, from 0, if each call so far admitted one.
-fn admit_one(alloc: Global, ledger: &mut Ledger<'_>, place: usize) -> Result<Receipt, Stop>
-    requires there { place < length ledger.old.requests }
-    requires few { place + 1 < 2 ^ 64 }
+/// Admits the stream at index `index`, from 0, if each call so far admitted one.
+fn admit_one(alloc: Global, ledger: &mut Ledger<'_>, index: usize) -> Result<Receipt, Stop>
+    requires there { index < length ledger.old.requests }
+    requires few { index + 1 < 2 ^ 64 }
     requires held { AreAllHeld ledger.old.administration.domain ledger.old.administration.entries }
     ensures domain { ledger.new.administration.domain ≡ ledger.old.administration.domain }
     ensures requests { ledger.new.requests ≡ ledger.old.requests }
     ensures held { IfOk result (λ _. AreAllHeld ledger.new.administration.domain ledger.new.administration.entries) }
     ensures one_more { IfOk result (λ receipt.
-        HoldsOneMore ledger.old.administration ledger.new.administration (request_at ledger.old.requests place) (Ok receipt)) }
+        HoldsOneMore ledger.old.administration ledger.new.administration (request_at ledger.old.requests index) (Ok receipt)) }
     ensures ok { let d = ledger.old.administration.domain in IfOk result (λ _. (more : List Asked) →
-        admitted_from d ledger.old.administration.entries (place + 1) (request_at ledger.old.requests place ∷ more)
-        ≡ admitted_from d ledger.new.administration.entries (place + 1 + 1) more) }
+        admitted_from d ledger.old.administration.entries (index + 1) (request_at ledger.old.requests index ∷ more)
+        ≡ admitted_from d ledger.new.administration.entries (index + 1 + 1) more) }
     ensures err { let d = ledger.old.administration.domain in IfErr result (λ stop. (more : List Asked) →
-        IsRefused (admitted_from d ledger.old.administration.entries (place + 1) (request_at ledger.old.requests place ∷ more)) stop) }
+        IsRefused (admitted_from d ledger.old.administration.entries (index + 1) (request_at ledger.old.requests index ∷ more)) stop) }
 {
     state_follows_history();
-    match ledger.admit(SEAT, place) {
+    match ledger.admit(SEAT, index) {
         Ok(receipt) => Ok(receipt),
         Err(Refused::HistoryFull) => unreachable!(),
-        Err(refused) => Err(stream_stop(alloc, place + 1, refused)),
+        Err(refused) => Err(stream_stop(alloc, index + 1, refused)),
     }
 }
 
-/// Gives a ledger the row of the request at index `place`.
-fn learn(alloc: Global, ledger: &mut Ledger<'_>, place: usize, row: &Row) -> Result<(), Stop>
-    requires there { place < length ledger.old.requests }
-    requires row { IsRowOfGoodForm ledger.old.administration.domain (request_at ledger.old.requests place) row.now }
+/// Gives a ledger the row of the request at index `index`.
+fn learn(alloc: Global, ledger: &mut Ledger<'_>, index: usize, row: &Row) -> Result<(), Stop>
+    requires there { index < length ledger.old.requests }
+    requires row { IsRowOfGoodForm ledger.old.administration.domain (request_at ledger.old.requests index) row.now }
     ensures same { ledger.new ≡ ledger.old }
     ensures memory { IfErr result (EndsWith 3 []) }
 {
-    match ledger.learn(place, row) {
+    match ledger.learn(index, row) {
         Ok(()) => Ok(()),
         Err(_) => Err(Stop::memory(alloc)),
     }
@@ -172,13 +172,13 @@ fn admit_all(
     ensures err { IfErr result (IsRefused (admitted_from domain.now [] 1 (map asked_paced requests.now))) }
 {
     ledger.know();
-    for place in 0..requests.len() {
-        let row = match row_at(alloc, domain, &requests[place], place) {
+    for index in 0..requests.len() {
+        let row = match row_at(alloc, domain, &requests[index], index) {
             Ok(row) => row,
             Err(stop) => return Err(stop),
         };
-        learn(alloc, ledger, place, &row)?;
-        let receipt = match admit_one(alloc, ledger, place) {
+        learn(alloc, ledger, index, &row)?;
+        let receipt = match admit_one(alloc, ledger, index) {
             Ok(receipt) => receipt,
             Err(stop) => return Err(stop),
         };
@@ -231,8 +231,8 @@ pub fn rows_of_cycle_0(
     rows_with(alloc, domain, requests, &mut ledger)
 }
 
-/// Returns the domain's configuration with the streams of these rows, ready to be written. With `edge_gates`, streams have gates at their edge
-/// bridges alone.
+/// Returns the domain's configuration with the streams of these rows, ready to be written. With `edge_gates`, streams have gates only at
+/// their edge bridges.
 fn config_ready(
     alloc: Global,
     edge_gates: bool,
@@ -271,7 +271,7 @@ fn config_of(
 }
 
 /// Returns the output of `compile` for an input that is read within some limits, ready to be written: the configuration of the domain and
-/// its streams. With `edge_gates`, streams have gates at their edge bridges alone.
+/// its streams. With `edge_gates`, streams have gates only at their edge bridges.
 ///
 /// # Errors
 /// With status 1 and the line of the first fault of the input: of its parts, of the domain, of the streams, or of the first stream that isn't

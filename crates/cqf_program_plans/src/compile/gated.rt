@@ -1,4 +1,4 @@
-//! The streams of a configuration with stream gates at edge bridges alone.
+//! The streams of a configuration with stream gates only at edge bridges.
 ghost use Rattle.std.specs.Prelude.{◌≡◌, IfOk, map};
 ghost use Rattle.cqf_program_plans.specs.Compile.Gated.{EdgeGatesAreAtTheEdge, edge_hops, edge_row, gated_rows};
 
@@ -19,7 +19,7 @@ fn edge_hops(alloc: Global, hops: &[Hop]) -> Result<Vec<Hop>, Memory>
     Ok(kept)
 }
 
-/// Returns the tree of these hops of a tree.
+/// Returns a tree with only its hops that follow no other.
 fn edge_tree(alloc: Global, tree: &Tree) -> Result<Tree, Memory>
     ensures { IfOk result (λ edge. edge.items ≡ edge_hops tree.now.items) }
 {
@@ -37,6 +37,7 @@ fn edge_row(alloc: Global, row: &Row) -> Result<Row, Memory>
         no: row.no,
         name: row.name.copied(),
         octets: row.octets,
+        overhead: row.overhead,
         pace: row.pace,
         tree,
         admitted: row.admitted,
@@ -44,7 +45,7 @@ fn edge_row(alloc: Global, row: &Row) -> Result<Row, Memory>
     })
 }
 
-/// Returns all rows, each with only these hops.
+/// Returns all rows, each with only the hops by which frames leave the edge bridge.
 fn edge_rows(alloc: Global, rows: &[Row]) -> Result<Vec<Row>, Memory>
     ensures { IfOk result (λ edge. edge.items ≡ map edge_row rows.now) }
 {
@@ -56,8 +57,8 @@ fn edge_rows(alloc: Global, rows: &[Row]) -> Result<Vec<Row>, Memory>
     Ok(edge)
 }
 
-/// Returns the rows whose stream gates are written: these rows or, with `edge_gates`, each with only the hops by which frames leave the edge
-/// bridge, so that each stream has a gate at its edge bridge alone.
+/// Returns the rows whose stream gates are written: these rows or, with `edge_gates`, each with only the hops by which frames leave the
+/// edge bridge, so that each stream has a gate only at its edge bridge.
 pub fn gated_rows(alloc: Global, edge_gates: bool, rows: Vec<Row>) -> Result<Vec<Row>, Memory>
     ensures { IfOk result (λ gated. gated.items ≡ gated_rows edge_gates rows.items) }
 {
@@ -69,8 +70,8 @@ pub fn gated_rows(alloc: Global, edge_gates: bool, rows: Vec<Row>) -> Result<Vec
     }
 }
 
-/// Proves that with edge gates, a configuration has a gate of a stream at the bridge at which the stream begins, and at no other. The gate is
-/// the one that the stream has there without edge gates. That the network does the same is proved by `cqf_laws_gates`.
+/// Proves that, with edge gates, a configuration has a gate of a stream at the bridge at which the stream begins, and at no other. The gate
+/// is the one that the stream has there without edge gates. That the network does the same is proved by `cqf_laws_gates`.
 pub fn edge_gates_are_at_the_edge()
     ensures { EdgeGatesAreAtTheEdge }
 {

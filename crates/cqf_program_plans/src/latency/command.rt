@@ -1,11 +1,11 @@
 //! The command `latency`: the latencies of a domain's streams.
 ghost use Rattle.std.specs.Prelude.{ℕ, ◌≡◌, true, Ok, IfOk, IfErr, OnOk, find, map, option_copied, string_bytes};
-ghost use Rattle.cqf_admission.specs.Turns.{AreOfGoodPaces};
+ghost use Rattle.cqf_admission.specs.ActiveCycles.{AreOfGoodPaces};
 ghost use Rattle.cqf_laws_history.specs.StateLaws.{AreHeld};
 ghost use Rattle.cqf_output.specs.Stops.{EndsWith, IsRefused};
 ghost use Rattle.cqf_program_plans.specs.Latency.Text.{first_line_of, is_not_sure, latencies_from, not_sure_line, text_of_latency};
 ghost use Rattle.cqf_program_plans.specs.Latency.Input.{latency_input_value, latency_of_input};
-ghost use Rattle.cqf_program_plans.specs.Latency.Output.{latency_from_talkers, latency_told, unless_strict};
+ghost use Rattle.cqf_program_plans.specs.Latency.Output.{latency_from_talkers, latency_written, unless_strict};
 
 use crate::latency::latencies::Latency;
 use crate::latency::listeners::latencies_from_talkers;
@@ -52,9 +52,9 @@ fn first_not_sure(latencies: &[Latency]) -> Option<&Latency>
 
 /// If `strict`, refuses the first latency whose frames may miss their deadline.
 fn refuse_not_sure(alloc: Global, strict: bool, latencies: &[Latency]) -> Result<(), Stop>
-    ensures ok { let told = unless_strict strict (first_line_of latencies.now) (text_of_latency latencies.now) in
-        OnOk result (told ≡ Ok (text_of_latency latencies.now)) }
-    ensures err { let told = unless_strict strict (first_line_of latencies.now) (text_of_latency latencies.now) in IfErr result (IsRefused told) }
+    ensures ok { let reported = unless_strict strict (first_line_of latencies.now) (text_of_latency latencies.now) in
+        OnOk result (reported ≡ Ok (text_of_latency latencies.now)) }
+    ensures err { let reported = unless_strict strict (first_line_of latencies.now) (text_of_latency latencies.now) in IfErr result (IsRefused reported) }
 {
     if !strict {
         return Ok(());
@@ -93,10 +93,10 @@ fn output_of_rows(
 ) -> Result<LatencyOutput, Stop>
     requires held { (next : ℕ) × AreHeld domain rows.items next 0 }
     requires good { AreOfGoodPaces rows.items }
-    ensures ok { let told = latency_told strict (latencies_from domain rows.items deadlines.now times.now) in
-        IfOk result (λ output. told ≡ Ok (text_of_latency output)) }
-    ensures err { let told = latency_told strict (latencies_from domain rows.items deadlines.now times.now) in
-        IfErr result (IsRefused told) }
+    ensures ok { let reported = latency_written strict (latencies_from domain rows.items deadlines.now times.now) in
+        IfOk result (λ output. reported ≡ Ok (text_of_latency output)) }
+    ensures err { let reported = latency_written strict (latencies_from domain rows.items deadlines.now times.now) in
+        IfErr result (IsRefused reported) }
 {
     match latencies_ready(alloc, domain, rows, deadlines, times) {
         Ok(output) => {

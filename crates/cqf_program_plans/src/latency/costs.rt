@@ -2,7 +2,7 @@
 ghost use Rattle.std.specs.Prelude.{ℕ, ◌≡◌, ◌<◌, ◌∷◌, [], Contains, IfOk, length};
 ghost use Rattle.cqf_admission.specs.Costs.{most_cost};
 ghost use Rattle.cqf_admission.specs.Rows.{IsCountable};
-ghost use Rattle.cqf_admission.specs.Turns.{AreOfGoodPaces, IsOfGoodPace};
+ghost use Rattle.cqf_admission.specs.ActiveCycles.{AreOfGoodPaces, IsOfGoodPace};
 ghost use Rattle.cqf_laws_history.specs.StateLaws.{AreHeld};
 ghost use Rattle.cqf_lists.specs.Lists.{each_below};
 ghost use Rattle.cqf_model.specs.History.{most_beside};

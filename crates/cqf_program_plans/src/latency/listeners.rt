@@ -1,11 +1,11 @@
 //! The latencies of the streams of a table to their listeners.
 ghost use Rattle.std.specs.Prelude.{ℕ, ◌≡◌, ◌*◌, ◌<◌, ◌≤◌, ◌^◌, ◌++◌, Contains, IfOk, OnOk, Some, None, if◌then◌else◌, length, map};
 ghost use Rattle.cqf_admission.specs.Rows.{IsCountable};
-ghost use Rattle.cqf_admission.specs.Turns.{AreOfGoodPaces, IsOfGoodPace};
+ghost use Rattle.cqf_admission.specs.ActiveCycles.{AreOfGoodPaces, IsOfGoodPace};
 ghost use Rattle.cqf_laws_history.specs.StateLaws.{AreHeld};
 ghost use Rattle.cqf_laws_timing.specs.Latency.{least_of, most_of, window_of};
 ghost use Rattle.cqf_program_plans.specs.EndNames.{name_of_end};
-ghost use Rattle.cqf_program_plans.specs.Latency.Text.{deadline_of, is_station, latencies_from, latencies_of, latencies_of_row, latency_behind, latency_to, times_of};
+ghost use Rattle.cqf_program_plans.specs.Latency.Text.{deadline_of, is_station, latencies_from, latencies_of, latencies_of_row, latency_from_talker, latency_to, times_of};
 ghost use Rattle.cqf_model.specs.Domain.{end_of};
 ghost use Rattle.cqf_model.specs.History.{most_beside};
 
@@ -17,35 +17,36 @@ use cqf_topology::Domain;
 use cqf_units::{Memory, Name, octet_ticks, span, time_of};
 use std::alloc::Global;
 
-/// Returns the least time that a frame takes to the end of a link at this hop number, for all clocks and link delays within what the domain
-/// states.
-fn least_to(domain: &Domain, link: u16, depth: u8) -> u64
+/// Returns the least time, in nanoseconds, that a frame takes to the end of a link at this hop number, for all clocks and link delays
+/// within what the domain states.
+fn least_to(domain: &Domain, link: u16, hop_number: u8) -> u64
     requires { link < length domain.now.links }
-    ensures value { result ≡ least_of domain.now link depth }
+    ensures value { result ≡ least_of domain.now link hop_number }
     ensures range { result < 2 ^ 63 }
 {
     let (cycle_time, ends) = (domain.cycle_time().0, domain.link(link));
-    let waits = u64::from(depth.saturating_sub(1)) * cycle_time;
+    let waits = u64::from(hop_number.saturating_sub(1)) * cycle_time;
     let whole = waits + 1 + time_of(72, ends.rate) + u64::from(ends.least);
     whole.saturating_sub(domain.sync().0)
 }
 
 /// Returns the most time, in nanoseconds, that a frame takes to the end of a link at this hop number, if the streams cost `cost` octets of
-/// the link, for all clocks and link delays within what the domain states.
-pub fn most_to(domain: &Domain, link: u16, depth: u8, cost: u64) -> u64
+/// the link. This holds for all clocks and link delays within what the domain states.
+pub fn most_to(domain: &Domain, link: u16, hop_number: u8, cost: u64) -> u64
     requires link { link < length domain.now.links }
     requires cost { cost ≤ 2 ^ 29 * 2000000 }
-    ensures value { result ≡ most_of domain.now link depth cost }
+    ensures value { result ≡ most_of domain.now link hop_number cost }
     ensures range { result < 2 ^ 63 }
 {
     let (cycle_time, ends) = (domain.cycle_time().0, domain.link(link));
-    let waits = u64::from(depth) * cycle_time;
+    let waits = u64::from(hop_number) * cycle_time;
     let gap = 12 * octet_ticks(ends.rate) / 25;
     let busy = span(cost, ends.rate).saturating_sub(gap);
     waits + busy + u64::from(ends.delay) + domain.sync().0
 }
 
-/// Returns how far apart the arrivals of one cycle's frames at the end of a link can be, if the streams cost `cost` octets of the link.
+/// Returns how far apart, in nanoseconds, the arrivals of one cycle's frames at the end of a link can be, if the streams cost `cost` octets
+/// of the link.
 fn window_at(domain: &Domain, link: u16, cost: u32) -> u64
     requires { link < length domain.now.links }
     ensures { result ≡ window_of domain.now link cost }
@@ -57,7 +58,7 @@ fn window_at(domain: &Domain, link: u16, cost: u32) -> u64
     busy + u64::from(ends.delay).saturating_sub(u64::from(ends.least)) + 2 * sync
 }
 
-/// Returns the name of the station in which a link of the domain ends, which has a listener, or `None` if the link ends in a bridge.
+/// Returns the name of the station in which a link of the domain ends, which is a listener, or `None` if the link ends in a bridge.
 pub fn listener_at(domain: &Domain, link: u16) -> Option<Name>
     requires { link < length domain.now.links }
     ensures { result ≡ (if is_station (end_of domain.now link) then Some (name_of_end domain.now link) else None) }
@@ -84,23 +85,24 @@ fn latency_to(
     ensures least { result.least < 2 ^ 63 }
     ensures most { result.most < 2 ^ 63 }
 {
-    let (link, depth) = (hop.link, hop.depth);
+    let (link, hop_number) = (hop.link, hop.hop_number);
     Latency {
         stream: row.name.copied(),
         listener,
-        bridges: depth,
-        least: least_to(domain, link, depth),
-        most: most_to(domain, link, depth, u64::from(cost)),
+        bridges: hop_number,
+        least: least_to(domain, link, hop_number),
+        most: most_to(domain, link, hop_number, u64::from(cost)),
         window: window_at(domain, link, cost),
         deadline,
     }
 }
 
-/// Returns a latency from the hand-over, with the time that frames take from there to their edge bridge.
-fn latency_behind(mut latency: Latency, times: Option<AccessTimes>) -> Latency
+/// Returns a latency counted from the hand-over: to a latency from the edge bridge it adds the times that frames take from the hand-over to
+/// there. Without such times it returns the latency as it is.
+fn latency_from_talker(mut latency: Latency, times: Option<AccessTimes>) -> Latency
     requires least { latency.least < 2 ^ 63 }
     requires most { latency.most < 2 ^ 63 }
-    ensures { result ≡ latency_behind times latency }
+    ensures { result ≡ latency_from_talker times latency }
 {
     match times {
         Some(times) => {
@@ -126,15 +128,15 @@ fn latency_at(costs: &Costs<'_>, row: &Row, ends: StreamEnds, hop: &Hop) -> Opti
     requires countable { IsCountable (length costs.now.domain.links) row.now }
     requires good { IsOfGoodPace row.now }
     ensures { let cost = most_beside costs.now.rows row.now.tree.items row.now.pace hop.now.link in
-        let told = latency_behind ends.times (latency_to costs.now.domain cost row.now ends.deadline hop.now) in
-        result ≡ (if is_station (end_of costs.now.domain hop.now.link) then Some told else None) }
+        let reported = latency_from_talker ends.times (latency_to costs.now.domain cost row.now ends.deadline hop.now) in
+        result ≡ (if is_station (end_of costs.now.domain hop.now.link) then Some reported else None) }
 {
     let domain = costs.domain();
     match listener_at(domain, hop.link) {
         Some(listener) => {
             let cost = costs.at_hop(row, hop);
             let latency = latency_to(domain, cost, row, ends.deadline, hop, listener);
-            Some(latency_behind(latency, ends.times))
+            Some(latency_from_talker(latency, ends.times))
         }
         None => None,
     }
@@ -149,8 +151,8 @@ fn push_listeners(
 ) -> Result<(), Memory>
     requires countable { IsCountable (length costs.now.domain.links) row.now }
     requires good { IsOfGoodPace row.now }
-    ensures { let told = latencies_of_row costs.now.domain costs.now.rows row.now ends.deadline in
-        OnOk result (latencies.new.items ≡ latencies.old.items ++ map (latency_behind ends.times) told) }
+    ensures { let reported = latencies_of_row costs.now.domain costs.now.rows row.now ends.deadline in
+        OnOk result (latencies.new.items ≡ latencies.old.items ++ map (latency_from_talker ends.times) reported) }
 {
     for hop in row.tree.as_slice() {
         if let Some(latency) = latency_at(costs, row, ends, hop) {
@@ -170,7 +172,7 @@ fn deadline_of(deadlines: &[Option<u32>], number: u32) -> Option<u32>
     }
 }
 
-/// Returns how long the frames of the stream with this number take to its edge bridge.
+/// Returns how long the frames of the stream with this number take to its edge bridge, if its talker is a station.
 fn times_of(times: &[Option<AccessTimes>], number: u32) -> Option<AccessTimes>
     ensures { result ≡ times_of times.now number }
 {
@@ -201,9 +203,10 @@ fn latencies_by_costs(
     Ok(latencies)
 }
 
-/// Returns how long the frames of the streams of a table's rows take to each of their listeners: from the hand-over at their talkers, where
-/// these are stations. The order is that of the rows, and then of the listeners in each stream's tree. The deadlines, in nanoseconds, and how
-/// long frames take to their edge bridges are by stream number. A stream whose number is beyond a list's end has none.
+/// Returns how long the frames of the streams of a table's rows take to each of their listeners, counted from the hand-over if their
+/// talkers are stations, and else from their edge bridges. The order is that of the rows, and then of the listeners in each stream's tree.
+/// The deadlines, in nanoseconds, and how long frames take to their edge bridges are by stream number. A stream whose number is beyond a
+/// list's end has none.
 ///
 /// # Errors
 /// `Memory` if an allocation fails.

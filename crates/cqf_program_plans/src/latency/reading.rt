@@ -19,8 +19,8 @@ use cqf_traffic::Flow;
 use cqf_units::Memory;
 use std::alloc::Global;
 
-/// What the command `latency` reads: a domain, its streams, their deadlines as written, and how long their frames take from the hand-over to
-/// their edge bridges, where their talkers are stations. All lists have the same order.
+/// What the command `latency` reads: a domain, its streams, their deadlines as written, and how long their frames take from the hand-over
+/// to their edge bridges, if their talkers are stations. All lists have the same order.
 #[derive(Drop)]
 pub(crate) struct LatencyInput {
     pub(crate) domain: Domain,

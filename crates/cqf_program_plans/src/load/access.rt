@@ -1,6 +1,6 @@
 //! The part of access links that the streams of a plan take.
 ghost use Rattle.std.specs.Prelude.{ℕ, ◌≡◌, ◌+◌, ◌-◌, ◌<◌, ◌≤◌, ◌^◌, All, IfOk, None, length, map, option_copied, slice_index_or};
-ghost use Rattle.cqf_model.specs.Limits.{longest_cycle};
+ghost use Rattle.cqf_model.specs.Limits.{longest_cycle, most_overhead};
 ghost use Rattle.cqf_traffic.specs.FlowsText.{flow_text};
 ghost use Rattle.cqf_program_plans.specs.Load.Access.{IsLoadedBy, TakesLittle, access_budget, access_loads, added_load, loaded_by, most_taken, promised_in};
 ghost use Rattle.cqf_program_plans.specs.Load.Access.{reserved_in, taken_by, unloaded};
@@ -13,7 +13,7 @@ use cqf_traffic::Traffic;
 use cqf_units::{Memory, Name, Nanos, Rate, octet_ticks};
 use std::alloc::Global;
 
-/// No stream takes more octets of a cycle.
+/// The most octets of a cycle that a stream takes of an access link.
 pub(crate) const MOST_TAKEN: u64 = 1 << 44;
 
 /// What streams take of an access link, in octets of a cycle.
@@ -33,7 +33,7 @@ pub struct AccessLoad {
 }
 
 impl AccessLoad {
-    /// Adds what one stream more takes, in octets of a cycle.
+    /// Adds the octets of a cycle that one more stream takes.
     fn add(&mut self, taken: u128)
         requires held { TakesLittle self.old }
         requires few { self.old.streams < 2 ^ 64 - 1 }
@@ -64,33 +64,44 @@ fn promised_in(cycle_time: Nanos, traffic: Traffic) -> u128
     taken.div_ceil(u128::from(traffic.interval().0))
 }
 
-/// Returns what a reservation of this many octets costs of a link, in octets.
-pub(crate) fn cost_in_octets(octets: u32) -> u64
-    ensures { result ≡ cost_of octets }
+/// Returns the cost of a reservation of this many octets on a link, in octets, given the gate overhead.
+pub(crate) fn cost_in_octets(overhead: u32, octets: u32) -> u64
+    requires { overhead ≤ most_overhead }
+    ensures { result ≡ cost_of overhead octets }
 {
-    let octets = u64::from(octets);
-    octets + 20 * (octets / 64)
+    let less = u64::from(overhead);
+    let reserved = u64::from(octets);
+    let more = (less + 20) * (reserved / (64 - less));
+    reserved + more
 }
 
-/// Returns the octets of a cycle that a talker takes that promises nothing: the mean of what its reservation costs in one of `every` cycles,
-/// rounded up. It takes that only in the cycles in which it is offered.
-fn reserved_in(octets: u32, every: u32) -> u128
-    ensures value { result ≡ reserved_in octets every }
+/// Returns the octets of a cycle that a talker that promises nothing takes of its access link: the mean per cycle, rounded up, of what its
+/// reservation costs in one of `every` cycles. It takes the whole cost in the cycles in which it is offered, and nothing in the others.
+fn reserved_in(overhead: u32, octets: u32, every: u32) -> u128
+    requires { overhead ≤ most_overhead }
+    ensures value { result ≡ reserved_in overhead octets every }
     ensures little { result ≤ most_taken }
 {
-    let cost = u128::from(cost_in_octets(octets));
+    let cost = u128::from(cost_in_octets(overhead, octets));
     cost.div_ceil(u128::from(every.max(1)))
 }
 
 /// Returns the octets of a cycle that a stream takes of its access link, if it reserves this many octets in one of `every` cycles.
-pub(crate) fn taken_by(cycle_time: Nanos, handed: &Handed, octets: u32, every: u32) -> u128
-    requires { cycle_time.0 ≤ longest_cycle }
-    ensures value { result ≡ taken_by cycle_time.0 handed.now octets every }
+pub(crate) fn taken_by(
+    overhead: u32,
+    cycle_time: Nanos,
+    handed: &Handed,
+    octets: u32,
+    every: u32,
+) -> u128
+    requires overhead { overhead ≤ most_overhead }
+    requires short { cycle_time.0 ≤ longest_cycle }
+    ensures value { result ≡ taken_by overhead cycle_time.0 handed.now octets every }
     ensures little { result ≤ most_taken }
 {
     match handed.traffic {
         Some(traffic) => promised_in(cycle_time, traffic),
-        None => reserved_in(octets, every),
+        None => reserved_in(overhead, octets, every),
     }
 }
 
@@ -128,30 +139,38 @@ fn all_unloaded(
     Ok(loads)
 }
 
-/// Adds what a stream takes to the link that it is handed to.
-fn add_load(loads: &mut Vec<AccessLoad>, cycle_time: Nanos, handed: &Handed, request: &PacedRequest)
+/// Adds what a stream takes to the access link that it is handed to.
+fn add_load(
+    loads: &mut Vec<AccessLoad>,
+    overhead: u32,
+    cycle_time: Nanos,
+    handed: &Handed,
+    request: &PacedRequest,
+)
+    requires overhead { overhead ≤ most_overhead }
     requires short { cycle_time.0 ≤ longest_cycle }
     requires few { (count : ℕ) × (count < 2 ^ 64 - 1) × All (IsLoadedBy count) loads.old.items }
-    ensures value { loads.new.items ≡ added_load loads.old.items handed.now.place (taken_by cycle_time.0 handed.now request.now.octets request.now.every) }
+    ensures value { loads.new.items ≡ added_load loads.old.items handed.now.index (taken_by overhead cycle_time.0 handed.now request.now.octets request.now.every) }
     ensures few { (count : ℕ) → All (IsLoadedBy count) loads.old.items → All (IsLoadedBy (count + 1)) loads.new.items }
 {
-    if handed.place < loads.len() {
-        let taken = taken_by(cycle_time, handed, request.octets, request.every);
-        loads[handed.place].add(taken);
+    if handed.index < loads.len() {
+        let taken = taken_by(overhead, cycle_time, handed, request.octets, request.every);
+        loads[handed.index].add(taken);
     }
 }
 
-/// Returns what the stream at a place hands to an access link.
-pub(crate) fn handed_at(all: &[Option<Handed>], place: usize) -> Option<&Handed>
-    ensures { option_copied result ≡ slice_index_or all.now place None }
+/// Returns what the stream at index `index` hands to an access link, if it hands its frames to one.
+pub(crate) fn handed_at(all: &[Option<Handed>], index: usize) -> Option<&Handed>
+    ensures { option_copied result ≡ slice_index_or all.now index None }
 {
-    match all.get(place) {
+    match all.get(index) {
         Some(one) => one.as_ref(),
         None => None,
     }
 }
 
-/// Returns what the streams of a network take of its access links, in the links' order. The cycle time is in nanoseconds.
+/// Returns what the streams of a network take of its access links, in the links' order. The cycle time is in nanoseconds, at most
+/// 10,000,000.
 ///
 /// # Errors
 /// `Memory` if an allocation fails.
@@ -168,9 +187,11 @@ pub fn access_loads(
 {
     let mut loads = all_unloaded(alloc, network, cycle_time)?;
     let (handed, flows) = (edge.handed.as_slice(), edge.flows.as_slice());
-    for place in 0..flows.len() {
-        if let Some(one) = handed_at(handed, place) {
-            add_load(&mut loads, cycle_time, one, &flows[place].planned.request);
+    let overhead = network.overhead();
+    for index in 0..flows.len() {
+        if let Some(one) = handed_at(handed, index) {
+            let request = &flows[index].planned.request;
+            add_load(&mut loads, overhead, cycle_time, one, request);
         }
     }
     Ok(loads)

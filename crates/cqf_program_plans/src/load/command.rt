@@ -10,7 +10,7 @@ ghost use Rattle.cqf_model.specs.Limits.{most_reserved};
 ghost use Rattle.cqf_program_plans.specs.Load.Access.{TakesLittle, most_taken};
 ghost use Rattle.cqf_program_plans.specs.Load.Read.{load_input_value};
 ghost use Rattle.cqf_program_scenario.specs.Networks.{domain_of};
-ghost use Rattle.cqf_program_plans.specs.Load.Told.{text_of_load};
+ghost use Rattle.cqf_program_plans.specs.Load.Written.{text_of_load};
 ghost use Rattle.cqf_output.specs.Stops.{IsRefused};
 
 use crate::edges::{edges_part, has_access};
@@ -21,7 +21,7 @@ use crate::load::shares::{access_shares, sort_rows, sort_shares};
 use crate::load::streams::StreamLoadsOutput;
 use crate::reserving::{requests_at, requests_in};
 use crate::stream_stop;
-use cqf_admission::count_places;
+use cqf_admission::count_indices;
 use cqf_edge::{EdgeFlows, Handed};
 use cqf_model::Limits;
 use cqf_network::NetworkDomain;
@@ -42,7 +42,7 @@ fn list_one(
     ensures err { IfErr result (λ stop. (more : List Asked) → IsRefused (listed_from domain.now listing (asked_paced request.now ∷ more)) stop) }
 {
     domain.know();
-    if count_places(request.paths.as_slice()).is_none() {
+    if count_indices(request.paths.as_slice()).is_none() {
         return Err(Stop::memory(alloc));
     }
     let Ok(looked) = listing.look_over(alloc, domain, request) else {
@@ -76,7 +76,7 @@ fn list_all(alloc: Global, domain: &Domain, requests: &[PacedRequest]) -> Result
 struct LoadInput {
     domain: Domain,
     access: Vec<AccessLoad>,
-    /// What each stream hands to an access link, by place.
+    /// What each stream hands to an access link, by the stream's index.
     handed: Vec<Option<Handed>>,
     requests: Vec<PacedRequest>,
 }
@@ -108,7 +108,7 @@ fn read_with_access(
     })
 }
 
-/// Reads those of a network in which no station has one.
+/// Reads the streams of a network in which no station has an access link.
 fn read_without_access(alloc: Global, domain: Domain, text: &[u8]) -> Result<LoadInput, Stop>
     ensures ok { IfOk result (λ found. loaded_without domain text.now ≡ Ok (load_input_value found)) }
     ensures little { IfOk result (λ found. All TakesLittle found.access.items) }
@@ -160,9 +160,9 @@ fn read_load(alloc: Global, limits: Limits, input: &[u8]) -> Result<LoadInput, S
 /// the streams and has left, and then one for each access link. A stream for which a link has no room is counted with the others.
 ///
 /// # Errors
-/// With status 1 and the line of the first fault of the input: of its parts, of the domain, of the streams, of the first stream that doesn't
-/// enter the network as its text says, or of the first stream that is refused for another reason than a link's budget, where those before it
-/// count as accepted; and with status 3 for want of memory.
+/// With status 1 and the line of the first fault of the input: of its parts, of the domain, of the streams, of the first stream that
+/// doesn't enter the network as its text says, or of the first stream that is refused for another reason than a link's budget. The streams
+/// before it count as accepted. With status 3 if an allocation fails.
 pub fn load_output(alloc: Global, limits: Limits, input: &[u8]) -> Result<LoadOutput, Stop>
     ensures ok { IfOk result (λ output. loaded_input limits input.now ≡ Ok (text_of_load output)) }
     ensures err { IfErr result (IsRefused (loaded_input limits input.now)) }
@@ -185,7 +185,7 @@ pub fn load_output(alloc: Global, limits: Limits, input: &[u8]) -> Result<LoadOu
     }
 }
 
-/// Returns what is written of each stream on each link, ready to be written, of what was read and of the rows of its streams.
+/// Returns the output of `load --streams`, ready to be written, from what was read and the rows of its streams.
 fn streams_ready(
     alloc: Global,
     domain: Domain,
@@ -197,12 +197,12 @@ fn streams_ready(
       domain = domain;
       rows = greatest_first most_reserved (λ (row : ARow). row.octets) listing;
       access = access.items;
-      shares = greatest_first most_taken (λ (share : AShare). share.taken) (access_shares domain.cycle_time handed.now listing);
+      shares = greatest_first most_taken (λ (share : AShare). share.taken) (access_shares domain.overhead domain.cycle_time handed.now listing);
     }) }
 {
     domain.know();
     let mut rows = listing.into_rows();
-    let mut shares = access_shares(alloc, domain.cycle_time(), handed, rows.as_slice())?;
+    let mut shares = access_shares(alloc, &domain, handed, rows.as_slice())?;
     sort_rows(&mut rows)?;
     sort_shares(&mut shares)?;
     let buffer = Buffer::new(alloc)?;

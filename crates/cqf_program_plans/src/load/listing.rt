@@ -2,7 +2,7 @@
 ghost use Rattle.std.specs.Prelude.{ℕ, ◌≡◌, ◌≤◌, ◌<◌, ◌^◌, [], ◌∷◌, ◌++◌, IfOk, false, length, replicate, slice_index_or};
 ghost use Rattle.std.specs.List.{list_any};
 ghost use Rattle.cqf_model.specs.Domain.{is_text};
-ghost use Rattle.cqf_admission.specs.Branches.{branches_of, places_of};
+ghost use Rattle.cqf_admission.specs.Branches.{branches_of, indices_of};
 ghost use Rattle.cqf_admission.specs.Asking.{asked_paced};
 ghost use Rattle.cqf_program_plans.specs.Load.Listing.{Lists, Weighs};
 ghost use Rattle.cqf_program_plans.specs.Load.Fitting.{streams_on};
@@ -10,7 +10,7 @@ ghost use Rattle.cqf_program_plans.specs.Adding.{AddsWhere};
 ghost use Rattle.cqf_admission.specs.Costs.{most_cost};
 ghost use Rattle.cqf_admission.specs.Rows.{IsCountable};
 ghost use Rattle.cqf_model.specs.Limits.{most_links, most_streams};
-ghost use Rattle.cqf_admission.specs.Turns.{IsOfGoodPace};
+ghost use Rattle.cqf_admission.specs.ActiveCycles.{IsOfGoodPace};
 
 use crate::row_costs::add_cost;
 use cqf_admission::{CycleSums, JudgedRequest, add_on, judge_paced};
@@ -113,12 +113,14 @@ impl LoadListing {
         self.crossing[usize::from(link)]
     }
 
-    /// Judges a request that has fewer than 2^64 places. Returns the first reason against it other than a link without room, or else the
-    /// judged request.
+    /// Judges a request whose branches have fewer than 2^64 names together. Returns the first reason against it other than a link without
+    /// room, or else the judged request.
     fn weigh(&self, domain: &Domain, request: &PacedRequest) -> Result<JudgedRequest, Refused>
-        requires { places_of (branches_of request.now.paths.items) < 2 ^ 64 }
+        requires { indices_of (branches_of request.now.paths.items) < 2 ^ 64 }
         ensures { Weighs domain.now self.now (asked_paced request.now) result }
     {
+        // the domain is accepted: its gates leave few octets uncounted
+        domain.know();
         let judged = judge_paced(domain, request)?;
         if self.has_name(&judged.name) {
             return Err(Refused::NameHeld);
@@ -129,15 +131,15 @@ impl LoadListing {
         Ok(judged)
     }
 
-    /// Returns the row of a request after the others, or the first reason against it other than a link without room. The request has fewer
-    /// than 2^64 places. Returns `Memory` if there is no such reason and an allocation fails.
+    /// Returns the row of a request after the others, or the first reason against it other than a link without room. The branches of the
+    /// request have fewer than 2^64 names together. Returns `Memory` if there is no such reason and an allocation fails.
     pub(crate) fn look_over(
         &self,
         alloc: Global,
         domain: &Domain,
         request: &PacedRequest,
     ) -> Result<Result<Row, Refused>, Memory>
-        requires { places_of (branches_of request.now.paths.items) < 2 ^ 64 }
+        requires { indices_of (branches_of request.now.paths.items) < 2 ^ 64 }
         ensures { IfOk result (λ looked. Lists domain.now self.now (asked_paced request.now) looked) }
     {
         match self.weigh(domain, request) {

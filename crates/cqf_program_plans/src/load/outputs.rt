@@ -18,7 +18,7 @@ pub struct LoadOutput {
 impl Model for LoadOutput {
     ghost use Rattle.std.specs.Prelude.{All};
     ghost use Rattle.cqf_program_plans.specs.Load.Access.{TakesLittle};
-    ghost use Rattle.cqf_program_plans.specs.Load.Told.{ListedPlan};
+    ghost use Rattle.cqf_program_plans.specs.Load.Written.{ListedPlan};
 
     ghost Value = { ListedPlan };
 

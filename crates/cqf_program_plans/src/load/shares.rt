@@ -1,7 +1,7 @@
 //! What each stream takes of access links, and the order in which streams are written.
 ghost use Rattle.std.specs.Prelude.{ℕ, ◌≡◌, ◌≤◌, ◌+◌, ◌-◌, ◌++◌, IfOk, OnOk};
 ghost use Rattle.cqf_model.specs.declared.topology.Row.{Row as ARow};
-ghost use Rattle.cqf_model.specs.Limits.{longest_cycle, most_reserved};
+ghost use Rattle.cqf_model.specs.Limits.{most_reserved};
 ghost use Rattle.cqf_program_plans.specs.declared.load.shares.AccessShare.{AccessShare as AShare};
 ghost use Rattle.cqf_program_plans.specs.Load.Access.{most_taken, taken_by};
 ghost use Rattle.cqf_program_plans.specs.Load.Streams.{access_shares, greatest_first, shares_of};
@@ -9,14 +9,15 @@ ghost use Rattle.cqf_program_plans.specs.Load.Streams.{access_shares, greatest_f
 use crate::load::access::{MOST_TAKEN, handed_at, taken_by};
 use cqf_edge::Handed;
 use cqf_model::{MOST_OCTETS, Row};
-use cqf_units::{Memory, Name, Nanos};
+use cqf_topology::Domain;
+use cqf_units::{Memory, Name};
 use std::alloc::Global;
 
 /// What a stream takes of an access link.
 #[derive(Drop)]
 pub(crate) struct AccessShare {
-    /// The link's place among the network's access links.
-    pub(crate) place: usize,
+    /// The link's index among the network's access links.
+    pub(crate) index: usize,
     /// The name of the stream.
     pub(crate) stream: Name,
     /// The octets of a cycle that it takes, with preambles and gaps.
@@ -31,31 +32,30 @@ pub(crate) fn every_of(row: &Row) -> u32
 }
 
 /// Returns the octets of a cycle that a row's stream takes of its access link.
-fn taken_of(cycle_time: Nanos, handed: &Handed, row: &Row) -> u64
-    requires { cycle_time.0 ≤ longest_cycle }
-    ensures { result ≡ taken_by cycle_time.0 handed.now row.now.octets (row.now.pace.pause + 1) }
+fn taken_of(domain: &Domain, handed: &Handed, row: &Row) -> u64
+    ensures { result ≡ taken_by domain.now.overhead domain.now.cycle_time handed.now row.now.octets (row.now.pace.pause + 1) }
 {
-    let taken = taken_by(cycle_time, handed, row.octets, every_of(row));
+    let (overhead, cycle_time) = (domain.overhead(), domain.cycle_time());
+    let taken = taken_by(overhead, cycle_time, handed, row.octets, every_of(row));
     taken as u64
 }
 
 /// Adds what a row's stream takes of an access link, if it hands its frames to one.
 fn push_share(
     shares: &mut Vec<AccessShare>,
-    cycle_time: Nanos,
+    domain: &Domain,
     handed: &[Option<Handed>],
     row: &Row,
 ) -> Result<(), Memory>
-    requires { cycle_time.0 ≤ longest_cycle }
-    ensures { OnOk result (shares.new.items ≡ shares.old.items ++ shares_of cycle_time.0 handed.now row.now) }
+    ensures { OnOk result (shares.new.items ≡ shares.old.items ++ shares_of domain.now.overhead domain.now.cycle_time handed.now row.now) }
 {
     let Some(one) = handed_at(handed, row.no as usize) else {
         return Ok(());
     };
     shares.push(AccessShare {
-        place: one.place,
+        index: one.index,
         stream: row.name.copied(),
-        taken: taken_of(cycle_time, one, row),
+        taken: taken_of(domain, one, row),
     })?;
     Ok(())
 }
@@ -66,28 +66,27 @@ fn push_share(
 /// `Memory` if an allocation fails.
 pub(crate) fn access_shares(
     alloc: Global,
-    cycle_time: Nanos,
+    domain: &Domain,
     handed: &[Option<Handed>],
     rows: &[Row],
 ) -> Result<Vec<AccessShare>, Memory>
-    requires { cycle_time.0 ≤ longest_cycle }
-    ensures { IfOk result (λ shares. shares.items ≡ access_shares cycle_time.0 handed.now rows.now) }
+    ensures { IfOk result (λ shares. shares.items ≡ access_shares domain.now.overhead domain.now.cycle_time handed.now rows.now) }
 {
     let mut shares = Vec::new(alloc);
     for row in rows {
-        push_share(&mut shares, cycle_time, handed, row)?;
+        push_share(&mut shares, domain, handed, row)?;
     }
     Ok(shares)
 }
 
-/// Returns by how much a row reserves less than a stream may.
+/// Returns by how many octets a row reserves less than a stream may reserve.
 fn below_most(row: &Row) -> u32
     ensures { result ≡ most_reserved - row.now.octets }
 {
     MOST_OCTETS.saturating_sub(row.octets)
 }
 
-/// Returns by how much a share is less than the most that a stream can take.
+/// Returns by how many octets a share is less than the most that a stream can take.
 fn below_most_taken(share: &AccessShare) -> u64
     ensures { result ≡ most_taken - share.now.taken }
 {

@@ -2,7 +2,7 @@
 ghost use Rattle.std.specs.Prelude.{◌≡◌, ◌<◌, length};
 ghost use Rattle.cqf_lists.specs.Lists.{each_below};
 ghost use Rattle.cqf_units.specs.Timing.{cost_of};
-ghost use Rattle.cqf_output.specs.Edge.{HasTold, writing};
+ghost use Rattle.cqf_output.specs.Edge.{IsWritten, writing};
 ghost use Rattle.cqf_output.specs.Writer.{Puts};
 ghost use Rattle.cqf_report.specs.Written.{line_of_fields};
 ghost use Rattle.cqf_program_plans.specs.Load.Access.{name_of_access};
@@ -12,10 +12,10 @@ ghost use Rattle.cqf_program_plans.specs.Load.Text.{used_text};
 ghost use Rattle.std.specs.List.{flat_map};
 
 use crate::load::access::{AccessLoad, cost_in_octets};
+use crate::load::reported::{budget_on, put_access_name, put_used};
 use crate::load::shares::{AccessShare, every_of};
-use crate::load::told::{budget_on, put_access_name, put_used};
 use cqf_model::Row;
-use cqf_output::{Buffer, Sink, Told, Writer};
+use cqf_output::{Buffer, CheckedSink, Sink, Writer};
 use cqf_topology::{Domain, put_link};
 use std::marker::Model;
 
@@ -50,7 +50,10 @@ fn put_stream<W: Sink>(writer: &mut Writer<'_, W>, domain: &Domain, link: u16, r
     requires { link < length domain.now.links }
     ensures { Puts W.contents writer.old writer.new (line_of_fields (stream_fields domain.now link row.now)) }
 {
-    let (budget, cost) = (budget_on(domain, link), cost_in_octets(row.octets));
+    let (budget, cost) = (
+        budget_on(domain, link),
+        cost_in_octets(domain.overhead(), row.octets),
+    );
     put_link(writer, domain, link);
     writer.put_byte(b',');
     writer.put(row.name.as_bytes());
@@ -110,45 +113,45 @@ fn put_access_share<W: Sink>(writer: &mut Writer<'_, W>, load: &AccessLoad, shar
     writer.put_byte(b'\n');
 }
 
-/// Puts the line of a stream on the access link at a place, if it hands its frames to that link.
+/// Puts the line of a stream on the access link at an index, if it hands its frames to that link.
 fn put_share_on<W: Sink>(
     writer: &mut Writer<'_, W>,
     load: &AccessLoad,
-    place: usize,
+    index: usize,
     share: &AccessShare,
 )
-    ensures { Puts W.contents writer.old writer.new (share_line_on load.now place share.now) }
+    ensures { Puts W.contents writer.old writer.new (share_line_on load.now index share.now) }
 {
-    if share.place == place {
+    if share.index == index {
         put_access_share(writer, load, share);
     }
 }
 
-/// Puts the lines of the access link at a place.
+/// Puts the lines of the access link at an index.
 fn put_shares_on<W: Sink>(
     writer: &mut Writer<'_, W>,
     load: &AccessLoad,
-    place: usize,
+    index: usize,
     shares: &[AccessShare],
 )
-    ensures { Puts W.contents writer.old writer.new (flat_map (share_line_on load.now place) shares.now) }
+    ensures { Puts W.contents writer.old writer.new (flat_map (share_line_on load.now index) shares.now) }
 {
     for share in shares {
-        put_share_on(writer, load, place, share);
+        put_share_on(writer, load, index, share);
     }
 }
 
-/// Puts the lines of the access link at a place, if there is one.
+/// Puts the lines of the access link at an index, if there is one.
 fn put_shares_at<W: Sink>(
     writer: &mut Writer<'_, W>,
     access: &[AccessLoad],
-    place: usize,
+    index: usize,
     shares: &[AccessShare],
 )
-    ensures { Puts W.contents writer.old writer.new (share_lines_at access.now shares.now place) }
+    ensures { Puts W.contents writer.old writer.new (share_lines_at access.now shares.now index) }
 {
-    if let Some(load) = access.get(place) {
-        put_shares_on(writer, load, place, shares);
+    if let Some(load) = access.get(index) {
+        put_shares_on(writer, load, index, shares);
     }
 }
 
@@ -156,8 +159,8 @@ fn put_shares_at<W: Sink>(
 fn put_shares<W: Sink>(writer: &mut Writer<'_, W>, access: &[AccessLoad], shares: &[AccessShare])
     ensures { Puts W.contents writer.old writer.new (each_below (share_lines_at access.now shares.now) (length access.now)) }
 {
-    for place in 0..access.len() {
-        put_shares_at(writer, access, place, shares);
+    for index in 0..access.len() {
+        put_shares_at(writer, access, index, shares);
     }
 }
 
@@ -170,8 +173,8 @@ fn put_streams_header<W: Sink>(writer: &mut Writer<'_, W>)
 
 impl StreamLoadsOutput {
     /// Writes the output: the lines of each link, and then those of each access link. It allocates no memory.
-    pub fn tell<W: Sink>(self, told: &mut Told<W>)
-        ensures { HasTold (writing W.contents told.old told.new) (text_of_streams self) }
+    pub fn write<W: Sink>(self, reported: &mut CheckedSink<W>)
+        ensures { IsWritten (writing W.contents reported.old reported.new) (text_of_streams self) }
     {
         let StreamLoadsOutput {
             domain,
@@ -180,10 +183,10 @@ impl StreamLoadsOutput {
             shares,
             buffer,
         } = self;
-        let mut writer = Writer::new(told, buffer);
+        let mut writer = Writer::new(reported, buffer);
         put_streams_header(&mut writer);
         put_streams(&mut writer, &domain, rows.as_slice());
         put_shares(&mut writer, access.as_slice(), shares.as_slice());
-        let _told = writer.close();
+        let _written = writer.close();
     }
 }

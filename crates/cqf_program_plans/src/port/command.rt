@@ -1,16 +1,16 @@
 //! The command `port`: the starts of one output port before an instant.
 ghost use Rattle.std.specs.Prelude.{◌≡◌, ◌≢◌, ◌<◌, ◌^◌, [], Ok, IfOk, IfErr};
 ghost use Rattle.cqf_gates.specs.TxText.{list_of_text};
-ghost use Rattle.cqf_output.specs.Edge.{HasTold, writing};
+ghost use Rattle.cqf_output.specs.Edge.{IsWritten, writing};
 ghost use Rattle.cqf_report.specs.Arrivals.{arrivals_of_table};
 ghost use Rattle.cqf_port.specs.PortState.{rules_of};
 ghost use Rattle.cqf_output.specs.Stops.{EndsWith, IsRefused, or_line};
 ghost use Rattle.cqf_program_plans.specs.Port.Output.{arrivals_line, list_line, port_input, AreOfferable, IsStartsText, IsPortOutput};
-ghost use Rattle.cqf_program_plans.specs.Port.Told.{text_of_port};
+ghost use Rattle.cqf_program_plans.specs.Port.Written.{text_of_port};
 
 use crate::port::outputs::PortOutput;
 use cqf_gates::{TextFault, TxList, read_tx};
-use cqf_output::{Buffer, Sink, Stop, Told, Writer};
+use cqf_output::{Buffer, CheckedSink, Sink, Stop, Writer};
 use cqf_port::{Arrival, Port};
 use cqf_program_scenario::{put_starts_of_port, two_parts};
 use cqf_report::{TableFault, read_arrivals};
@@ -90,17 +90,17 @@ fn starts_ready(
 
 impl PortOutput {
     /// Writes the output: the starts before the instant. It allocates no memory.
-    pub fn tell<W: Sink>(self, told: &mut Told<W>)
-        ensures { HasTold (writing W.contents told.old told.new) (text_of_port self) }
+    pub fn write<W: Sink>(self, reported: &mut CheckedSink<W>)
+        ensures { IsWritten (writing W.contents reported.old reported.new) (text_of_port self) }
     {
         let PortOutput { port, rate, buffer } = self;
-        let mut writer = Writer::new(told, buffer);
+        let mut writer = Writer::new(reported, buffer);
         put_starts_of_port(&mut writer, port.arrivals(), port.starts(), rate);
-        let _told = writer.close();
+        let _written = writer.close();
     }
 }
 
-/// Returns the output of `port`, ready to be written: the starts before `until`.
+/// Returns the output of `port`, ready to be written: the starts before `until` nanoseconds, which is below 2^62.
 ///
 /// # Errors
 /// With status 1 and the line of the first fault of the input: of its parts, of the gate list, or of the arrivals. With status 3 if an allocation

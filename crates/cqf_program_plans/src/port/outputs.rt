@@ -16,12 +16,12 @@ pub struct PortOutput {
 impl Model for PortOutput {
     ghost use Rattle.std.specs.Prelude.{map};
     ghost use Rattle.cqf_port.specs.PortState.{start_of};
-    ghost use Rattle.cqf_program_plans.specs.Port.Told.{StartsAtRate};
-    ghost use Rattle.cqf_program_scenario.specs.PortLines.{AreTellable};
+    ghost use Rattle.cqf_program_plans.specs.Port.Written.{StartsAtRate};
+    ghost use Rattle.cqf_program_scenario.specs.PortLines.{AreExpressible};
 
     ghost Value = { StartsAtRate };
 
     ghost view = { λ o. record { starts = map (start_of o.port.arrivals) o.port.starts; rate = o.rate } };
 
-    ghost invariant = { λ o. AreTellable o.port.arrivals o.port.starts };
+    ghost invariant = { λ o. AreExpressible o.port.arrivals o.port.starts };
 }

@@ -12,7 +12,7 @@ use Rattle.cqf_model.specs.History.{Recorded, streams_of}
 use Rattle.cqf_model.specs.Run.{Run}
 use Rattle.cqf_model.specs.Shift.{offer_cycle}
 use Rattle.cqf_model.specs.Table.{residence}
-use Rattle.cqf_model.specs.Traffic.{numbered}
+use Rattle.cqf_model.specs.Policing.{numbered}
 use Rattle.cqf_topology.specs.PlannedText.{PlannedText}
 use Rattle.cqf_report.specs.Books.{name_of_reason}
 use Rattle.cqf_program_plans.specs.Latency.Text.{text_of_deadline}
@@ -60,7 +60,7 @@ complaint_of at (passage.Goes journey) =
     ++ (journey.listener
     ++ (codes ", " ++ (text_of_listeners_latency at journey.whole ++ (codes " after its offer, deadline " ++ text_of_deadline journey.deadline))))
 
--- the line with that
+-- the line about a delivery that ends the check
 abbrev pub complaint_line : Delivery → List ℕ
 complaint_line delivery = fault_line (codes "check")
     (codes "frame "
@@ -71,8 +71,8 @@ complaint_line delivery = fault_line (codes "check")
     ++ (delivery.bridge ++ (codes " at " ++ (decimal delivery.at.0 ++ (codes ": " ++ complaint_of delivery.at.0 delivery.passage)))))))))
 
 -- the most cycles after its own for which a frame of one of the rows can be under way
-abbrev pub deepest : List Row → ℕ
-deepest rows = fold (λ most (row : Row). max most (residence row)) 0 rows
+abbrev pub greatest_hop_number : List Row → ℕ
+greatest_hop_number rows = fold (λ most (row : Row). max most (residence row)) 0 rows
 
 -- the cycle of the latest offer; 0 if there is none
 abbrev pub latest_cycle : Domain → List Offer → ℕ
@@ -84,7 +84,7 @@ abbrev pub offer_counts : Domain → ℕ → List Row → List Offer → OfferCo
 offer_counts d cycles rows offers = record {
   frames = length offers;
   later = count_by (λ (x : Offered). nat_le cycles (offer_cycle d x)) (numbered offers);
-  enough = latest_cycle d offers + deepest rows + 1;
+  enough = latest_cycle d offers + greatest_hop_number rows + 1;
 }
 
 -- the counts of deliveries, together with those of the offers
@@ -100,7 +100,7 @@ counts_of offers deliveries = record {
 abbrev pub none_offered_line : List ℕ
 none_offered_line = fault_line (codes "check") (codes "no frame is offered")
 
--- the line if nothing has arrived, with the number of cycles that would do
+-- the line if nothing has arrived, with the number of cycles that would be enough
 abbrev pub none_come_line : CheckCounts → List ℕ
 none_come_line counts = fault_line (codes "check") (codes "no frame; " ++ (decimal counts.offers.enough ++ codes " cycles would do"))
 

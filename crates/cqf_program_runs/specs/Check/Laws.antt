@@ -10,7 +10,7 @@ use Rattle.cqf_model.specs.Book.{Contents}
 use Rattle.cqf_model.specs.History.{Recorded, is_seal, streams_of}
 use Rattle.cqf_model.specs.Run.{Run}
 use Rattle.cqf_model.specs.Shift.{IsCovered, offer_cycle}
-use Rattle.cqf_model.specs.Traffic.{numbered}
+use Rattle.cqf_model.specs.Policing.{numbered}
 use Rattle.cqf_model.specs.Promise.{SaysTheShift}
 use Rattle.cqf_topology.specs.PlannedText.{PlannedText}
 use Rattle.cqf_program_plans.specs.Latency.Text.{listeners_of}
@@ -45,7 +45,7 @@ pub record AllGoWell (entries : List Recorded) (run : Run) (streams : List Plann
   pub calls : NoneIsRefused entries
   pub offers : AllOffersGoWell run streams book
 
--- the line that says so
+-- the line that says that all is well
 abbrev pub line_of_well : List Row → Run → List PlannedText → Contents → List ℕ
 line_of_well rows run streams book = well_line (counts_of (run_offers rows run) (deliveries_of run streams book))
 
@@ -55,7 +55,7 @@ pub record IsWellExactly (entries : List Recorded) (run : Run) (streams : List P
   pub where_well : AllGoWell entries run streams book → checked_run entries run streams book
       ≡ Ok (line_of_well (streams_of run.domain entries) run streams book)
 
--- if a book says the shift
+-- if a book says the shift, a check reports that all is well if and only if all goes well
 abbrev pub CheckIsWellExactly : Type 0
 CheckIsWellExactly = (entries : List Recorded) (run : Run) (streams : List PlannedText) (book : Contents) → SaysTheShift run book →
     IsWellExactly entries run streams book

@@ -14,7 +14,7 @@ use Rattle.cqf_program_runs.specs.Deliveries.PlannedScenario.{planned_scenario, 
 pub record IsCheckedScenario (cycles : ℕ) (s : Scenario) (streams : List PlannedText) (found : Result (List ℕ) (List ℕ)) : Type 0 where
   pub book : Contents
   pub is_book : IsBookOfScenario cycles s book
-  pub told : checked_run (history_of cycles s) (run_of_scenario cycles s) streams book ≡ found
+  pub reported : checked_run (history_of cycles s) (run_of_scenario cycles s) streams book ≡ found
 
 -- the result for what was read; for an input that is refused, the line of the first fault
 abbrev pub IsCheckedOf : ℕ → Result (Scenario × List PlannedText) (List ℕ) → Result (List ℕ) (List ℕ) → Type 0
@@ -25,8 +25,8 @@ IsCheckedOf cycles (Err line) found = Err line ≡ found
 abbrev pub IsChecked : Limits → ℕ → List ℕ → Result (List ℕ) (List ℕ) → Type 0
 IsChecked limits cycles input found = IsCheckedOf cycles (planned_scenario limits cycles input) found
 
--- not all is well, and the run ends with status 1 and the line that says why; or it ends with status 3 for lack of
--- memory
+-- not all is well, and the run ends with status 1 and the line that says why; or it ends with status 3 because an
+-- allocation failed
 pub record IsCheckRefusal (limits : Limits) (cycles : ℕ) (input : List ℕ) (stop : Stop) : Type 0 where
   pub statuses : (stop.status ≡ 1) ⊎ (stop.status ≡ 3)
   pub line : stop.status ≡ 1 → IsChecked limits cycles input (Err stop.text.items)

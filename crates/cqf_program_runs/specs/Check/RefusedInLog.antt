@@ -6,9 +6,9 @@ use Rattle.cqf_admission.specs.declared.orders.What.{What}
 use Rattle.cqf_admission.specs.declared.orders.What.TheVariants.{Admit, Seal, Withdraw}
 use Rattle.cqf_program_runs.specs.Check.RefusedCalls.{is_refused}
 
--- whether it is a call; a Seal isn't
+-- whether an entry of a log is a call; a Seal isn't
 abbrev pub is_call : What → Bool
-is_call (Admit place) = true
+is_call (Admit index) = true
 is_call (Withdraw from octets) = true
 is_call Seal = false
 

@@ -10,7 +10,7 @@ use Rattle.cqf_model.specs.Domain.{end_of, is_text}
 use Rattle.cqf_model.specs.Run.{Run}
 use Rattle.cqf_model.specs.Shift.{InShift, IsCovered, IsUncovered, offer_cycle}
 use Rattle.cqf_model.specs.Table.{AreOrderly}
-use Rattle.cqf_model.specs.Traffic.{numbered}
+use Rattle.cqf_model.specs.Policing.{numbered}
 use Rattle.cqf_model.specs.Promise.{SaysTheShift}
 use Rattle.cqf_topology.specs.DomainText.{IsDomain}
 use Rattle.cqf_topology.specs.PlannedText.{PlannedText}
@@ -64,26 +64,26 @@ pub record AreTheShift (run : Run) (streams : List PlannedText) (book : Contents
   pub each : (frame link cycle : ℕ) → InShift run (length run.tables) frame link cycle → is_station (end_of run.domain link) ≡ true →
       HasArrived run streams book frame link
 
--- if a book says the shift
+-- if a book says the shift, its deliveries that have arrived are exactly the shift's
 abbrev pub ArrivalsAreTheShift : Type 0
 ArrivalsAreTheShift = (run : Run) (streams : List PlannedText) (book : Contents) → SaysTheShift run book → AreTheShift run streams book
 
 -- the deliveries of a frame, in their order
-abbrev pub told_of_frame : Run → List PlannedText → Contents → ℕ → List Delivery
-told_of_frame run streams book frame = filter (λ (delivery : Delivery). delivery.frame == frame) (deliveries_of run streams book)
+abbrev pub written_of_frame : Run → List PlannedText → Contents → ℕ → List Delivery
+written_of_frame run streams book frame = filter (λ (delivery : Delivery). delivery.frame == frame) (deliveries_of run streams book)
 
 -- the deliveries of the frame of an offer whose cycle is run. If a row covers the offer, they are one delivery to the
 -- end of each hop of the row that leads to a listener, in the order of its tree. Otherwise they are its one drop, for
 -- the first reason that applies
-pub record IsToldOnce (run : Run) (streams : List PlannedText) (book : Contents) (x : Offered) : Type 0 where
-  pub as_covered : (row : Row) → IsCovered run x row → told_of_frame run streams book x.frame
+pub record IsWrittenOnce (run : Run) (streams : List PlannedText) (book : Contents) (x : Offered) : Type 0 where
+  pub as_covered : (row : Row) → IsCovered run x row → written_of_frame run streams book x.frame
       ≡ deliveries_to run.domain (whole_on run.domain book.starts x.frame) (deadline_named streams x.offer.stream) x row
-  pub as_dropped : (reason : Reason) → IsUncovered run x reason → told_of_frame run streams book x.frame
+  pub as_dropped : (reason : Reason) → IsUncovered run x reason → written_of_frame run streams book x.frame
       ≡ delivery_of run.domain x (passage.Dropped reason) ∷ []
 
-abbrev pub EachIsToldOnce : Type 0
-EachIsToldOnce = (run : Run) (streams : List PlannedText) (book : Contents) (x : Offered) → SaysTheShift run book → Contains (numbered run.offers) x →
-    offer_cycle run.domain x < length run.tables → IsToldOnce run streams book x
+abbrev pub EachIsWrittenOnce : Type 0
+EachIsWrittenOnce = (run : Run) (streams : List PlannedText) (book : Contents) (x : Offered) → SaysTheShift run book → Contains (numbered run.offers) x →
+    offer_cycle run.domain x < length run.tables → IsWrittenOnce run streams book x
 
 -- whether a frame goes to the listener with a name
 abbrev pub goes_to : List ℕ → Passage → Bool
@@ -91,14 +91,14 @@ goes_to listener (passage.Dropped reason) = false
 goes_to listener (passage.Goes journey) = is_text journey.listener listener
 
 -- how many of a frame's deliveries go to the listener with a name
-abbrev pub told_to : Run → List PlannedText → Contents → ℕ → List ℕ → ℕ
-told_to run streams book frame listener =
-    count_by (λ (delivery : Delivery). goes_to listener delivery.passage) (told_of_frame run streams book frame)
+abbrev pub written_to : Run → List PlannedText → Contents → ℕ → List ℕ → ℕ
+written_to run streams book frame listener =
+    count_by (λ (delivery : Delivery). goes_to listener delivery.passage) (written_of_frame run streams book frame)
 
 -- exactly one delivery goes to each listener of the row, by its name: the names of a domain differ, and no tree reaches
 -- a node twice
-abbrev pub EachListenerIsToldOnce : Type 0
-EachListenerIsToldOnce = (run : Run) (streams : List PlannedText) (book : Contents) (x : Offered) (row : Row) (hop : Hop) → IsDomain run.domain →
+abbrev pub EachListenerIsWrittenOnce : Type 0
+EachListenerIsWrittenOnce = (run : Run) (streams : List PlannedText) (book : Contents) (x : Offered) (row : Row) (hop : Hop) → IsDomain run.domain →
     AreOrderly run.domain run.tables → SaysTheShift run book → Contains (numbered run.offers) x → offer_cycle run.domain x < length run.tables →
     IsCovered run x row → Contains (listeners_of run.domain row) hop →
-    told_to run streams book x.frame (name_of_end run.domain hop.link) ≡ 1
+    written_to run streams book x.frame (name_of_end run.domain hop.link) ≡ 1

@@ -5,7 +5,7 @@ use Rattle.cqf_units.specs.declared.timing.Nanos.{Nanos}
 use Rattle.cqf_model.specs.declared.frames.Offered.{Offered}
 use Rattle.cqf_model.specs.Domain.{Domain}
 use Rattle.cqf_model.specs.Shift.{offer_cycle}
-use Rattle.cqf_model.specs.Traffic.{DroppedFor, ExceedsGate, LacksRow, Queued, Verdict}
+use Rattle.cqf_model.specs.Policing.{DroppedFor, ExceedsGate, LacksRow, Queued, Verdict}
 use Rattle.cqf_program_runs.specs.declared.deliveries.delivery.Passage.TheVariants as passage
 use Rattle.cqf_program_runs.specs.declared.deliveries.delivery.Delivery.{Delivery}
 use Rattle.cqf_program_runs.specs.Deliveries.{deliveries_to, delivery_of}
@@ -15,7 +15,7 @@ pub record Known : Type 0 where
   pub due : List ℕ → Option ℕ
   pub whole : ℕ → ℕ → Option Nanos
 
--- both together
+-- what is known of frames, from these deadlines and instants
 abbrev pub known_by : (List ℕ → Option ℕ) → (ℕ → ℕ → Option Nanos) → Known
 known_by due whole = record { due = due; whole = whole }
 
@@ -26,7 +26,7 @@ deliveries_for d known x (DroppedFor reason) = delivery_of d x (passage.Dropped 
 deliveries_for d known x LacksRow = []
 deliveries_for d known x ExceedsGate = []
 
--- the same; none for an offer whose cycle isn't run
+-- the deliveries of an offer; none if its cycle isn't run
 abbrev pub deliveries_within : Domain → ℕ → Known → (Offered → Verdict) → Offered → List Delivery
 deliveries_within d cycles known verdict x = if nat_lt (offer_cycle d x) cycles then deliveries_for d known x (verdict x) else []
 

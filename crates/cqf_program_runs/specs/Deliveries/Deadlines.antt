@@ -2,7 +2,7 @@
 use Rattle.std.specs.Prelude.{ℕ, List, Option, None, slice_index_or}
 use Rattle.std.specs.Option.{option_and_then}
 use Rattle.cqf_topology.specs.declared.paced.PacedRequest.{PacedRequest}
-use Rattle.cqf_admission.specs.Names.{place_named}
+use Rattle.cqf_admission.specs.Names.{index_named}
 
 -- requests, and their deadlines by the same indexes
 pub record Due : Type 0 where
@@ -11,4 +11,4 @@ pub record Due : Type 0 where
 
 -- the deadline of a name: that of the first request with this name
 abbrev pub deadline_in : Due → List ℕ → Option ℕ
-deadline_in due name = option_and_then (λ (place : ℕ). slice_index_or due.deadlines place None) (place_named due.requests name)
+deadline_in due name = option_and_then (λ (index : ℕ). slice_index_or due.deadlines index None) (index_named due.requests name)

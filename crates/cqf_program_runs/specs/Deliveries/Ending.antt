@@ -9,7 +9,7 @@ use Rattle.cqf_model.specs.declared.topology.Row.{Row}
 use Rattle.cqf_model.specs.Domain.{Domain}
 use Rattle.cqf_model.specs.Limits.{most_offers}
 use Rattle.cqf_model.specs.Run.{AreOffers}
-use Rattle.cqf_model.specs.Traffic.{numbered}
+use Rattle.cqf_model.specs.Policing.{numbered}
 use Rattle.cqf_program_runs.specs.declared.deliveries.noted.Noted.{Noted}
 use Rattle.cqf_program_runs.specs.declared.deliveries.reading.PlannedGiven.{PlannedGiven}
 use Rattle.cqf_program_runs.specs.declared.deliveries.delivery.Delivery.{Delivery}

@@ -17,42 +17,42 @@ use Rattle.cqf_program_runs.specs.Deliveries.{whole_on}
 use Rattle.cqf_program_runs.specs.Deliveries.Reading.{AreDeliveriesOf}
 use Rattle.cqf_program_runs.specs.Deliveries.Text.{text_of_deliveries}
 use Rattle.cqf_program_runs.specs.Deliveries.Ending.{IsOver, Over, deliveries_over, over_by, over_of}
-use Rattle.cqf_program_runs.specs.Deliveries.UnderWay.{AreSlots, IsInTime, IsWideFor, slots_of, starts_told}
+use Rattle.cqf_program_runs.specs.Deliveries.UnderWay.{AreSlots, IsInTime, IsWideFor, slots_of, starts_written}
 
--- a start of an offer's frame is of a cycle after the offer's, and at most `depth` cycles after it
-pub record IsBehind (cycle_time depth : ℕ) (offers : List Offer) (s : Started) : Type 0 where
-  pub later : (place : ℕ) (offer : Offer) → slice_get offers place ≡ Some offer → s.frame ≡ place + 1 →
+-- a start of an offer's frame is of a cycle after the offer's, and at most `hop_number` cycles after it
+pub record IsAfter (cycle_time hop_number : ℕ) (offers : List Offer) (s : Started) : Type 0 where
+  pub later : (index : ℕ) (offer : Offer) → slice_get offers index ≡ Some offer → s.frame ≡ index + 1 →
       cycle_at cycle_time offer.at.0 < s.cycle.0
-  pub soon : (place : ℕ) (offer : Offer) → slice_get offers place ≡ Some offer → s.frame ≡ place + 1 →
-      s.cycle.0 ≤ cycle_at cycle_time offer.at.0 + depth
+  pub soon : (index : ℕ) (offer : Offer) → slice_get offers index ≡ Some offer → s.frame ≡ index + 1 →
+      s.cycle.0 ≤ cycle_at cycle_time offer.at.0 + hop_number
 
 -- frames are whole by the starts of a run to which the pass belongs; each start is in time and follows its offer
-pub record IsBookBehind (over : Over) (depth : ℕ) (basis : Basis) (given : GivenRun) : Type 0 where
+pub record IsBookAfter (over : Over) (hop_number : ℕ) (basis : Basis) (given : GivenRun) : Type 0 where
   pub is : IsBasisOf given basis
-  pub whole : over.whole ≡ whole_on over.domain (starts_told given basis.cycles)
-  pub in_time : All (IsInTime over.domain) (starts_told given basis.cycles)
-  pub behind : All (IsBehind over.domain.cycle_time depth over.offers) (starts_told given basis.cycles)
+  pub whole : over.whole ≡ whole_on over.domain (starts_written given basis.cycles)
+  pub in_time : All (IsInTime over.domain) (starts_written given basis.cycles)
+  pub following : All (IsAfter over.domain.cycle_time hop_number over.offers) (starts_written given basis.cycles)
 
--- the run is followed from the offer at index `place` on: the frames under way from there on are kept, and the pass has
+-- the run is followed from the offer at index `index` on: the frames under way from there on are kept, and the pass has
 -- returned no start of a frame after these
-pub record IsFollowed (over : Over) (place : ℕ) (under_way : UnderWay) : Type 0 where
+pub record IsFollowed (over : Over) (index : ℕ) (under_way : UnderWay) : Type 0 where
   pub given : GivenRun
   pub width : ℕ
   pub is_over : IsOver over
   pub ordered : StandInOrder over.offers
-  pub book : IsBookBehind over under_way.depth under_way.pass.basis given
-  pub counted : under_way.told ≡ under_way.pass.told
-  pub within : under_way.told ≤ under_way.pass.basis.cycles
+  pub book : IsBookAfter over under_way.hop_number under_way.pass.basis given
+  pub counted : under_way.reported ≡ under_way.pass.reported
+  pub within : under_way.reported ≤ under_way.pass.basis.cycles
   pub some : 0 < length under_way.slots.items
-  pub enough : IsWideFor over.domain.cycle_time under_way.depth over.offers (length under_way.slots.items)
-  pub slots : AreSlots over.domain over.rows over.edge_verdicts (starts_told given under_way.pass.told) place width (slots_of under_way.slots.items)
-  pub early : (later : ℕ) (offer : Offer) → place ≤ later → slice_get over.offers later ≡ Some offer →
-      under_way.told ≤ cycle_at over.domain.cycle_time offer.at.0 + under_way.depth + 1
+  pub enough : IsWideFor over.domain.cycle_time under_way.hop_number over.offers (length under_way.slots.items)
+  pub slots : AreSlots over.domain over.rows over.edge_verdicts (starts_written given under_way.pass.reported) index width (slots_of under_way.slots.items)
+  pub early : (later : ℕ) (offer : Offer) → index ≤ later → slice_get over.offers later ≡ Some offer →
+      under_way.reported ≤ cycle_at over.domain.cycle_time offer.at.0 + under_way.hop_number + 1
 
 -- borrowed data can be followed in this way
-pub record CanFollow (ended : CompletedRun) (place : ℕ) (under_way : UnderWay) : Type 0 where
+pub record CanFollow (ended : CompletedRun) (index : ℕ) (under_way : UnderWay) : Type 0 where
   pub whole : ℕ → ℕ → Option Nanos
-  pub is : IsFollowed (over_of ended whole) place under_way
+  pub is : IsFollowed (over_of ended whole) index under_way
 
 -- what is noted of a scenario can be followed from the first offer on, and yields its deliveries
 pub record IsNotedOf (cycles : ℕ) (planned : PlannedGiven) (noted : Noted) (under_way : UnderWay) : Type 0 where
@@ -68,17 +68,17 @@ pub record Ending : Type 0 where
   pub under_way : UnderWay
 
 -- the output can be written
-pub record CanBeTold (ending : Ending) : Type 0 where
+pub record CanBeWritten (ending : Ending) : Type 0 where
   pub whole : ℕ → ℕ → Option Nanos
   pub followed : IsFollowed (over_by ending.planned ending.cycles ending.noted whole) 0 ending.under_way
 
 -- the text of an output: that of the deliveries by what is followed
-pub record AreDeliveriesTold (ending : Ending) (text : List ℕ) : Type 0 where
+pub record AreDeliveriesWritten (ending : Ending) (text : List ℕ) : Type 0 where
   pub whole : ℕ → ℕ → Option Nanos
   pub followed : IsFollowed (over_by ending.planned ending.cycles ending.noted whole) 0 ending.under_way
   pub is : text ≡ text_of_deliveries (deliveries_over (over_by ending.planned ending.cycles ending.noted whole))
 
 -- an output writes the deliveries of what was read
-abbrev pub TellsDeliveriesOf : ℕ → PlannedGiven → Ending → Type 0
-TellsDeliveriesOf cycles planned ending = (text : List ℕ) × AreDeliveriesTold ending text
+abbrev pub WritesDeliveriesOf : ℕ → PlannedGiven → Ending → Type 0
+WritesDeliveriesOf cycles planned ending = (text : List ℕ) × AreDeliveriesWritten ending text
     × (deliveries : List Delivery) × AreDeliveriesOf cycles planned deliveries × (text ≡ text_of_deliveries deliveries)

@@ -14,11 +14,11 @@ use Rattle.cqf_program_scenario.specs.Networks.{domain_of, network_of_part}
 use Rattle.cqf_program_scenario.specs.Parts.{RunTexts, run_parts}
 use Rattle.cqf_program_plans.specs.Latency.Input.{asked_in}
 use Rattle.cqf_program_scenario.specs.Calls.{history_of}
-use Rattle.cqf_program_scenario.specs.Scenario.{Scenario, scenario_behind}
+use Rattle.cqf_program_scenario.specs.Scenario.{Scenario, scenario_after}
 use Rattle.cqf_output.specs.Stops.{or_line}
 
--- the streams of a part of a network, with their deadlines from their edge bridges on; or the line of the first fault. Where no station has
--- an access link, traffic isn't read
+-- the streams of a part of a network, with their deadlines from their edge bridges on; or the line of the first fault. If no station has an
+-- access link, traffic isn't read
 abbrev pub planned_of_part : NetworkDomain → List ℕ → Result (List PlannedText) (List ℕ)
 planned_of_part network text =
     if has_access network
@@ -30,7 +30,7 @@ planned_of_part network text =
 abbrev pub planned_scenario_of : Limits → ℕ → RunTexts → Result (Scenario × List PlannedText) (List ℕ)
 planned_scenario_of limits cycles texts = and_then (network_of_part limits texts.domain) (λ network.
     and_then (planned_of_part network texts.streams) (λ streams.
-    and_then (scenario_behind cycles (domain_of network) (asked_in streams) texts) (λ scenario. Ok (scenario, streams))))
+    and_then (scenario_after cycles (domain_of network) (asked_in streams) texts) (λ scenario. Ok (scenario, streams))))
 
 -- the scenario of an input, or the line of its first fault: of the number of parts, and then of the parts
 abbrev pub planned_scenario : Limits → ℕ → List ℕ → Result (Scenario × List PlannedText) (List ℕ)

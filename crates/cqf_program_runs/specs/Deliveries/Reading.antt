@@ -22,13 +22,13 @@ pub record ArePlannedBeside (streams : List PlannedText) (requests : List PacedR
   pub asked : map asked_paced requests ≡ asked_in streams
   pub ends : deadlines ≡ deadlines_in streams
 
--- they are those of a text
+-- the requests and the deadlines are those of the streams of a text
 pub record ArePlannedIn (text : List ℕ) (requests : List PacedRequest) (deadlines : List (Option ℕ)) : Type 0 where
   pub streams : List PlannedText
   pub holds : planned_of_text text ≡ Ok streams
   pub planned : ArePlannedBeside streams requests deadlines
 
--- they are those of a part of a network, from their edge bridges on
+-- the requests and the deadlines are those of the streams of a part of a network, from their edge bridges on
 pub record ArePlannedOf (network : NetworkDomain) (text : List ℕ) (requests : List PacedRequest) (deadlines : List (Option ℕ)) : Type 0 where
   pub streams : List PlannedText
   pub holds : planned_of_part network text ≡ Ok streams
@@ -42,7 +42,7 @@ pub record IsPlannedIn (limits : Limits) (cycles : ℕ) (texts : RunTexts) (made
   pub may : MayBeRun cycles (scenario_given made.given)
   pub stand : HasOrders made.given
 
--- it is that of the input
+-- the same for the parts of an input
 pub record IsPlannedGiven (limits : Limits) (cycles : ℕ) (input : List ℕ) (made : PlannedGiven) : Type 0 where
   pub streams : List PlannedText
   pub holds : planned_scenario limits cycles input ≡ Ok (scenario_given made.given, streams)
@@ -56,7 +56,7 @@ pub record AreDeliveries (cycles : ℕ) (s : Scenario) (streams : List PlannedTe
   pub is_book : IsBookOfScenario cycles s book
   pub are : deliveries ≡ deliveries_of (run_of_scenario cycles s) streams book
 
--- they are, for any streams with these requests and deadlines
+-- the same for any streams with these requests and deadlines
 abbrev pub AreDeliveriesOf : ℕ → PlannedGiven → List Delivery → Type 0
 AreDeliveriesOf cycles planned deliveries = (streams : List PlannedText) → ArePlannedBeside streams planned.given.requests.items planned.deadlines.items →
     AreDeliveries cycles (scenario_given planned.given) streams deliveries

@@ -37,33 +37,33 @@ whole_in d row slot link = option_and_then (λ (column : ℕ). slice_index_or sl
 
 -- the row by which an offer with this verdict goes on, and that of the offer at an index
 abbrev pub row_judged : List Row → EdgeVerdict → Option Row
-row_judged rows (Covered place) = slice_get rows place
+row_judged rows (Covered index) = slice_get rows index
 row_judged rows (Dropped reason) = None
 
 abbrev pub row_at : List Row → List EdgeVerdict → ℕ → Option Row
-row_at rows edge_verdicts place = option_and_then (row_judged rows) (slice_get edge_verdicts place)
+row_at rows edge_verdicts index = option_and_then (row_judged rows) (slice_get edge_verdicts index)
 
 -- what is kept of each frame
 abbrev pub slots_of : List (Vec (Option Nanos) Global) → List (List (Option Nanos))
 slots_of slots = map (λ (slot : Vec (Option Nanos) Global). slot.items) slots
 
 -- what is kept of a frame of a row says when it is whole at each of the row's listeners
-abbrev pub TellsWhole : Domain → Option Row → List (Option Nanos) → (ℕ → Option Nanos) → Type 0
-TellsWhole d found slot whole = (row : Row) (link column : ℕ) → found ≡ Some row → column_of d row link ≡ Some column →
+abbrev pub WritesWhole : Domain → Option Row → List (Option Nanos) → (ℕ → Option Nanos) → Type 0
+WritesWhole d found slot whole = (row : Row) (link column : ℕ) → found ≡ Some row → column_of d row link ≡ Some column →
     slice_index_or slot column None ≡ whole link
 
 -- no row has more than `width` listeners
 abbrev pub HaveListeners : Domain → List Row → ℕ → Type 0
 HaveListeners d rows width = (row : Row) → Contains rows row → length (listeners_of d row) ≤ width
 
--- slots of one width, with room for each row, say by the given starts when the frames of the offers from index `place`
+-- slots of one width, with room for each row, say by the given starts when the frames of the offers from index `index`
 -- on are whole
-pub record AreSlots (d : Domain) (rows : List Row) (edge_verdicts : List EdgeVerdict) (starts : List Started) (place width : ℕ)
+pub record AreSlots (d : Domain) (rows : List Row) (edge_verdicts : List EdgeVerdict) (starts : List Started) (index width : ℕ)
     (slots : List (List (Option Nanos))) : Type 0 where
   pub room : HaveListeners d rows width
-  pub wide : (behind : ℕ) → behind < length slots → length (slice_index_or slots behind []) ≡ width
-  pub tell : (behind : ℕ) → behind < length slots →
-      TellsWhole d (row_at rows edge_verdicts (place + behind)) (slice_index_or slots behind []) (whole_on d starts (place + behind + 1))
+  pub wide : (following : ℕ) → following < length slots → length (slice_index_or slots following []) ≡ width
+  pub write : (following : ℕ) → following < length slots →
+      WritesWhole d (row_at rows edge_verdicts (index + following)) (slice_index_or slots following []) (whole_on d starts (index + following + 1))
 
 -- an instant is kept in a column if none is kept there yet
 pub record KeepsFirst (before after : List (Option Nanos)) (column : ℕ) (whole : Nanos) : Type 0 where
@@ -72,77 +72,77 @@ pub record KeepsFirst (before after : List (Option Nanos)) (column : ℕ) (whole
   pub others : (other : ℕ) → other ≢ column → slice_index_or after other None ≡ slice_index_or before other None
 
 -- the same, in the slot at an index
-pub record KeepsInSlot (before after : List (List (Option Nanos))) (behind column : ℕ) (whole : Nanos) : Type 0 where
+pub record KeepsInSlot (before after : List (List (Option Nanos))) (following column : ℕ) (whole : Nanos) : Type 0 where
   pub as_many : length after ≡ length before
-  pub own : KeepsFirst (slice_index_or before behind []) (slice_index_or after behind []) column whole
-  pub others : (other : ℕ) → other ≢ behind → slice_index_or after other [] ≡ slice_index_or before other []
+  pub own : KeepsFirst (slice_index_or before following []) (slice_index_or after following []) column whole
+  pub others : (other : ℕ) → other ≢ following → slice_index_or after other [] ≡ slice_index_or before other []
 
 -- the starts `more` are noted after any earlier starts
-pub record NotesAll (d : Domain) (rows : List Row) (edge_verdicts : List EdgeVerdict) (place : ℕ) (more : List Started)
+pub record NotesAll (d : Domain) (rows : List Row) (edge_verdicts : List EdgeVerdict) (index : ℕ) (more : List Started)
     (before after : List (List (Option Nanos))) : Type 0 where
   pub as_many : length after ≡ length before
-  pub noted : (starts : List Started) (width : ℕ) → AreSlots d rows edge_verdicts starts place width before →
-      AreSlots d rows edge_verdicts (starts ++ more) place width after
+  pub noted : (starts : List Started) (width : ℕ) → AreSlots d rows edge_verdicts starts index width before →
+      AreSlots d rows edge_verdicts (starts ++ more) index width after
 
 -- the starts of a run's first cycles
-abbrev pub starts_told : GivenRun → ℕ → List Started
-starts_told given cycles = starts_of given.run.domain cycles given.net.carried
+abbrev pub starts_written : GivenRun → ℕ → List Started
+starts_written given cycles = starts_of given.run.domain cycles given.net.carried
 
 -- all starts that a pass returns are in time
-pub record TellsInTime (d : Domain) (basis : Basis) : Type 0 where
+pub record WritesInTime (d : Domain) (basis : Basis) : Type 0 where
   pub given : GivenRun
   pub is : IsBasisOf given basis
-  pub in_time : All (IsInTime d) (starts_told given basis.cycles)
+  pub in_time : All (IsInTime d) (starts_written given basis.cycles)
 
 -- the starts that the pass has returned are noted, for each run to which the pass belongs
-abbrev pub NotesTold : Domain → List Row → List EdgeVerdict → ℕ → UnderWay → UnderWay → Type 0
-NotesTold d rows edge_verdicts place old new = (given : GivenRun) (width : ℕ) → IsBasisOf given old.pass.basis →
-    AreSlots d rows edge_verdicts (starts_told given old.pass.told) place width (slots_of old.slots.items) →
-    AreSlots d rows edge_verdicts (starts_told given new.pass.told) place width (slots_of new.slots.items)
+abbrev pub NotesWritten : Domain → List Row → List EdgeVerdict → ℕ → UnderWay → UnderWay → Type 0
+NotesWritten d rows edge_verdicts index old new = (given : GivenRun) (width : ℕ) → IsBasisOf given old.pass.basis →
+    AreSlots d rows edge_verdicts (starts_written given old.pass.reported) index width (slots_of old.slots.items) →
+    AreSlots d rows edge_verdicts (starts_written given new.pass.reported) index width (slots_of new.slots.items)
 
 -- the starts of the cycles up to `last` are returned
-pub record TellsUpTo (d : Domain) (rows : List Row) (edge_verdicts : List EdgeVerdict) (place last : ℕ) (old new : UnderWay) : Type 0 where
+pub record WritesUpTo (d : Domain) (rows : List Row) (edge_verdicts : List EdgeVerdict) (index last : ℕ) (old new : UnderWay) : Type 0 where
   pub basis : new.pass.basis ≡ old.pass.basis
-  pub depth : new.depth ≡ old.depth
+  pub hop_number : new.hop_number ≡ old.hop_number
   pub as_many : length new.slots.items ≡ length old.slots.items
-  pub counted : new.told ≡ new.pass.told
-  pub within : old.told ≤ old.pass.basis.cycles → new.told ≤ old.pass.basis.cycles
-  pub no_more : (most : ℕ) → old.told ≤ most → last < most → new.told ≤ most
-  pub all : (cycle : ℕ) → cycle ≤ last → cycle < old.pass.basis.cycles → cycle < new.told
-  pub noted : NotesTold d rows edge_verdicts place old new
+  pub counted : new.reported ≡ new.pass.reported
+  pub within : old.reported ≤ old.pass.basis.cycles → new.reported ≤ old.pass.basis.cycles
+  pub no_more : (most : ℕ) → old.reported ≤ most → last < most → new.reported ≤ most
+  pub all : (cycle : ℕ) → cycle ≤ last → cycle < old.pass.basis.cycles → cycle < new.reported
+  pub noted : NotesWritten d rows edge_verdicts index old new
 
 -- the first slot is emptied and becomes the last
 pub record GoesOn (old new : UnderWay) : Type 0 where
   pub pass : new.pass ≡ old.pass
-  pub told : new.told ≡ old.told
-  pub depth : new.depth ≡ old.depth
+  pub reported : new.reported ≡ old.reported
+  pub hop_number : new.hop_number ≡ old.hop_number
   pub as_many : length new.slots.items ≡ length old.slots.items
   pub emptied : List (Option Nanos)
   pub as_wide : length emptied ≡ length (slice_index_or (slots_of old.slots.items) 0 [])
   pub none : (column : ℕ) → slice_index_or emptied column None ≡ None
   pub slots : slots_of new.slots.items ≡ drop 1 (slots_of old.slots.items) ++ emptied ∷ []
 
--- if one offer comes `frames` positions after another, its cycle is at least `depth` cycles after the other's
+-- if one offer comes `frames` positions after another, its cycle is at least `hop_number` cycles after the other's
 abbrev pub IsWideFor : ℕ → ℕ → List Offer → ℕ → Type 0
-IsWideFor cycle_time depth offers frames = (place : ℕ) (early late : Offer) → slice_get offers place ≡ Some early →
-    slice_get offers (place + frames) ≡ Some late → cycle_at cycle_time early.at.0 + depth ≤ cycle_at cycle_time late.at.0
+IsWideFor cycle_time hop_number offers frames = (index : ℕ) (early late : Offer) → slice_get offers index ≡ Some early →
+    slice_get offers (index + frames) ≡ Some late → cycle_at cycle_time early.at.0 + hop_number ≤ cycle_at cycle_time late.at.0
 
--- no frame of a row is under way for more than `depth` cycles
-abbrev pub NoneIsDeeper : List Row → ℕ → Type 0
-NoneIsDeeper rows depth = (row : Row) → Contains rows row → residence row ≤ depth
+-- no frame of a row is under way for more than `hop_number` cycles
+abbrev pub HopNumbersAreWithin : List Row → ℕ → Type 0
+HopNumbersAreWithin rows hop_number = (row : Row) → Contains rows row → residence row ≤ hop_number
 
 -- `many` slots in which nothing is kept
 pub record AreEmptySlots (width many : ℕ) (slots : List (List (Option Nanos))) : Type 0 where
   pub count : length slots ≡ many
-  pub wide : (behind : ℕ) → behind < many → length (slice_index_or slots behind []) ≡ width
-  pub none : (behind column : ℕ) → slice_index_or (slice_index_or slots behind []) column None ≡ None
+  pub wide : (following : ℕ) → following < many → length (slice_index_or slots following []) ≡ width
+  pub none : (following column : ℕ) → slice_index_or (slice_index_or slots following []) column None ≡ None
 
 -- no start is returned yet, and there is room for all that will be kept
 pub record IsLaid (d : Domain) (rows : List Row) (offers : List Offer) (under_way : UnderWay) : Type 0 where
   pub width : ℕ
-  pub fresh : under_way.told ≡ 0
-  pub deep : NoneIsDeeper rows under_way.depth
+  pub fresh : under_way.reported ≡ 0
+  pub hop_numbers : HopNumbersAreWithin rows under_way.hop_number
   pub room : HaveListeners d rows width
   pub some : 0 < length under_way.slots.items
-  pub enough : IsWideFor d.cycle_time under_way.depth offers (length under_way.slots.items)
+  pub enough : IsWideFor d.cycle_time under_way.hop_number offers (length under_way.slots.items)
   pub empty : AreEmptySlots width (length under_way.slots.items) (slots_of under_way.slots.items)

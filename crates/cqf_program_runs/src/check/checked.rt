@@ -37,7 +37,7 @@ pub struct CheckCounts {
 }
 
 impl Fate {
-    /// Whether the frame is dropped or late.
+    /// Returns whether the frame is dropped or late.
     pub fn is_bad(self) -> bool
         ensures { result ≡ is_bad self }
     {
@@ -49,7 +49,7 @@ impl Fate {
 }
 
 impl Passage {
-    /// Whether the frame goes to a listener and has a deadline.
+    /// Returns whether the frame goes to a listener and has a deadline.
     fn is_timed(&self) -> bool
         ensures { result ≡ is_timed self.now }
     {
@@ -60,7 +60,7 @@ impl Passage {
     }
 }
 
-/// Whether a frame is under way.
+/// Returns whether a frame is under way.
 fn is_under_way(delivery: &Delivery) -> bool
     ensures { result ≡ is_under_way (fate_of delivery.now) }
 {
@@ -70,7 +70,7 @@ fn is_under_way(delivery: &Delivery) -> bool
     }
 }
 
-/// Whether a frame has arrived, in time if it has a deadline.
+/// Returns whether a frame has arrived, in time if it has a deadline.
 fn is_delivered(delivery: &Delivery) -> bool
     ensures { result ≡ is_delivered (fate_of delivery.now) }
 {
@@ -91,7 +91,7 @@ fn count_under_way(deliveries: &[Delivery]) -> usize
         .count()
 }
 
-/// Returns how many deliveries have arrived in time.
+/// Returns how many deliveries have arrived, in time if they have a deadline.
 fn count_delivered(deliveries: &[Delivery]) -> usize
     ensures counts { result ≡ count_by (λ delivery. is_delivered (fate_of delivery)) deliveries.now }
     ensures few { result ≤ length deliveries.now }
@@ -102,7 +102,7 @@ fn count_delivered(deliveries: &[Delivery]) -> usize
         .count()
 }
 
-/// Returns how many of those have a deadline.
+/// Returns how many deliveries have a deadline and have arrived within it.
 fn count_timed(deliveries: &[Delivery]) -> usize
     ensures counts { result ≡ count_by (λ delivery. is_delivered (fate_of delivery) && is_timed delivery.passage) deliveries.now }
     ensures few { result ≤ length deliveries.now }
@@ -132,7 +132,7 @@ impl CheckCounts {
         requires early { AreCountsBefore most_offers self }
         ensures counts { (offers : SomeOffers) (done : List ADelivery) → self ≡ counts_of offers done →
             result ≡ counts_of offers (done ++ here.now) }
-        ensures more { (place : ℕ) → AreCountsBefore place self → AreCountsBefore (place + 1) result }
+        ensures more { (index : ℕ) → AreCountsBefore index self → AreCountsBefore (index + 1) result }
     {
         CheckCounts {
             offers: self.offers,
@@ -142,7 +142,7 @@ impl CheckCounts {
         }
     }
 
-    /// Whether all offers are of cycles that are run, and no delivery is under way.
+    /// Returns whether all offers are of cycles that are run, and no delivery is under way.
     pub fn is_finished(self) -> bool
         ensures { result ≡ is_finished self }
     {
@@ -210,7 +210,7 @@ pub fn none_offered_line(alloc: Global) -> Result<String, AllocError>
     Ok(line)
 }
 
-/// Returns the line that says that nothing has arrived, and how many cycles would do.
+/// Returns the line that says that nothing has arrived, and how many cycles would be enough.
 fn none_come_line(alloc: Global, counts: CheckCounts) -> Result<String, AllocError>
     ensures { IfOk result (λ line. string_bytes line ≡ none_come_line counts) }
 {

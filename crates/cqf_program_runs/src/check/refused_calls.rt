@@ -11,7 +11,7 @@ use cqf_model::Reply;
 use cqf_topology::PacedRequest;
 use std::alloc::{AllocError, Global};
 
-/// Whether an entry is a call; a Seal isn't.
+/// Returns whether an entry is a call; a Seal isn't.
 fn is_call(logged: &Logged) -> bool
     ensures { result ≡ is_call logged.now.what }
 {
@@ -21,7 +21,7 @@ fn is_call(logged: &Logged) -> bool
     }
 }
 
-/// Whether it was refused.
+/// Returns whether an answer refuses a call.
 fn is_refused(logged: &Logged) -> bool
     ensures { result ≡ is_refused logged.now.reply }
 {
@@ -58,8 +58,8 @@ fn call_text(
     ensures { IfOk result (λ text. string_bytes text ≡ act_text (act_in (map asked_paced requests.now) script.now what)) }
 {
     match what {
-        What::Admit(place) => {
-            let name = requests[place].name.as_str();
+        What::Admit(index) => {
+            let name = requests[index].name.as_str();
             let text = format!(in alloc; "admit {name}")?;
             Ok(text)
         }

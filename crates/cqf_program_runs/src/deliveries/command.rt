@@ -13,7 +13,7 @@ ghost use Rattle.cqf_program_runs.specs.Deliveries.{fate_of};
 ghost use Rattle.cqf_program_runs.specs.Check.Output.{IsCheckRefusal, IsChecked};
 ghost use Rattle.cqf_program_runs.specs.Check.Counting.{checked_over};
 ghost use Rattle.cqf_program_runs.specs.Deliveries.Ending.{over_of};
-ghost use Rattle.cqf_program_runs.specs.Deliveries.Following.{AreDeliveriesTold, CanFollow, IsFollowed, IsNotedOf, TellsDeliveriesOf};
+ghost use Rattle.cqf_program_runs.specs.Deliveries.Following.{AreDeliveriesWritten, CanFollow, IsFollowed, IsNotedOf, WritesDeliveriesOf};
 ghost use Rattle.cqf_units.specs.declared.timing.Nanos.{Nanos as AnInstant};
 ghost use Rattle.cqf_program_runs.specs.Check.Checking.{AreOffersCounted, IsCheckedGiven, IsRefusedGiven};
 ghost use Rattle.cqf_program_runs.specs.Deliveries.Output.{IsDeliveriesOutput};
@@ -46,7 +46,7 @@ fn output_of(alloc: Global, cycles: u32, planned: PlannedGiven) -> Result<Delive
     requires short { cycles ≤ most_cycles }
     requires may { MayBeRun cycles (scenario_given planned.given) }
     requires stand { HasOrders planned.given }
-    ensures { IfOk result (λ output. TellsDeliveriesOf cycles planned output) }
+    ensures { IfOk result (λ output. WritesDeliveriesOf cycles planned output) }
 {
     let (noted, under_way) = noted_of_scenario(alloc, cycles, &planned)?;
     let here = Few::new(alloc)?;
@@ -75,7 +75,7 @@ pub fn deliveries_output(
     input: &[u8],
 ) -> Result<DeliveriesOutput, Stop>
     requires { cycles ≤ most_cycles }
-    ensures ok { IfOk result (λ output. (text : List ℕ) × AreDeliveriesTold output text × IsDeliveriesOutput limits cycles input.now text) }
+    ensures ok { IfOk result (λ output. (text : List ℕ) × AreDeliveriesWritten output text × IsDeliveriesOutput limits cycles input.now text) }
     ensures err { IfErr result (IsRefused (planned_scenario limits cycles input.now)) }
 {
     let planned = read_planned_given(alloc, limits, cycles, input)?;
@@ -150,8 +150,8 @@ fn check_each(
     let (mut here, mut under_way) = (here, under_way);
     let many = ended.offers.len();
     let mut counts = no_counts(offers);
-    for place in 0..many {
-        put_those_of(&mut here, ended, &mut under_way, place);
+    for index in 0..many {
+        put_those_of(&mut here, ended, &mut under_way, index);
         if let Some(delivery) = first_bad(here.as_slice()) {
             return Err(complaint_stop(alloc, delivery));
         }
@@ -264,7 +264,7 @@ fn check_scenario(alloc: Global, cycles: u32, planned: &PlannedGiven) -> Result<
 /// * of the first refused call;
 /// * of the first delivery that is dropped or late;
 /// * that nothing is offered;
-/// * that nothing has arrived, and how many cycles would do;
+/// * that nothing has arrived, and how many cycles would be enough;
 /// * how many deliveries are under way, and how many offers are of cycles that aren't run.
 ///
 /// With status 3 if an allocation fails.

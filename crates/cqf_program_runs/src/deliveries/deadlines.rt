@@ -9,10 +9,10 @@ use std::alloc::Global;
 use std::marker::Model;
 
 /// Returns the deadline at an index; `None` past the end.
-fn deadline_at(deadlines: &[Option<u32>], place: usize) -> Option<u32>
-    ensures { result ≡ slice_index_or deadlines.now place None }
+fn deadline_at(deadlines: &[Option<u32>], index: usize) -> Option<u32>
+    ensures { result ≡ slice_index_or deadlines.now index None }
 {
-    match deadlines.get(place) {
+    match deadlines.get(index) {
         Some(deadline) => *deadline,
         None => None,
     }
@@ -34,7 +34,7 @@ impl<'r> Model for Deadlines<'r> {
 }
 
 impl<'r> Deadlines<'r> {
-    /// Makes the deadlines of requests, by the same indexes. A request past the last deadline has none.
+    /// Returns the deadlines of requests, by the same indexes. A request past the last deadline has none.
     ///
     /// # Errors
     /// `Memory` if an allocation fails.
@@ -53,8 +53,8 @@ impl<'r> Deadlines<'r> {
     pub fn of(&self, stream: &Name) -> Option<u32>
         ensures { result ≡ deadline_in self.now stream.now }
     {
-        match self.names.place_of(stream.as_str()) {
-            Some(place) => deadline_at(self.deadlines, place),
+        match self.names.index_of(stream.as_str()) {
+            Some(index) => deadline_at(self.deadlines, index),
             None => None,
         }
     }

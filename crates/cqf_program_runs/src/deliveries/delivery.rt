@@ -45,7 +45,7 @@ pub struct Delivery {
     pub frame: u32,
     /// The name of the stream that it claims.
     pub stream: Name,
-    /// Its size from the destination address to the FCS.
+    /// Its size from the destination address to the FCS, in octets.
     pub octets: u32,
     /// The instant of its offer.
     pub at: Nanos,

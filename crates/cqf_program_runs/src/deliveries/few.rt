@@ -25,7 +25,7 @@ impl Model for Few {
 }
 
 impl Few {
-    /// Makes room for deliveries; there are none so far. Only this allocates memory.
+    /// Returns room for 200 deliveries; there are none so far. Only this allocates memory.
     ///
     /// # Errors
     /// `Memory` if the allocation fails.

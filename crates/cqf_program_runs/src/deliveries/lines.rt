@@ -19,7 +19,7 @@ use cqf_report::reason_name;
 use cqf_units::Nanos;
 
 impl Fate {
-    /// Returns the word for the fate: `delivered`, `late`, `under-way`, or the reason of a drop as in a book.
+    /// Returns the word for the fate: `delivered`, `late`, `under-path`, or the reason of a drop as in a book.
     pub fn name(self) -> &'static str
         ensures { result.now ≡ name_of_fate self }
     {
@@ -129,8 +129,8 @@ fn put_all<W: Sink>(
         Puts W.contents writer.old writer.new (lines_of_deliveries (deliveries_over (over_of ended.now whole))) }
 {
     let (mut here, mut under_way) = (here, under_way);
-    for place in 0..ended.offers.len() {
-        put_those_of(&mut here, ended, &mut under_way, place);
+    for index in 0..ended.offers.len() {
+        put_those_of(&mut here, ended, &mut under_way, index);
         put_each(writer, here.as_slice());
     }
 }

@@ -6,9 +6,9 @@ ghost use Rattle.cqf_program_plans.specs.Latency.Text.{is_station};
 ghost use Rattle.cqf_model.specs.declared.frames.Offered.{Offered as AnOffered};
 ghost use Rattle.cqf_model.specs.Domain.{end_of};
 ghost use Rattle.cqf_model.specs.Shift.{offer_cycle};
-ghost use Rattle.cqf_model.specs.Traffic.{numbered};
+ghost use Rattle.cqf_model.specs.Policing.{numbered};
 ghost use Rattle.cqf_program_runs.specs.Deliveries.Following.{CanFollow, IsFollowed};
-ghost use Rattle.cqf_program_runs.specs.Deliveries.UnderWay.{TellsWhole, row_at, row_judged, whole_in};
+ghost use Rattle.cqf_program_runs.specs.Deliveries.UnderWay.{WritesWhole, row_at, row_judged, whole_in};
 ghost use Rattle.cqf_units.specs.declared.timing.Nanos.{Nanos as AnInstant};
 ghost use Rattle.cqf_program_runs.specs.Deliveries.ByVerdict.{deliveries_for};
 ghost use Rattle.cqf_program_runs.specs.Deliveries.{deliveries_to, delivery_of, delivery_to};
@@ -44,12 +44,12 @@ pub struct CompletedRun<'r> {
 }
 
 /// Returns the offer at an index, with its number.
-fn offered(place: usize, offer: &Offer) -> Offered
-    requires { place < most_offers }
-    ensures { result ≡ record { frame = place + 1; offer = offer.now } }
+fn offered(index: usize, offer: &Offer) -> Offered
+    requires { index < most_offers }
+    ensures { result ≡ record { frame = index + 1; offer = offer.now } }
 {
     Offered {
-        frame: place as u32 + 1,
+        frame: index as u32 + 1,
         offer: Offer {
             at: offer.at,
             bridge: offer.bridge,
@@ -120,18 +120,18 @@ fn put_to_listeners(
 }
 
 /// Returns the row at an index, if there is one.
-fn row_there(rows: &[Row], place: usize) -> Option<&Row>
-    ensures { option_copied result ≡ slice_get rows.now place }
+fn row_there(rows: &[Row], index: usize) -> Option<&Row>
+    ensures { option_copied result ≡ slice_get rows.now index }
 {
-    rows.get(place)
+    rows.get(index)
 }
 
 /// Returns the verdict at an index.
-fn edge_verdict_there(edge_verdicts: &[EdgeVerdict], place: usize) -> EdgeVerdict
-    requires { place < length edge_verdicts.now }
-    ensures { slice_get edge_verdicts.now place ≡ Some result }
+fn edge_verdict_there(edge_verdicts: &[EdgeVerdict], index: usize) -> EdgeVerdict
+    requires { index < length edge_verdicts.now }
+    ensures { slice_get edge_verdicts.now index ≡ Some result }
 {
-    edge_verdicts[place]
+    edge_verdicts[index]
 }
 
 /// Puts the deliveries of an offer with this verdict, whose frame has this deadline, by what is kept of the frame.
@@ -147,7 +147,7 @@ fn put_judged(
     requires bridge { x.now.offer.bridge < length ended.now.domain.now.bridges }
     requires due { deadline ≡ deadline_in (due_of ended.now) x.now.offer.stream }
     ensures { (whole : ℕ → ℕ → Option AnInstant) →
-        TellsWhole ended.now.domain.now (row_judged ended.now.rows.now edge_verdict) slot.now (whole x.now.frame) →
+        WritesWhole ended.now.domain.now (row_judged ended.now.rows.now edge_verdict) slot.now (whole x.now.frame) →
         here.new ≡ deliveries_for ended.now.domain.now (known_over (over_of ended.now whole)) x.now
         (verdict_of ended.now.rows.now (offer_cycle ended.now.domain.now x.now) edge_verdict) }
 {
@@ -155,8 +155,8 @@ fn put_judged(
         EdgeVerdict::Dropped(reason) => {
             here.push(delivery_of(ended.domain, x, Passage::Dropped(reason)));
         }
-        EdgeVerdict::Covered(place) => {
-            if let Some(row) = row_there(ended.rows, place) {
+        EdgeVerdict::Covered(index) => {
+            if let Some(row) = row_there(ended.rows, index) {
                 put_to_listeners(here, ended.domain, slot, deadline, x, row);
             }
         }
@@ -180,7 +180,7 @@ fn put_offer(
     requires last { x.now.frame ≤ length ended.now.edge_verdicts.now }
     requires due { deadline ≡ deadline_in (due_of ended.now) x.now.offer.stream }
     ensures { (whole : ℕ → ℕ → Option AnInstant) →
-        TellsWhole ended.now.domain.now (row_at ended.now.rows.now ended.now.edge_verdicts.now (x.now.frame - 1)) slot.now (whole x.now.frame) →
+        WritesWhole ended.now.domain.now (row_at ended.now.rows.now ended.now.edge_verdicts.now (x.now.frame - 1)) slot.now (whole x.now.frame) →
         here.new ≡ deliveries_at (over_of ended.now whole) x.now }
 {
     if cycle >= ended.cycles {
@@ -196,19 +196,23 @@ pub fn put_those_of(
     here: &mut Few,
     ended: &CompletedRun<'_>,
     under_way: &mut UnderWay,
-    place: usize,
+    index: usize,
 )
-    requires followed { CanFollow ended.now place under_way.old }
-    requires there { place < length ended.now.offers.now }
-    ensures here { (whole : ℕ → ℕ → Option AnInstant) → IsFollowed (over_of ended.now whole) place under_way.old → (x : AnOffered) →
-        slice_get (numbered ended.now.offers.now) place ≡ Some x → here.new ≡ deliveries_at (over_of ended.now whole) x }
-    ensures next { (whole : ℕ → ℕ → Option AnInstant) → IsFollowed (over_of ended.now whole) place under_way.old →
-        IsFollowed (over_of ended.now whole) (place + 1) under_way.new }
+    requires followed { CanFollow ended.now index under_way.old }
+    requires there { index < length ended.now.offers.now }
+    ensures here { (whole : ℕ → ℕ → Option AnInstant) → IsFollowed (over_of ended.now whole) index under_way.old → (x : AnOffered) →
+        slice_get (numbered ended.now.offers.now) index ≡ Some x → here.new ≡ deliveries_at (over_of ended.now whole) x }
+    ensures next { (whole : ℕ → ℕ → Option AnInstant) → IsFollowed (over_of ended.now whole) index under_way.old →
+        IsFollowed (over_of ended.now whole) (index + 1) under_way.new }
 {
     here.clear();
-    let x = offered(place, &ended.offers[place]);
+    let x = offered(index, &ended.offers[index]);
     let cycle = cycle_of(x.offer.at, ended.domain.cycle_time()).0;
-    under_way.tell_up_to(ended, place, u64::from(cycle) + u64::from(under_way.depth));
-    put_offer(here, ended, under_way.first(), ended.dues[place], &x, cycle);
+    under_way.write_up_to(
+        ended,
+        index,
+        u64::from(cycle) + u64::from(under_way.hop_number),
+    );
+    put_offer(here, ended, under_way.first(), ended.dues[index], &x, cycle);
     under_way.go_on();
 }

@@ -5,7 +5,7 @@ ghost use Rattle.cqf_units.specs.declared.timing.Nanos.{Nanos as AnInstant};
 ghost use Rattle.cqf_model.specs.declared.frames.Offer.{Offer as AnOffer};
 ghost use Rattle.cqf_model.specs.Run.{AreOffers};
 ghost use Rattle.cqf_model.specs.Shift.{offer_cycle};
-ghost use Rattle.cqf_model.specs.Traffic.{numbered};
+ghost use Rattle.cqf_model.specs.Policing.{numbered};
 ghost use Rattle.cqf_program_scenario.specs.Closing.{MayBeRun, scenario_given};
 ghost use Rattle.cqf_program_scenario.specs.Logged.{HasOrders};
 ghost use Rattle.cqf_program_scenario.specs.Outcomes.{IsOutcomeOf};
@@ -19,7 +19,7 @@ use crate::Deadlines;
 use crate::check::checked::OfferCounts;
 use crate::deliveries::made::CompletedRun;
 use crate::deliveries::reading::PlannedGiven;
-use crate::deliveries::rooms::deepest;
+use crate::deliveries::rooms::greatest_hop_number;
 use crate::deliveries::under_way::UnderWay;
 use cqf_instants_run::EdgeVerdict;
 use cqf_laws_coverage::offers_are_judged;
@@ -138,7 +138,7 @@ pub fn noted_of_scenario(
     noted_of(alloc, cycles, planned, outcome)
 }
 
-/// Whether an offer is of a cycle that isn't run.
+/// Returns whether an offer is of a cycle that isn't run.
 fn is_later(domain: &Domain, cycles: u32, offer: &Offer) -> bool
     requires { offer.now.at.0 < end_of_offers }
     ensures { result ≡ nat_le cycles (cycle_at domain.now.cycle_time offer.now.at.0) }
@@ -152,7 +152,7 @@ fn later_offers(domain: &Domain, cycles: u32, offers: &[Offer]) -> usize
     ensures { result ≡ count_by (λ x. nat_le cycles (offer_cycle domain.now x)) (numbered offers.now) }
 {
     let mut later = 0;
-    for (place, offer) in offers.iter().enumerate() {
+    for (index, offer) in offers.iter().enumerate() {
         if is_later(domain, cycles, offer) {
             later += 1;
         }
@@ -185,6 +185,6 @@ pub(crate) fn offer_counts(
     OfferCounts {
         frames: offers.len(),
         later: later_offers(domain, cycles, offers),
-        enough: u64::from(latest_cycle(domain, offers)) + u64::from(deepest(rows)) + 1,
+        enough: u64::from(latest_cycle(domain, offers)) + u64::from(greatest_hop_number(rows)) + 1,
     }
 }

@@ -1,14 +1,14 @@
 //! The output of `deliveries`, before it is written.
 ghost use Rattle.std.specs.Prelude.{ℕ, List};
-ghost use Rattle.cqf_output.specs.Edge.{HasTold, writing};
-ghost use Rattle.cqf_program_runs.specs.Deliveries.Following.{AreDeliveriesTold};
+ghost use Rattle.cqf_output.specs.Edge.{IsWritten, writing};
+ghost use Rattle.cqf_program_runs.specs.Deliveries.Following.{AreDeliveriesWritten};
 
 use crate::deliveries::few::Few;
 use crate::deliveries::lines::put_deliveries;
 use crate::deliveries::noted::Noted;
 use crate::deliveries::reading::PlannedGiven;
 use crate::deliveries::under_way::UnderWay;
-use cqf_output::{Buffer, Sink, Told, Writer};
+use cqf_output::{Buffer, CheckedSink, Sink, Writer};
 use std::marker::Model;
 
 /// The data of the output of `deliveries`: a scenario with its notes, its frames under way, room for the deliveries of
@@ -24,19 +24,19 @@ pub struct DeliveriesOutput {
 }
 
 impl Model for DeliveriesOutput {
-    ghost use Rattle.cqf_program_runs.specs.Deliveries.Following.{CanBeTold, Ending};
+    ghost use Rattle.cqf_program_runs.specs.Deliveries.Following.{CanBeWritten, Ending};
 
     ghost Value = { Ending };
 
     ghost view = { λ o. record { planned = o.planned; cycles = o.cycles; noted = o.noted; under_way = o.under_way } };
 
-    ghost invariant = { λ o. CanBeTold (record { planned = o.planned; cycles = o.cycles; noted = o.noted; under_way = o.under_way }) };
+    ghost invariant = { λ o. CanBeWritten (record { planned = o.planned; cycles = o.cycles; noted = o.noted; under_way = o.under_way }) };
 }
 
 impl DeliveriesOutput {
     /// Writes the output: the deliveries, in their order. Allocates no memory.
-    pub fn tell<W: Sink>(self, told: &mut Told<W>)
-        ensures { (text : List ℕ) → AreDeliveriesTold self text → HasTold (writing W.contents told.old told.new) text }
+    pub fn write<W: Sink>(self, reported: &mut CheckedSink<W>)
+        ensures { (text : List ℕ) → AreDeliveriesWritten self text → IsWritten (writing W.contents reported.old reported.new) text }
     {
         let DeliveriesOutput {
             planned,
@@ -46,8 +46,8 @@ impl DeliveriesOutput {
             here,
             buffer,
         } = self;
-        let mut writer = Writer::new(told, buffer);
+        let mut writer = Writer::new(reported, buffer);
         put_deliveries(&mut writer, here, under_way, &noted.over(&planned, cycles));
-        let _told = writer.close();
+        let _written = writer.close();
     }
 }

@@ -13,13 +13,13 @@ use cqf_network::NetworkDomain;
 use cqf_output::Stop;
 use cqf_program_plans::{open_edges_part, parted, parted_flows};
 use cqf_program_scenario::{
-    RunInput, RunParts, domain_of, network_part, planned_part, read_behind, run_parts,
+    RunInput, RunParts, domain_of, network_part, planned_part, read_after, run_parts,
 };
 use cqf_topology::PacedRequest;
 use std::alloc::Global;
 
-/// The input of a run, and the deadlines of its streams. A deadline counts from the arrival at the edge bridge: if the stream comes by an access
-/// link, it is the written one less the most that the link takes.
+/// The input of a run, and the deadlines of its streams. A deadline counts from the arrival at the edge bridge: if the stream comes by an
+/// access link, it is the written one less the longest time that its frames take to the edge bridge.
 #[derive(Drop)]
 pub struct PlannedGiven {
     pub given: RunInput,
@@ -88,7 +88,7 @@ fn read_planned_parts(
     let network = network_part(alloc, limits, parts.domain)?;
     let domain = domain_of(alloc, &network)?;
     let (requests, deadlines) = read_planned_streams(alloc, &network, parts.streams)?;
-    let given = read_behind(alloc, cycles, domain, requests, parts)?;
+    let given = read_after(alloc, cycles, domain, requests, parts)?;
     Ok(PlannedGiven { given, deadlines })
 }
 

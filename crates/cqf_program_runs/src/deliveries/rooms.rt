@@ -5,7 +5,7 @@ ghost use Rattle.cqf_laws_coverage.specs.Judged.{StandInOrder};
 ghost use Rattle.cqf_model.specs.declared.frames.Offer.{Offer as AnOffer};
 ghost use Rattle.cqf_model.specs.Run.{AreOffers};
 ghost use Rattle.cqf_program_plans.specs.Latency.Text.{listeners_of};
-ghost use Rattle.cqf_program_runs.specs.Check.Checked.{deepest};
+ghost use Rattle.cqf_program_runs.specs.Check.Checked.{greatest_hop_number};
 ghost use Rattle.cqf_program_runs.specs.Deliveries.UnderWay.{AreEmptySlots, IsLaid, IsWideFor, slots_of};
 
 use crate::deliveries::under_way::{UnderWay, ends_in_station};
@@ -17,8 +17,8 @@ use std::alloc::Global;
 use std::collections::VecDeque;
 
 /// Returns the most cycles after its own for which a frame of one of the rows can be under way.
-pub fn deepest(rows: &[Row]) -> u8
-    ensures { result ≡ deepest rows.now }
+pub fn greatest_hop_number(rows: &[Row]) -> u8
+    ensures { result ≡ greatest_hop_number rows.now }
 {
     let mut most = 0;
     for row in rows {
@@ -50,31 +50,31 @@ fn most_listeners(domain: &Domain, rows: &[Row]) -> usize
 }
 
 /// Returns the cycle of the offer at an index.
-fn cycle_there(domain: &Domain, offers: &[Offer], place: usize) -> u64
+fn cycle_there(domain: &Domain, offers: &[Offer], index: usize) -> u64
     requires offers { AreOffers domain.now offers.now }
-    requires there { place < length offers.now }
-    ensures is { (offer : AnOffer) → slice_get offers.now place ≡ Some offer → result ≡ cycle_at domain.now.cycle_time offer.at.0 }
+    requires there { index < length offers.now }
+    ensures is { (offer : AnOffer) → slice_get offers.now index ≡ Some offer → result ≡ cycle_at domain.now.cycle_time offer.at.0 }
     ensures small { result < 2 ^ 32 }
 {
-    u64::from(cycle_of(offers[place].at, domain.cycle_time()).0)
+    u64::from(cycle_of(offers[index].at, domain.cycle_time()).0)
 }
 
-/// Returns a number of slots, at least 1, that is enough for the frames under way: an offer that many positions after
-/// another is of a cycle at least `depth` cycles after the other's. It is the greatest number of offers, from some
-/// offer on, that are of cycles less than `depth` after that offer's.
-fn most_at_once(domain: &Domain, depth: u8, offers: &[Offer]) -> usize
+/// Returns a number of slots, at least 1, that is enough for the frames under way: if an offer is that many positions
+/// after another, its cycle is at least `hop_number` cycles after the other's. It is the greatest number of consecutive
+/// offers whose cycles are less than `hop_number` cycles after that of the first of them.
+fn most_at_once(domain: &Domain, hop_number: u8, offers: &[Offer]) -> usize
     requires offers { AreOffers domain.now offers.now }
     requires order { StandInOrder offers.now }
     ensures some { 0 < result }
-    ensures enough { IsWideFor domain.now.cycle_time depth offers.now result }
+    ensures enough { IsWideFor domain.now.cycle_time hop_number offers.now result }
 {
-    let depth = u64::from(depth);
+    let hop_number = u64::from(hop_number);
     let mut most = 1;
-    for place in 0..offers.len() {
-        if place >= most {
-            let early = cycle_there(domain, offers, place - most);
-            let late = cycle_there(domain, offers, place);
-            if early + depth > late {
+    for index in 0..offers.len() {
+        if index >= most {
+            let early = cycle_there(domain, offers, index - most);
+            let late = cycle_there(domain, offers, index);
+            if early + hop_number > late {
                 most += 1;
             }
         }
@@ -105,7 +105,7 @@ fn empty_slots(
 }
 
 impl UnderWay {
-    /// Makes the frames under way of offers in order of time, from the first one on. `pass` will return their starts.
+    /// Returns the frames under way of offers in order of time, from the first one on. `pass` will return their starts.
     /// All memory that they need is allocated here.
     ///
     /// # Errors
@@ -121,14 +121,14 @@ impl UnderWay {
         requires order { StandInOrder offers.now }
         ensures { IfOk result (λ under_way. (under_way.pass ≡ pass) × IsLaid domain.now rows.now offers.now under_way) }
     {
-        let depth = deepest(rows);
+        let hop_number = greatest_hop_number(rows);
         let width = most_listeners(domain, rows);
-        let many = most_at_once(domain, depth, offers);
+        let many = most_at_once(domain, hop_number, offers);
         let slots = empty_slots(alloc, width, many)?;
         Ok(UnderWay {
             pass,
-            told: 0,
-            depth,
+            reported: 0,
+            hop_number,
             slots,
         })
     }

@@ -4,7 +4,7 @@ ghost use Rattle.std.specs.Option.{option_and_then};
 ghost use Rattle.cqf_model.specs.Domain.{end_of};
 ghost use Rattle.cqf_program_plans.specs.Latency.Text.{is_station};
 ghost use Rattle.cqf_program_runs.specs.Deliveries.{whole_instant};
-ghost use Rattle.cqf_program_runs.specs.Deliveries.UnderWay.{GoesOn, IsInTime, KeepsFirst, KeepsInSlot, NotesAll, TellsInTime, TellsUpTo};
+ghost use Rattle.cqf_program_runs.specs.Deliveries.UnderWay.{GoesOn, IsInTime, KeepsFirst, KeepsInSlot, NotesAll, WritesInTime, WritesUpTo};
 ghost use Rattle.cqf_program_runs.specs.Deliveries.UnderWay.{column_of, row_at, slots_of, whole_in};
 
 use crate::deliveries::made::CompletedRun;
@@ -22,15 +22,15 @@ pub struct UnderWay {
     /// It returns the starts of the run, cycle by cycle.
     pub(crate) pass: Pass,
     /// The number of cycles whose starts it has returned.
-    pub(crate) told: u64,
+    pub(crate) reported: u64,
     /// The most cycles after its own for which a frame can be under way.
-    pub(crate) depth: u8,
+    pub(crate) hop_number: u8,
     /// For each frame, in order, when it is whole at the listeners of its stream, in the order of the tree, as far as
     /// that is known.
     pub(crate) slots: VecDeque<Vec<Option<Nanos>>>,
 }
 
-/// Whether a link ends in a station. A link that the domain lacks doesn't.
+/// Returns whether a link ends in a station. A link that the domain lacks doesn't.
 pub(crate) fn ends_in_station(domain: &Domain, link: u16) -> bool
     ensures { result ≡ is_station (end_of domain.now link) }
 {
@@ -65,11 +65,12 @@ fn column_of(domain: &Domain, row: &Row, link: u16) -> Option<usize>
         .position(|hop| hop.link == link)
 }
 
-/// Returns the same in the row by which the offer at an index goes on.
-fn column_at(ended: &CompletedRun<'_>, place: usize, link: u16) -> Option<usize>
-    ensures { result ≡ option_and_then (λ row. column_of ended.now.domain.now row link) (row_at ended.now.rows.now ended.now.edge_verdicts.now place) }
+/// Returns the index of the listener at the end of a link among those of the row by which the offer at an index goes
+/// on.
+fn column_at(ended: &CompletedRun<'_>, index: usize, link: u16) -> Option<usize>
+    ensures { result ≡ option_and_then (λ row. column_of ended.now.domain.now row link) (row_at ended.now.rows.now ended.now.edge_verdicts.now index) }
 {
-    let row = match ended.edge_verdicts.get(place)? {
+    let row = match ended.edge_verdicts.get(index)? {
         EdgeVerdict::Covered(row) => ended.rows.get(*row)?,
         EdgeVerdict::Dropped(_) => return None,
     };
@@ -86,37 +87,37 @@ fn keep(slot: &mut Vec<Option<Nanos>>, column: usize, whole: Nanos)
 }
 
 /// Does the same in the slot at an index.
-fn keep_in(slots: &mut VecDeque<Vec<Option<Nanos>>>, behind: usize, column: usize, whole: Nanos)
-    requires { behind < length slots.old.items }
-    ensures { KeepsInSlot (slots_of slots.old.items) (slots_of slots.new.items) behind column whole }
+fn keep_in(slots: &mut VecDeque<Vec<Option<Nanos>>>, following: usize, column: usize, whole: Nanos)
+    requires { following < length slots.old.items }
+    ensures { KeepsInSlot (slots_of slots.old.items) (slots_of slots.new.items) following column whole }
 {
-    keep(&mut slots[behind], column, whole);
+    keep(&mut slots[following], column, whole);
 }
 
 /// Notes a start of a frame under way, from the offer at an index on, if the frame reaches a listener by it.
 fn note(
     slots: &mut VecDeque<Vec<Option<Nanos>>>,
     ended: &CompletedRun<'_>,
-    place: usize,
+    index: usize,
     start: &Started,
 )
     requires { IsInTime ended.now.domain.now start.now }
-    ensures { NotesAll ended.now.domain.now ended.now.rows.now ended.now.edge_verdicts.now place (start.now ∷ [])
+    ensures { NotesAll ended.now.domain.now ended.now.rows.now ended.now.edge_verdicts.now index (start.now ∷ [])
         (slots_of slots.old.items) (slots_of slots.new.items) }
 {
     let frame = start.frame as usize;
-    if frame <= place {
+    if frame <= index {
         return;
     }
     if !ends_in_station(ended.domain, start.link) {
         return;
     }
-    let behind = frame - 1 - place;
-    if behind >= slots.len() {
+    let following = frame - 1 - index;
+    if following >= slots.len() {
         return;
     }
     if let Some(column) = column_at(ended, frame - 1, start.link) {
-        keep_in(slots, behind, column, whole_of(ended.domain, start));
+        keep_in(slots, following, column, whole_of(ended.domain, start));
     }
 }
 
@@ -124,15 +125,15 @@ fn note(
 fn note_each(
     slots: &mut VecDeque<Vec<Option<Nanos>>>,
     ended: &CompletedRun<'_>,
-    place: usize,
+    index: usize,
     starts: &[Started],
 )
     requires { All (IsInTime ended.now.domain.now) starts.now }
-    ensures { NotesAll ended.now.domain.now ended.now.rows.now ended.now.edge_verdicts.now place starts.now
+    ensures { NotesAll ended.now.domain.now ended.now.rows.now ended.now.edge_verdicts.now index starts.now
         (slots_of slots.old.items) (slots_of slots.new.items) }
 {
     for start in starts {
-        note(slots, ended, place, start);
+        note(slots, ended, index, start);
     }
 }
 
@@ -165,18 +166,18 @@ pub(crate) fn whole_in(
 impl UnderWay {
     /// Takes the starts of the cycles up to `last` from the pass, and notes those of frames under way, from the offer
     /// at an index on.
-    pub(crate) fn tell_up_to(&mut self, ended: &CompletedRun<'_>, place: usize, last: u64)
-        requires in_time { TellsInTime ended.now.domain.now self.old.pass.basis }
-        requires counted { self.old.told ≡ self.old.pass.told }
+    pub(crate) fn write_up_to(&mut self, ended: &CompletedRun<'_>, index: usize, last: u64)
+        requires in_time { WritesInTime ended.now.domain.now self.old.pass.basis }
+        requires counted { self.old.reported ≡ self.old.pass.reported }
         requires small { last < 2 ^ 63 }
-        ensures { TellsUpTo ended.now.domain.now ended.now.rows.now ended.now.edge_verdicts.now place last self.old self.new }
+        ensures { WritesUpTo ended.now.domain.now ended.now.rows.now ended.now.edge_verdicts.now index last self.old self.new }
     {
-        while self.told <= last {
+        while self.reported <= last {
             if !self.pass.next_cycle() {
                 return;
             }
-            self.told += 1;
-            note_each(&mut self.slots, ended, place, self.pass.starts());
+            self.reported += 1;
+            note_each(&mut self.slots, ended, index, self.pass.starts());
         }
     }
 

@@ -2,10 +2,10 @@
 ghost use Rattle.std.specs.Prelude.{ℕ, ◌≡◌, ◌≤◌, Ok, IfOk, IfErr, List, length};
 ghost use Rattle.cqf_laws_coverage.specs.Judged.{StandInOrder};
 ghost use Rattle.cqf_model.specs.Run.{AreOffers};
-ghost use Rattle.cqf_output.specs.Edge.{HasTold, writing};
+ghost use Rattle.cqf_output.specs.Edge.{IsWritten, writing};
 ghost use Rattle.cqf_output.specs.Stops.{IsRefused};
 ghost use Rattle.cqf_program_runs.specs.Line.{line_domain};
-ghost use Rattle.cqf_program_runs.specs.Line.Told.{IsLineTold};
+ghost use Rattle.cqf_program_runs.specs.Line.Written.{IsLineWritten};
 ghost use Rattle.cqf_program_runs.specs.Line.Output.{line_input, offers_input, IsBookText, IsLineOutput};
 ghost use Rattle.cqf_model.specs.Limits.{most_cycles, most_offers};
 
@@ -14,7 +14,7 @@ use crate::line::given::given_to_line;
 use crate::line::outputs::LineOutput;
 use cqf_laws_history::{closed_tables_stay, state_follows_history};
 use cqf_model::Offer;
-use cqf_output::{Buffer, Sink, Stop, Told, Writer};
+use cqf_output::{Buffer, CheckedSink, Sink, Stop, Writer};
 use cqf_program_scenario::{book_of_outcome, offers_part, one_part, outcome_of};
 use cqf_report::offers_are_read_in_order;
 use cqf_topology::Domain;
@@ -46,7 +46,7 @@ fn output_of_line(
     requires few { length offers.items ≤ most_offers }
     requires order { StandInOrder offers.items }
     requires short { cycles ≤ most_cycles }
-    ensures { IfOk result (λ output. (text : List ℕ) × IsLineTold output text × IsBookText cycles offers.items text) }
+    ensures { IfOk result (λ output. (text : List ℕ) × IsLineWritten output text × IsBookText cycles offers.items text) }
 {
     state_follows_history();
     closed_tables_stay();
@@ -63,28 +63,28 @@ fn output_of_line(
 
 impl LineOutput {
     /// Writes the output: the book of the line. Allocates no memory.
-    pub fn tell<W: Sink>(self, told: &mut Told<W>)
-        ensures { (text : List ℕ) → IsLineTold self text → HasTold (writing W.contents told.old told.new) text }
+    pub fn write<W: Sink>(self, reported: &mut CheckedSink<W>)
+        ensures { (text : List ℕ) → IsLineWritten self text → IsWritten (writing W.contents reported.old reported.new) text }
     {
         let LineOutput {
             domain,
             book,
             buffer,
         } = self;
-        let mut writer = Writer::new(told, buffer);
+        let mut writer = Writer::new(reported, buffer);
         book.put(&mut writer, &domain);
-        let _told = writer.close();
+        let _written = writer.close();
     }
 }
 
-/// Returns the output of `line`, ready to be written: the book of `cycles` cycles.
+/// Returns the output of `line`, ready to be written: the book of `cycles` cycles, 0 to 100,000.
 ///
 /// # Errors
 /// With status 1 and the line of the first fault of the input: of its parts, or of the offers. With status 3 if an
 /// allocation fails.
 pub fn line_output(alloc: Global, cycles: u32, input: &[u8]) -> Result<LineOutput, Stop>
     requires { cycles ≤ most_cycles }
-    ensures ok { IfOk result (λ output. (text : List ℕ) × IsLineTold output text × IsLineOutput cycles input.now text) }
+    ensures ok { IfOk result (λ output. (text : List ℕ) × IsLineWritten output text × IsLineOutput cycles input.now text) }
     ensures err { IfErr result (IsRefused (line_input input.now)) }
 {
     let Ok(domain) = domain_of_line(alloc) else {

@@ -3,7 +3,7 @@ ghost use Rattle.std.specs.Prelude.{◌≤◌, IfErr, IfOk};
 ghost use Rattle.cqf_model.specs.Limits.{most_cycles};
 ghost use Rattle.cqf_output.specs.Stops.{IsRefused};
 ghost use Rattle.cqf_program_runs.specs.Report.Output.{IsReportOutput};
-ghost use Rattle.cqf_program_runs.specs.Report.Telling.{TellsTheSums};
+ghost use Rattle.cqf_program_runs.specs.Report.Writing.{WritesTheSums};
 ghost use Rattle.cqf_program_scenario.specs.Closing.{MayBeRun, scenario_given};
 ghost use Rattle.cqf_program_scenario.specs.Logged.{HasOrders};
 ghost use Rattle.cqf_program_scenario.specs.Scenario.{scenario_input};
@@ -13,7 +13,7 @@ use cqf_laws_coverage::book_of_history_is_there;
 use cqf_model::Limits;
 use cqf_output::Stop;
 use cqf_program_scenario::{RunInput, outcome_of, read_given};
-use cqf_report::{report_is_told, write_columns};
+use cqf_report::{report_is_written, write_columns};
 use cqf_units::Memory;
 use std::alloc::Global;
 use std::thread::Threads;
@@ -29,9 +29,9 @@ fn text_of_report(
     requires short { cycles ≤ most_cycles }
     requires may { MayBeRun cycles (scenario_given given.now) }
     requires stand { HasOrders given.now }
-    ensures { IfOk result (λ text. TellsTheSums cycles (scenario_given given.now) text.items) }
+    ensures { IfOk result (λ text. WritesTheSums cycles (scenario_given given.now) text.items) }
 {
-    report_is_told();
+    report_is_written();
     book_of_history_is_there();
     // the domain is accepted; the book needs this fact
     given.domain.know();

@@ -3,7 +3,7 @@ ghost use Rattle.std.specs.Prelude.{ℕ, ◌≤◌, IfErr, IfOk, List};
 ghost use Rattle.cqf_model.specs.Limits.{most_cycles};
 ghost use Rattle.cqf_output.specs.Stops.{IsRefused};
 ghost use Rattle.cqf_program_runs.specs.Run.Output.{IsRunOutput};
-ghost use Rattle.cqf_program_runs.specs.Run.Told.{IsRunTold, TellsTheRun};
+ghost use Rattle.cqf_program_runs.specs.Run.Written.{IsRunWritten, WritesTheRun};
 ghost use Rattle.cqf_program_scenario.specs.Closing.{MayBeRun, scenario_given};
 ghost use Rattle.cqf_program_scenario.specs.Logged.{HasOrders};
 ghost use Rattle.cqf_program_scenario.specs.Scenario.{scenario_input};
@@ -20,7 +20,7 @@ fn output_of(alloc: Global, cycles: u32, given: RunInput) -> Result<RunOutput, M
     requires short { cycles ≤ most_cycles }
     requires may { MayBeRun cycles (scenario_given given) }
     requires stand { HasOrders given }
-    ensures { IfOk result (TellsTheRun cycles (scenario_given given)) }
+    ensures { IfOk result (WritesTheRun cycles (scenario_given given)) }
 {
     let outcome = outcome_of(alloc, cycles, &given)?;
     let book = book_of_outcome(alloc, cycles, &given, &outcome)?;
@@ -46,7 +46,7 @@ pub fn run_output(
     input: &[u8],
 ) -> Result<RunOutput, Stop>
     requires { cycles ≤ most_cycles }
-    ensures ok { IfOk result (λ output. (text : List ℕ) × IsRunTold output text × IsRunOutput limits cycles input.now text) }
+    ensures ok { IfOk result (λ output. (text : List ℕ) × IsRunWritten output text × IsRunOutput limits cycles input.now text) }
     ensures err { IfErr result (IsRefused (scenario_input limits cycles input.now)) }
 {
     let given = read_given(alloc, limits, cycles, input)?;

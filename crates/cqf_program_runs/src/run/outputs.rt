@@ -3,16 +3,16 @@ ghost use Rattle.std.specs.Prelude.{ℕ, List, codes, map};
 ghost use Rattle.cqf_admission.specs.Asking.{asked_paced};
 ghost use Rattle.cqf_admission.specs.Running.{AreThere};
 ghost use Rattle.cqf_model.specs.Book.{Contents};
-ghost use Rattle.cqf_output.specs.Edge.{HasTold, writing};
+ghost use Rattle.cqf_output.specs.Edge.{IsWritten, writing};
 ghost use Rattle.cqf_output.specs.Writer.{Puts};
 ghost use Rattle.cqf_output.specs.Stops.{line_of};
 ghost use Rattle.cqf_program_runs.specs.Run.Output.{run_text};
-ghost use Rattle.cqf_program_runs.specs.Run.Told.{IsRunTold};
+ghost use Rattle.cqf_program_runs.specs.Run.Written.{IsRunWritten};
 ghost use Rattle.cqf_program_scenario.specs.ExactBooks.{AreExactParts};
 ghost use Rattle.cqf_program_scenario.specs.Logged.{entries_in};
 
 use cqf_admission::Logged;
-use cqf_output::{Buffer, Sink, Told, Writer};
+use cqf_output::{Buffer, CheckedSink, Sink, Writer};
 use cqf_program_scenario::{ExactBook, RunInput};
 use cqf_report::put_log;
 use std::marker::Model;
@@ -31,9 +31,9 @@ impl Model for RunOutput {
     ghost use Rattle.std.specs.Prelude.{map};
     ghost use Rattle.cqf_admission.specs.Asking.{asked_paced};
     ghost use Rattle.cqf_admission.specs.Running.{AreThere};
-    ghost use Rattle.cqf_program_runs.specs.Run.Told.{RunToTell};
+    ghost use Rattle.cqf_program_runs.specs.Run.Written.{RunToWrite};
 
-    ghost Value = { RunToTell };
+    ghost Value = { RunToWrite };
 
     ghost view = { λ o. record { given = o.given; entries = o.entries.items; book = o.book } };
 
@@ -69,8 +69,8 @@ fn put_run<W: Sink>(
 impl RunOutput {
     /// Writes the output: the history of the scenario, a line `%%`, and the one-thread book of that history. Allocates
     /// no memory.
-    pub fn tell<W: Sink>(self, told: &mut Told<W>)
-        ensures { (text : List ℕ) → IsRunTold self text → HasTold (writing W.contents told.old told.new) text }
+    pub fn write<W: Sink>(self, reported: &mut CheckedSink<W>)
+        ensures { (text : List ℕ) → IsRunWritten self text → IsWritten (writing W.contents reported.old reported.new) text }
     {
         let RunOutput {
             given,
@@ -78,8 +78,8 @@ impl RunOutput {
             book,
             buffer,
         } = self;
-        let mut writer = Writer::new(told, buffer);
+        let mut writer = Writer::new(reported, buffer);
         put_run(&mut writer, &given, entries.as_slice(), book);
-        let _told = writer.close();
+        let _written = writer.close();
     }
 }

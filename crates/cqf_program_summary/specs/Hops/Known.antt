@@ -14,14 +14,14 @@ use Rattle.cqf_output.specs.Stops.{fault_line, or_line}
 use Rattle.cqf_program_scenario.specs.Networks.{domain_of_part}
 use Rattle.cqf_program_scenario.specs.Lines.{streams_line}
 use Rattle.cqf_program_scenario.specs.Parts.{RunTexts, run_parts}
-use Rattle.cqf_program_scenario.specs.Scenario.{Scenario, scenario_behind}
+use Rattle.cqf_program_scenario.specs.Scenario.{Scenario, scenario_after}
 use Rattle.cqf_program_summary.specs.Hops.Legs.{Wanted}
 
 -- the scenario of the parts over some cycles, and the plan's streams; or the line of the parts' first fault
 abbrev pub paced_scenario_of : Limits → ℕ → RunTexts → Result (Scenario × List Asked) (List ℕ)
 paced_scenario_of limits cycles texts = and_then (domain_of_part limits texts.domain) (λ d.
     and_then (or_line streams_line (paced_of_text texts.streams)) (λ streams.
-    and_then (scenario_behind cycles d (map asked_by streams) texts) (λ scenario. Ok (scenario, map asked_by streams))))
+    and_then (scenario_after cycles d (map asked_by streams) texts) (λ scenario. Ok (scenario, map asked_by streams))))
 
 -- the same for an input, or the line of its first fault
 abbrev pub paced_scenario : Limits → ℕ → List ℕ → Result (Scenario × List Asked) (List ℕ)
@@ -34,7 +34,7 @@ is_planned streams name = list_any (λ (asked : Asked). bytes_eq asked.name name
 abbrev pub is_claimed : List Offer → List ℕ → Bool
 is_claimed offers name = list_any (λ (offer : Offer). bytes_eq offer.stream name) offers
 
--- the line if neither is the case; it shows the name only if the name has the form of one
+-- the line about a name that neither has; it shows the name only if the name has the form of one
 abbrev pub name_shown : List ℕ → List ℕ
 name_shown name = if is_name name then codes " " ++ name else []
 

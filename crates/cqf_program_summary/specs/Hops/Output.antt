@@ -7,7 +7,7 @@ use Rattle.cqf_program_scenario.specs.Scenario.{Scenario}
 use Rattle.cqf_program_summary.specs.declared.hops.legs.Leg.{Leg}
 use Rattle.cqf_program_summary.specs.Hops.Known.{wanted_scenario}
 use Rattle.cqf_program_summary.specs.Hops.Legs.{AreByFrame, Wanted, wanted_legs}
-use Rattle.cqf_program_summary.specs.Hops.Rounds.{IsToldText, ToldHops}
+use Rattle.cqf_program_summary.specs.Hops.Rounds.{IsWrittenText, WrittenHops}
 use Rattle.cqf_program_summary.specs.Hops.Text.{text_of_legs}
 
 -- the output is the text of the wanted frames' starts and drops in the one-thread book of the input's scenario, by
@@ -22,9 +22,9 @@ pub record IsHopsOutput (limits : Limits) (cycles : ℕ) (wanted : Wanted) (inpu
   pub written : output ≡ text_of_legs scenario.domain scenario.offers legs
 
 -- an output's text is that of the wanted frames' starts and drops in the book of a scenario, by frame
-pub record TellsHopsOf (cycles : ℕ) (s : Scenario) (wanted : Wanted) (told : ToldHops) : Type 0 where
+pub record WritesHopsOf (cycles : ℕ) (s : Scenario) (wanted : Wanted) (reported : WrittenHops) : Type 0 where
   pub book : Contents
   pub is_book : IsBookOfScenario cycles s book
   pub legs : List Leg
   pub are : AreByFrame (wanted_legs s.offers wanted book) legs
-  pub text : IsToldText told (text_of_legs s.domain s.offers legs)
+  pub text : IsWrittenText reported (text_of_legs s.domain s.offers legs)

@@ -23,13 +23,13 @@ pub record IsPacedIn (limits : Limits) (cycles : ℕ) (texts : RunTexts) (given 
   pub may : MayBeRun cycles (scenario_given given)
   pub stand : HasOrders given
 
--- it is that of the input
+-- the same for the parts of an input
 pub record IsPacedGiven (limits : Limits) (cycles : ℕ) (input : List ℕ) (given : RunInput) : Type 0 where
   pub holds : paced_scenario limits cycles input ≡ Ok (scenario_given given, map asked_paced given.requests.items)
   pub may : MayBeRun cycles (scenario_given given)
   pub stand : HasOrders given
 
--- and it has the wanted stream and frame
+-- the same for an input that has the wanted stream and frame
 pub record IsWantedGiven (limits : Limits) (cycles : ℕ) (wanted : Wanted) (input : List ℕ) (given : RunInput) : Type 0 where
   pub holds : wanted_scenario limits cycles wanted input ≡ Ok (scenario_given given)
   pub may : MayBeRun cycles (scenario_given given)

@@ -36,8 +36,8 @@ abbrev pub dropped_legs : Source → List Dropped → List Leg
 dropped_legs source drops = kept_legs source.offers source.wanted (map leg.Dropped drops)
 
 -- the legs of frames after the first ones, and of the first ones
-abbrev pub legs_behind : ℕ → List Leg → List Leg
-legs_behind frames legs = filter (λ (x : Leg). nat_lt frames (frame_of x)) legs
+abbrev pub legs_after : ℕ → List Leg → List Leg
+legs_after frames legs = filter (λ (x : Leg). nat_lt frames (frame_of x)) legs
 
 abbrev pub legs_up_to : ℕ → List Leg → List Leg
 legs_up_to frames legs = filter (λ (x : Leg). nat_le (frame_of x) frames) legs
@@ -56,33 +56,33 @@ round_before rounds (suc k) = slice_index_or rounds k no_round
 
 -- the legs that are kept in a round of the starts so far, and those that are written in it
 abbrev pub kept_in : Source → Round → List Started → List Leg
-kept_in source before starts = legs_behind before.frames (started_legs source starts)
+kept_in source before starts = legs_after before.frames (started_legs source starts)
 
-abbrev pub told_in : Source → Round → Round → List Started → List Leg
-told_in source before round starts =
+abbrev pub written_in : Source → Round → Round → List Started → List Leg
+written_in source before round starts =
     legs_up_to round.frames (kept_in source before starts) ++ dropped_legs source (take (round.drops - before.drops) (drop before.drops source.drops))
 
--- after a round the drops are divided by frame, and its cycles reach more than `depth` cycles past those of its frames'
+-- after a round the drops are divided by frame, and its cycles reach more than `hop_number` cycles past those of its frames'
 -- offers
-pub record GoesOnFrom (d : Domain) (depth : ℕ) (offers : List Offer) (drops : List Dropped) (round : Round) : Type 0 where
+pub record GoesOnFrom (d : Domain) (hop_number : ℕ) (offers : List Offer) (drops : List Dropped) (round : Round) : Type 0 where
   pub frames_within : round.frames ≤ length offers
   pub drops_within : round.drops ≤ length drops
-  pub whole : (place : ℕ) (offer : Offer) → place < round.frames → slice_get offers place ≡ Some offer →
-      cycle_at d.cycle_time offer.at.0 + depth < round.cycles
+  pub whole : (index : ℕ) (offer : Offer) → index < round.frames → slice_get offers index ≡ Some offer →
+      cycle_at d.cycle_time offer.at.0 + hop_number < round.cycles
   pub dropped : (x : Dropped) → Contains (take round.drops drops) x → x.frame ≤ round.frames
   pub not_yet : (x : Dropped) → Contains (drop round.drops drops) x → round.frames < x.frame
 
 -- a round follows another: it is no earlier, and after it the above holds
-pub record IsNextRound (d : Domain) (depth : ℕ) (offers : List Offer) (drops : List Dropped) (before round : Round) : Type 0 where
+pub record IsNextRound (d : Domain) (hop_number : ℕ) (offers : List Offer) (drops : List Dropped) (before round : Round) : Type 0 where
   pub cycles_later : before.cycles ≤ round.cycles
   pub frames_later : before.frames ≤ round.frames
   pub drops_later : before.drops ≤ round.drops
-  pub goes_on : GoesOnFrom d depth offers drops round
+  pub goes_on : GoesOnFrom d hop_number offers drops round
 
 -- each round follows the one before it, and after the last all frames are written
-pub record AreRounds (d : Domain) (depth : ℕ) (offers : List Offer) (drops : List Dropped) (rounds : List Round) : Type 0 where
-  pub first : GoesOnFrom d depth offers drops no_round
-  pub each : (k : ℕ) → k < length rounds → IsNextRound d depth offers drops (round_before rounds k) (slice_index_or rounds k no_round)
+pub record AreRounds (d : Domain) (hop_number : ℕ) (offers : List Offer) (drops : List Dropped) (rounds : List Round) : Type 0 where
+  pub first : GoesOnFrom d hop_number offers drops no_round
+  pub each : (k : ℕ) → k < length rounds → IsNextRound d hop_number offers drops (round_before rounds k) (slice_index_or rounds k no_round)
   pub all : (round_before rounds (length rounds)).frames ≡ length offers
 
 -- the starts of a run's first cycles
@@ -92,7 +92,7 @@ starts_before cycles starts = filter (λ (s : Started). nat_lt s.cycle.0 cycles)
 -- what is kept is as the round requires, in a run with these starts
 pub record StandsAt (starts : List Started) (source : Source) (under_way : LegsUnderWay) : Type 0 where
   pub is : AreStartsOf under_way.pass.basis starts
-  pub told : under_way.pass.told ≡ min under_way.at.cycles under_way.pass.basis.cycles
+  pub reported : under_way.pass.reported ≡ min under_way.at.cycles under_way.pass.basis.cycles
   pub kept : under_way.kept.items ≡ kept_in source under_way.at (starts_before under_way.at.cycles starts)
 
 -- neither room has shrunk
@@ -101,9 +101,9 @@ pub record KeepsRoom (old new : LegsUnderWay) : Type 0 where
   pub here : vec_capacity old.here ≤ vec_capacity new.here
 
 -- the starts of the first `cycles` cycles, or of all, are returned, and the wanted ones are kept
-pub record TellsKept (source : Source) (cycles : ℕ) (old new : LegsUnderWay) : Type 0 where
+pub record WritesKept (source : Source) (cycles : ℕ) (old new : LegsUnderWay) : Type 0 where
   pub basis : new.pass.basis ≡ old.pass.basis
-  pub told : new.pass.told ≡ min cycles new.pass.basis.cycles
+  pub reported : new.pass.reported ≡ min cycles new.pass.basis.cycles
   pub at : new.at ≡ old.at
   pub here : new.here ≡ old.here
   pub kept : (starts : List Started) → StandsAt starts source old → new.kept.items ≡ kept_in source old.at (starts_before cycles starts)
@@ -111,16 +111,16 @@ pub record TellsKept (source : Source) (cycles : ℕ) (old new : LegsUnderWay) :
 -- a round has room for the legs that are kept in it, and for those that are written in it
 pub record HasRoom (starts : List Started) (source : Source) (before round : Round) (kept here : ℕ) : Type 0 where
   pub for_kept : length (kept_in source before (starts_before round.cycles starts)) ≤ kept
-  pub for_here : length (told_in source before round (starts_before round.cycles starts)) ≤ here
+  pub for_here : length (written_in source before round (starts_before round.cycles starts)) ≤ here
 
 -- a round was processed: the legs that are written in it are there
 pub record HasGone (starts : List Started) (source : Source) (round : Round) (old new : LegsUnderWay) : Type 0 where
   pub stands : StandsAt starts source new
-  pub here : new.here.items ≡ told_in source old.at round (starts_before round.cycles starts)
+  pub here : new.here.items ≡ written_in source old.at round (starts_before round.cycles starts)
   pub room : HasRoom starts source old.at round (vec_capacity new.kept) (vec_capacity new.here)
 
 pub record GoesThrough (source : Source) (round : Round) (old new : LegsUnderWay) : Type 0 where
-  pub told : new.pass.told ≡ min round.cycles new.pass.basis.cycles
+  pub reported : new.pass.reported ≡ min round.cycles new.pass.basis.cycles
   pub at : new.at ≡ round
   pub gone : (starts : List Started) → StandsAt starts source old → HasGone starts source round old new
 
@@ -131,22 +131,22 @@ pub record IsLater (before round : Round) : Type 0 where
   pub drops : before.drops ≤ round.drops
 
 -- a round can be written: there is room for it, and its legs differ and are in time
-pub record RoundCanBeTold (starts : List Started) (d : Domain) (source : Source) (round : Round) (under_way : LegsUnderWay) : Type 0 where
+pub record RoundCanBeWritten (starts : List Started) (d : Domain) (source : Source) (round : Round) (under_way : LegsUnderWay) : Type 0 where
   pub stands : StandsAt starts source under_way
   pub room : HasRoom starts source under_way.at round (vec_capacity under_way.kept) (vec_capacity under_way.here)
-  pub apart : AllPairs AreApart (told_in source under_way.at round (starts_before round.cycles starts))
-  pub in_time : All (IsLegInTime d) (told_in source under_way.at round (starts_before round.cycles starts))
+  pub apart : AllPairs AreApart (written_in source under_way.at round (starts_before round.cycles starts))
+  pub in_time : All (IsLegInTime d) (written_in source under_way.at round (starts_before round.cycles starts))
 
-abbrev pub SomeRoundCanBeTold : Domain → Source → Round → LegsUnderWay → Type 0
-SomeRoundCanBeTold d source round under_way = (starts : List Started) × RoundCanBeTold starts d source round under_way
+abbrev pub SomeRoundCanBeWritten : Domain → Source → Round → LegsUnderWay → Type 0
+SomeRoundCanBeWritten d source round under_way = (starts : List Started) × RoundCanBeWritten starts d source round under_way
 
--- it is written in order
-pub record TellsRound (starts : List Started) (d : Domain) (source : Source) (round : Round) (old new : LegsUnderWay) (IsPut : List ℕ → Type 0) : Type 0 where
+-- the legs of a round are written in order
+pub record WritesRound (starts : List Started) (d : Domain) (source : Source) (round : Round) (old new : LegsUnderWay) (IsPut : List ℕ → Type 0) : Type 0 where
   pub stands : StandsAt starts source new
   pub at : new.at ≡ round
   pub room : KeepsRoom old new
   pub legs : List Leg
-  pub are : AreByFrame (told_in source old.at round (starts_before round.cycles starts)) legs
+  pub are : AreByFrame (written_in source old.at round (starts_before round.cycles starts)) legs
   pub put : IsPut (lines_of_legs d source.offers legs)
 
 -- there is room in each round
@@ -155,7 +155,7 @@ HaveRoom starts source rounds kept here = (k : ℕ) → k < length rounds →
     HasRoom starts source (round_before rounds k) (slice_index_or rounds k no_round) kept here
 
 -- the data of an output of `hops`, with the room for the legs that are kept and written in a round
-pub record ToldHops : Type 0 where
+pub record WrittenHops : Type 0 where
   pub domain : Domain
   pub source : Source
   pub rounds : List Round
@@ -163,43 +163,43 @@ pub record ToldHops : Type 0 where
   pub kept_room : ℕ
   pub here_room : ℕ
 
--- it can be written, in a run with these starts: each round has room, and all legs of a run are in time and differ
-pub record CanBeTold (starts : List Started) (told : ToldHops) : Type 0 where
-  pub is : AreStartsOf told.pass.basis starts
-  pub fresh : told.pass.told ≡ 0
-  pub depth : ℕ
-  pub rounds : AreRounds told.domain depth told.source.offers told.source.drops told.rounds
+-- an output can be written, in a run with these starts: each round has room, and all legs of a run are in time and differ
+pub record CanBeWritten (starts : List Started) (reported : WrittenHops) : Type 0 where
+  pub is : AreStartsOf reported.pass.basis starts
+  pub fresh : reported.pass.reported ≡ 0
+  pub hop_number : ℕ
+  pub rounds : AreRounds reported.domain hop_number reported.source.offers reported.source.drops reported.rounds
   pub soon : (s : Started) → Contains starts s →
-      (place : ℕ) × (offer : Offer) × (slice_get told.source.offers place ≡ Some offer) × (s.frame ≡ place + 1)
-      × (s.cycle.0 ≤ cycle_at told.domain.cycle_time offer.at.0 + depth)
-  pub of_offers : (x : Dropped) → Contains told.source.drops x → x.frame ≤ length told.source.offers
+      (index : ℕ) × (offer : Offer) × (slice_get reported.source.offers index ≡ Some offer) × (s.frame ≡ index + 1)
+      × (s.cycle.0 ≤ cycle_at reported.domain.cycle_time offer.at.0 + hop_number)
+  pub of_offers : (x : Dropped) → Contains reported.source.drops x → x.frame ≤ length reported.source.offers
   pub once : AllPairs (λ (a b : Started). a.frame ≡ b.frame → a.link ≢ b.link) starts
-  pub rise : AllPairs (λ (a b : Dropped). a.frame < b.frame) told.source.drops
-  pub apart : (s : Started) (x : Dropped) → Contains starts s → Contains told.source.drops x → s.frame ≢ x.frame
-  pub in_time : All (IsInTime told.domain) starts
-  pub room : HaveRoom starts told.source told.rounds told.kept_room told.here_room
+  pub rise : AllPairs (λ (a b : Dropped). a.frame < b.frame) reported.source.drops
+  pub apart : (s : Started) (x : Dropped) → Contains starts s → Contains reported.source.drops x → s.frame ≢ x.frame
+  pub in_time : All (IsInTime reported.domain) starts
+  pub room : HaveRoom starts reported.source reported.rounds reported.kept_room reported.here_room
 
-abbrev pub SomeCanBeTold : ToldHops → Type 0
-SomeCanBeTold told = (starts : List Started) × CanBeTold starts told
+abbrev pub SomeCanBeWritten : WrittenHops → Type 0
+SomeCanBeWritten reported = (starts : List Started) × CanBeWritten starts reported
 
 -- an output from borrowed and from owned data
-abbrev pub told_by : Domain → Source → List Round → Progress → Vec Leg Global → Vec Leg Global → ToldHops
-told_by d source rounds pass kept here =
+abbrev pub written_by : Domain → Source → List Round → Progress → Vec Leg Global → Vec Leg Global → WrittenHops
+written_by d source rounds pass kept here =
     record { domain = d; source = source; rounds = rounds; pass = pass; kept_room = vec_capacity kept; here_room = vec_capacity here }
 
-abbrev pub told_from : Domain → HopsRun → List Round → LegsUnderWay → ToldHops
-told_from d run rounds under_way = told_by d (source_of run) rounds under_way.pass under_way.kept under_way.here
+abbrev pub written_from : Domain → HopsRun → List Round → LegsUnderWay → WrittenHops
+written_from d run rounds under_way = written_by d (source_of run) rounds under_way.pass under_way.kept under_way.here
 
--- its legs, in order
-pub record AreToldLegs (starts : List Started) (told : ToldHops) (legs : List Leg) : Type 0 where
+-- the legs of an output, in order
+pub record AreWrittenLegs (starts : List Started) (reported : WrittenHops) (legs : List Leg) : Type 0 where
   pub in_order : AllPairs IsBefore legs
-  pub each : (x : Leg) → Contains (legs_of_run told.source starts) x → Contains legs x
-  pub only : (x : Leg) → Contains legs x → Contains (legs_of_run told.source starts) x
+  pub each : (x : Leg) → Contains (legs_of_run reported.source starts) x → Contains legs x
+  pub only : (x : Leg) → Contains legs x → Contains (legs_of_run reported.source starts) x
 
 -- the text of an output
-pub record IsToldText (told : ToldHops) (text : List ℕ) : Type 0 where
+pub record IsWrittenText (reported : WrittenHops) (text : List ℕ) : Type 0 where
   pub starts : List Started
-  pub can : CanBeTold starts told
+  pub can : CanBeWritten starts reported
   pub legs : List Leg
-  pub are : AreToldLegs starts told legs
-  pub is : text ≡ text_of_legs told.domain told.source.offers legs
+  pub are : AreWrittenLegs starts reported legs
+  pub is : text ≡ text_of_legs reported.domain reported.source.offers legs

@@ -40,7 +40,7 @@ abbrev pub leg_fields : Domain → List Offer → Leg → Fields
 leg_fields d offers (leg.Started started) = started_fields d (stream_of offers started.frame) started
 leg_fields d offers (leg.Dropped dropped) = dropped_fields d (stream_of offers dropped.frame) dropped
 
--- one line for each, in order
+-- one line for each start and each drop, in order
 abbrev pub lines_of_legs : Domain → List Offer → List Leg → List ℕ
 lines_of_legs d offers legs = flat_map (λ (x : Leg). line_of_fields (leg_fields d offers x)) legs
 

@@ -11,7 +11,7 @@ use Rattle.cqf_program_runs.specs.declared.deliveries.delivery.Passage.TheVarian
 use Rattle.cqf_program_runs.specs.Deliveries.{fate_of, latency_of}
 use Rattle.cqf_program_summary.specs.declared.summary.fares.Listener.{Listener}
 use Rattle.cqf_program_summary.specs.declared.summary.fares.Others.{Others}
-use Rattle.cqf_program_summary.specs.declared.summary.fares.ListenerWay.{ListenerWay}
+use Rattle.cqf_program_summary.specs.declared.summary.fares.ListenerPath.{ListenerPath}
 use Rattle.cqf_program_summary.specs.declared.summary.tallies.LatencySummary.{LatencySummary}
 use Rattle.cqf_program_summary.specs.declared.summary.tallies.Tally.{Tally}
 use Rattle.cqf_program_summary.specs.Summary.{Fare, Summary}
@@ -19,8 +19,8 @@ use Rattle.cqf_program_summary.specs.Summary.Tallies.{is_dropped}
 
 -- one latency more
 abbrev pub taken_more : ℕ → Option LatencySummary → LatencySummary
-taken_more n None = record { least = n; most = n; total = n; behind = 0 }
-taken_more n (Some t) = record { least = min t.least n; most = max t.most n; total = t.total + n; behind = t.behind + 1 }
+taken_more n None = record { least = n; most = n; total = n; following = 0 }
+taken_more n (Some t) = record { least = min t.least n; most = max t.most n; total = t.total + n; following = t.following + 1 }
 
 abbrev pub taken_with : ℕ → Option Nanos → Option LatencySummary → Option LatencySummary
 taken_with at None taken = taken
@@ -42,28 +42,28 @@ leads_to name None = false
 leads_to name (Some listener) = is_text name listener.name
 
 -- a path with one frame more that is on a journey
-abbrev pub way_with : Fate → ℕ → Journey → ListenerWay → ListenerWay
-way_with ending at journey way =
-    if leads_to journey.listener way.to then record way { tally = tally_with ending at journey.whole way.tally } else way
+abbrev pub path_with : Fate → ℕ → Journey → ListenerPath → ListenerPath
+path_with ending at journey path =
+    if leads_to journey.listener path.to then record path { tally = tally_with ending at journey.whole path.tally } else path
 
-abbrev pub ways_with : Fate → ℕ → Passage → List ListenerWay → List ListenerWay
-ways_with ending at (passage.Dropped reason) ways = ways
-ways_with ending at (passage.Goes journey) ways = map (way_with ending at journey) ways
+abbrev pub paths_with : Fate → ℕ → Passage → List ListenerPath → List ListenerPath
+paths_with ending at (passage.Dropped reason) paths = paths
+paths_with ending at (passage.Goes journey) paths = map (path_with ending at journey) paths
 
 -- the index of a path to the listener with a name: the expected one, if it leads there; otherwise the first
-abbrev pub leads_there : List ℕ → Option ListenerWay → Bool
+abbrev pub leads_there : List ℕ → Option ListenerPath → Bool
 leads_there name None = false
-leads_there name (Some way) = leads_to name way.to
+leads_there name (Some path) = leads_to name path.to
 
-abbrev pub place_by : List ListenerWay → ℕ → List ℕ → Option ℕ
-place_by ways expected name =
-    if leads_there name (slice_get ways expected) then Some expected else position (λ (way : ListenerWay). leads_to name way.to) ways
+abbrev pub index_by : List ListenerPath → ℕ → List ℕ → Option ℕ
+index_by paths expected name =
+    if leads_there name (slice_get paths expected) then Some expected else position (λ (path : ListenerPath). leads_to name path.to) paths
 
 -- the summary of a stream with one delivery more of its frames, with those of an offer, and with an offer
 abbrev pub fare_with : Fare → Delivery → Fare
 fare_with fare x = record fare {
   dropped = fare.dropped + (if is_dropped (fate_of x) then 1 else 0);
-  ways = ways_with (fate_of x) x.at.0 x.passage fare.ways;
+  paths = paths_with (fate_of x) x.at.0 x.passage fare.paths;
 }
 
 abbrev pub fare_with_each : List Delivery → Fare → Fare
@@ -80,26 +80,26 @@ others_with here others = record {
 
 -- a list with the element at an index changed
 abbrev pub changed_at : {A : Type 0} → (A → A) → ℕ → List A → List A
-changed_at change place [] = []
+changed_at change index [] = []
 changed_at change zero (x ∷ xs) = change x ∷ xs
-changed_at change (suc place) (x ∷ xs) = x ∷ changed_at change place xs
+changed_at change (suc index) (x ∷ xs) = x ∷ changed_at change index xs
 
 -- a summary with one offer more of a name: it is added to the stream with that name, or else to the other names
 abbrev pub summary_at : List Delivery → Option ℕ → Summary → Summary
 summary_at here None summary = record summary { others = others_with here summary.others }
-summary_at here (Some place) summary = record summary { fares = changed_at (fare_with_offer here) place summary.fares }
+summary_at here (Some index) summary = record summary { fares = changed_at (fare_with_offer here) index summary.fares }
 
 abbrev pub summary_with : List ℕ → List Delivery → Summary → Summary
 summary_with name here summary = summary_at here (position (λ (fare : Fare). is_text fare.name name) summary.fares) summary
 
 -- no two paths lead to one listener
-abbrev pub AreApart : List ListenerWay → Type 0
-AreApart ways = AllPairs (λ (a b : ListenerWay). (name : List ℕ) → leads_to name a.to ≡ true → leads_to name b.to ≡ true → ⊥) ways
+abbrev pub AreApart : List ListenerPath → Type 0
+AreApart paths = AllPairs (λ (a b : ListenerPath). (name : List ℕ) → leads_to name a.to ≡ true → leads_to name b.to ≡ true → ⊥) paths
 
 -- no count exceeds what `many` deliveries allow, each of them with a latency below 2 ^ 64 ns
 abbrev pub TakenWithin : ℕ → Option LatencySummary → Type 0
 TakenWithin many None = ⊤
-TakenWithin many (Some t) = (t.behind + 1 ≤ many) × (t.total ≤ many * 2 ^ 64)
+TakenWithin many (Some t) = (t.following + 1 ≤ many) × (t.total ≤ many * 2 ^ 64)
 
 pub record TallyWithin (many : ℕ) (t : Tally) : Type 0 where
   pub delivered : t.delivered ≤ many
@@ -107,13 +107,13 @@ pub record TallyWithin (many : ℕ) (t : Tally) : Type 0 where
   pub under_way : t.under_way ≤ many
   pub taken : TakenWithin many t.taken
 
-abbrev pub WaysWithin : ℕ → List ListenerWay → Type 0
-WaysWithin many ways = All (λ (way : ListenerWay). TallyWithin many way.tally) ways
+abbrev pub PathsWithin : ℕ → List ListenerPath → Type 0
+PathsWithin many paths = All (λ (path : ListenerPath). TallyWithin many path.tally) paths
 
 pub record FareWithin (many : ℕ) (fare : Fare) : Type 0 where
   pub offered : fare.offered ≤ many
   pub dropped : fare.dropped ≤ many
-  pub ways : WaysWithin many fare.ways
+  pub paths : PathsWithin many fare.paths
 
 pub record OthersWithin (many : ℕ) (others : Others) : Type 0 where
   pub offered : others.offered ≤ many

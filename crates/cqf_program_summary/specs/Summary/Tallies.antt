@@ -52,11 +52,11 @@ latencies_to listener deliveries = flat_map (λ (x : Delivery). if reaches liste
 abbrev pub taken_of : List ℕ → Option LatencySummary
 taken_of [] = None
 taken_of (first ∷ more) =
-    Some (record { least = fold min first more; most = fold max first more; total = first + sum more; behind = length more })
+    Some (record { least = fold min first more; most = fold max first more; total = first + sum more; following = length more })
 
--- their mean, rounded down
+-- the mean of latencies, rounded down
 abbrev pub mean_of : LatencySummary → ℕ
-mean_of taken = taken.total / (taken.behind + 1)
+mean_of taken = taken.total / (taken.following + 1)
 
 -- how the deliveries to a listener end, and how long those took that arrived, late ones too
 abbrev pub tally_to : Option (List ℕ) → List Delivery → Tally

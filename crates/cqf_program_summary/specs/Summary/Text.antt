@@ -7,7 +7,7 @@ use Rattle.cqf_report.specs.Written.{line_of_fields}
 use Rattle.cqf_program_plans.specs.Latency.Text.{text_of_deadline}
 use Rattle.cqf_program_summary.specs.declared.summary.fares.Listener.{Listener}
 use Rattle.cqf_program_summary.specs.declared.summary.fares.Others.{Others}
-use Rattle.cqf_program_summary.specs.declared.summary.fares.ListenerWay.{ListenerWay}
+use Rattle.cqf_program_summary.specs.declared.summary.fares.ListenerPath.{ListenerPath}
 use Rattle.cqf_program_summary.specs.declared.summary.tallies.LatencySummary.{LatencySummary}
 use Rattle.cqf_program_summary.specs.declared.summary.tallies.Tally.{Tally}
 use Rattle.cqf_program_summary.specs.Summary.{Fare, Summary}
@@ -41,20 +41,20 @@ abbrev pub last_fields : Option Listener → Option LatencySummary → Option �
 last_fields to taken deadline =
     text_of_least taken ∷ text_of_mean taken ∷ text_of_most taken ∷ text_of_bound to ∷ text_of_deadline deadline ∷ []
 
--- the fields after its listener: how many frames are offered, how they end, and the last ones
+-- the fields of a row after its listener: how many frames are offered, how they end, and the last ones
 abbrev pub count_fields : Option Listener → ℕ → ℕ → Tally → Option ℕ → Fields
 count_fields to offered dropped tally deadline =
     decimal offered ∷ decimal tally.delivered ∷ decimal tally.late ∷ decimal dropped ∷ decimal tally.under_way ∷ last_fields to tally.taken deadline
 
--- a row: a stream, one of its listeners, and these
+-- a row: a stream, one of its listeners, and these fields
 abbrev pub row_fields : List ℕ → Option Listener → ℕ → ℕ → Tally → Option ℕ → Fields
 row_fields stream to offered dropped tally deadline = stream ∷ text_of_listener to ∷ count_fields to offered dropped tally deadline
 
-abbrev pub way_fields : Fare → ListenerWay → Fields
-way_fields fare way = row_fields fare.name way.to fare.offered fare.dropped way.tally fare.deadline
+abbrev pub path_fields : Fare → ListenerPath → Fields
+path_fields fare path = row_fields fare.name path.to fare.offered fare.dropped path.tally fare.deadline
 
 abbrev pub lines_of_fare : Fare → List ℕ
-lines_of_fare fare = flat_map (λ (way : ListenerWay). line_of_fields (way_fields fare way)) fare.ways
+lines_of_fare fare = flat_map (λ (path : ListenerPath). line_of_fields (path_fields fare path)) fare.paths
 
 abbrev pub lines_of_fares : List Fare → List ℕ
 lines_of_fares fares = flat_map lines_of_fare fares

@@ -6,8 +6,8 @@ ghost use Rattle.cqf_program_scenario.specs.Logged.{HasOrders};
 ghost use Rattle.cqf_output.specs.Stops.{IsRefused};
 ghost use Rattle.cqf_program_summary.specs.Hops.Gathered.{wanted_by};
 ghost use Rattle.cqf_program_summary.specs.Hops.Known.{wanted_scenario};
-ghost use Rattle.cqf_program_summary.specs.Hops.Output.{IsHopsOutput, TellsHopsOf};
-ghost use Rattle.cqf_program_summary.specs.Hops.Rounds.{IsToldText};
+ghost use Rattle.cqf_program_summary.specs.Hops.Output.{IsHopsOutput, WritesHopsOf};
+ghost use Rattle.cqf_program_summary.specs.Hops.Rounds.{IsWrittenText};
 
 use crate::hops::outputs::HopsOutput;
 use crate::hops::preparing::prepare;
@@ -29,7 +29,7 @@ fn output_of(
     requires short { cycles ≤ most_cycles }
     requires may { MayBeRun cycles (scenario_given given) }
     requires stand { HasOrders given }
-    ensures { IfOk result (TellsHopsOf cycles (scenario_given given) (wanted_by choice.entry)) }
+    ensures { IfOk result (WritesHopsOf cycles (scenario_given given) (wanted_by choice.entry)) }
 {
     let outcome = outcome_of(alloc, cycles, &given)?;
     let prepared = prepare(alloc, cycles, choice, &given, &outcome)?;
@@ -60,7 +60,7 @@ pub fn hops_output(
     input: &[u8],
 ) -> Result<HopsOutput, Stop>
     requires { cycles ≤ most_cycles }
-    ensures ok { IfOk result (λ output. (text : List ℕ) × IsToldText output text × IsHopsOutput limits cycles (wanted_by choice.entry) input.now text) }
+    ensures ok { IfOk result (λ output. (text : List ℕ) × IsWrittenText output text × IsHopsOutput limits cycles (wanted_by choice.entry) input.now text) }
     ensures err { IfErr result (IsRefused (wanted_scenario limits cycles (wanted_by choice.entry) input.now)) }
 {
     let given = read_wanted(alloc, limits, cycles, choice, input)?;

@@ -14,21 +14,21 @@ use cqf_topology::PacedRequest;
 use cqf_units::Name;
 use std::alloc::{AllocError, Global};
 
-/// Whether a request has a name.
+/// Returns whether a request has a name.
 fn has_request(requests: &[PacedRequest], name: &str) -> bool
     ensures { result ≡ list_any (λ request. bytes_eq (string_bytes request.name) name.now) requests.now }
 {
     requests.iter().any(|request| request.name.as_str() == name)
 }
 
-/// Whether a stream of the plan has a name.
+/// Returns whether a stream of the plan has a name.
 fn is_planned(requests: &[PacedRequest], name: &str) -> bool
     ensures { result ≡ is_planned (map asked_paced requests.now) name.now }
 {
     has_request(requests, name)
 }
 
-/// Whether an offer claims a name.
+/// Returns whether an offer claims a name.
 fn is_claimed(offers: &[Offer], name: &str) -> bool
     ensures { result ≡ is_claimed offers.now name.now }
 {
@@ -81,7 +81,7 @@ fn know_stream(
     Err(Stop::with_text(alloc, REFUSED, line))
 }
 
-/// Checks the same for a frame.
+/// Checks that the requested frame exists. Otherwise returns the stop with the line that says so.
 fn know_frame(alloc: Global, offers: &[Offer], frame: Option<u32>) -> Result<(), Stop>
     ensures ok { IfOk result (λ _. frame_refusal offers.now frame ≡ None) }
     ensures err { IfErr result (EndsWithThat (frame_refusal offers.now frame)) }
@@ -95,7 +95,8 @@ fn know_frame(alloc: Global, offers: &[Offer], frame: Option<u32>) -> Result<(),
     Err(Stop::with_text(alloc, REFUSED, no_frame_line(alloc, frame)))
 }
 
-/// Checks both, the stream first.
+/// Checks that the requested stream exists, and then that the requested frame does. Otherwise returns the stop with the
+/// line that says so.
 pub(crate) fn know(
     alloc: Global,
     requests: &[PacedRequest],

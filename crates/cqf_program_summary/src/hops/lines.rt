@@ -8,8 +8,8 @@ ghost use Rattle.cqf_output.specs.Writer.{Puts};
 ghost use Rattle.cqf_report.specs.Written.{line_of_fields};
 ghost use Rattle.cqf_program_summary.specs.Hops.Gathered.{IsLegInTime};
 ghost use Rattle.cqf_program_summary.specs.declared.hops.legs.Leg.{Leg as ALeg};
-ghost use Rattle.cqf_program_summary.specs.Hops.Rounds.{AreToldLegs, CanBeTold, IsLater, RoundCanBeTold, SomeCanBeTold, SomeRoundCanBeTold};
-ghost use Rattle.cqf_program_summary.specs.Hops.Rounds.{StandsAt, TellsRound, no_round, source_of, told_from};
+ghost use Rattle.cqf_program_summary.specs.Hops.Rounds.{AreWrittenLegs, CanBeWritten, IsLater, RoundCanBeWritten, SomeCanBeWritten, SomeRoundCanBeWritten};
+ghost use Rattle.cqf_program_summary.specs.Hops.Rounds.{StandsAt, WritesRound, no_round, source_of, written_from};
 ghost use Rattle.cqf_program_summary.specs.Hops.Text.{dropped_fields, end_of_start, hops_header, leg_fields};
 ghost use Rattle.cqf_program_summary.specs.Hops.Text.{lines_of_legs, started_fields, text_of_legs};
 
@@ -23,7 +23,7 @@ use cqf_report::reason_name;
 use cqf_topology::{Domain, put_bridge, put_link};
 use cqf_units::{octet_ticks, time_in_ticks};
 
-/// Returns a link's octet time; 0 for a link that the domain lacks.
+/// Returns the time of an octet on a link, in ticks of 40 picoseconds; 0 for a link that the domain lacks.
 fn octet_time_of(domain: &Domain, link: u16) -> u64
     ensures value { result ≡ octet_time_of domain.now link }
 {
@@ -33,7 +33,7 @@ fn octet_time_of(domain: &Domain, link: u16) -> u64
     octet_ticks(domain.link(link).rate)
 }
 
-/// Returns a link's delay; 0 for a link that the domain lacks.
+/// Returns a link's delay, in nanoseconds; 0 for a link that the domain lacks.
 fn delay_of(domain: &Domain, link: u16) -> u64
     ensures { result ≡ delay_of domain.now link }
 {
@@ -43,7 +43,7 @@ fn delay_of(domain: &Domain, link: u16) -> u64
     u64::from(domain.link(link).delay)
 }
 
-/// Returns the instant at which a frame that starts has left the bridge.
+/// Returns the instant, in nanoseconds, at which a frame that starts has left the bridge.
 fn end_of(domain: &Domain, started: &Started) -> u64
     requires { whole_of domain.now started.now < 2 ^ 64 }
     ensures { result ≡ end_of_start domain.now started.now }
@@ -52,7 +52,7 @@ fn end_of(domain: &Domain, started: &Started) -> u64
     started.start.0 + time_in_ticks(octets, octet_time_of(domain, started.link))
 }
 
-/// Returns the instant at which it is whole at the link's end.
+/// Returns the instant, in nanoseconds, at which a frame that starts is whole at the link's end.
 fn whole_of(domain: &Domain, started: &Started) -> u64
     requires { whole_of domain.now started.now < 2 ^ 64 }
     ensures { result ≡ whole_of domain.now started.now }
@@ -161,12 +161,12 @@ fn put_round<W: Sink>(
     round: &Round,
     under_way: &mut LegsUnderWay,
 )
-    requires told { under_way.old.pass.told ≡ min under_way.old.at.cycles under_way.old.pass.basis.cycles }
+    requires reported { under_way.old.pass.reported ≡ min under_way.old.at.cycles under_way.old.pass.basis.cycles }
     requires next { IsLater under_way.old.at round.now }
     requires drops { round.now.drops ≤ length run.now.drops.now }
-    requires can { SomeRoundCanBeTold domain.now (source_of run.now) round.now under_way.old }
-    ensures { (starts : List AStart) → RoundCanBeTold starts domain.now (source_of run.now) round.now under_way.old →
-        TellsRound starts domain.now (source_of run.now) round.now under_way.old under_way.new (Puts W.contents writer.old writer.new) }
+    requires can { SomeRoundCanBeWritten domain.now (source_of run.now) round.now under_way.old }
+    ensures { (starts : List AStart) → RoundCanBeWritten starts domain.now (source_of run.now) round.now under_way.old →
+        WritesRound starts domain.now (source_of run.now) round.now under_way.old under_way.new (Puts W.contents writer.old writer.new) }
 {
     match under_way.go_through(run, round) {
         Ok(()) => {}
@@ -186,9 +186,9 @@ pub(crate) fn put_rounds<W: Sink>(
 )
     requires first { under_way.at ≡ no_round }
     requires stands { (starts : List AStart) → AreStartsOf under_way.pass.basis starts → StandsAt starts (source_of run.now) under_way }
-    requires can { SomeCanBeTold (told_from domain.now run.now rounds.now under_way) }
-    ensures { (starts : List AStart) (legs : List ALeg) → CanBeTold starts (told_from domain.now run.now rounds.now under_way) →
-        AreToldLegs starts (told_from domain.now run.now rounds.now under_way) legs →
+    requires can { SomeCanBeWritten (written_from domain.now run.now rounds.now under_way) }
+    ensures { (starts : List AStart) (legs : List ALeg) → CanBeWritten starts (written_from domain.now run.now rounds.now under_way) →
+        AreWrittenLegs starts (written_from domain.now run.now rounds.now under_way) legs →
         Puts W.contents writer.old writer.new (text_of_legs domain.now run.now.offers.now legs) }
 {
     let mut under_way = under_way;

@@ -1,13 +1,13 @@
 //! The output of `hops`, before it is written.
 ghost use Rattle.std.specs.Prelude.{ℕ, List};
-ghost use Rattle.cqf_output.specs.Edge.{HasTold, writing};
-ghost use Rattle.cqf_program_summary.specs.Hops.Rounds.{IsToldText};
+ghost use Rattle.cqf_output.specs.Edge.{IsWritten, writing};
+ghost use Rattle.cqf_program_summary.specs.Hops.Rounds.{IsWrittenText};
 
 use crate::hops::lines::put_rounds;
 use crate::hops::preparing::Prepared;
 use crate::hops::steps::{HopsRun, LegsUnderWay};
 use cqf_model::Offer;
-use cqf_output::{Buffer, Sink, Told, Writer};
+use cqf_output::{Buffer, CheckedSink, Sink, Writer};
 use cqf_topology::Domain;
 use std::marker::Model;
 
@@ -21,20 +21,20 @@ pub struct HopsOutput {
 }
 
 impl Model for HopsOutput {
-    ghost use Rattle.cqf_program_summary.specs.Hops.Prepared.{told_with};
-    ghost use Rattle.cqf_program_summary.specs.Hops.Rounds.{SomeCanBeTold, ToldHops};
+    ghost use Rattle.cqf_program_summary.specs.Hops.Prepared.{written_with};
+    ghost use Rattle.cqf_program_summary.specs.Hops.Rounds.{SomeCanBeWritten, WrittenHops};
 
-    ghost Value = { ToldHops };
+    ghost Value = { WrittenHops };
 
-    ghost view = { λ o. told_with o.domain o.offers.items o.prepared };
+    ghost view = { λ o. written_with o.domain o.offers.items o.prepared };
 
-    ghost invariant = { λ o. SomeCanBeTold (told_with o.domain o.offers.items o.prepared) };
+    ghost invariant = { λ o. SomeCanBeWritten (written_with o.domain o.offers.items o.prepared) };
 }
 
 impl HopsOutput {
     /// Writes the output: the starts and drops of frames, in order. Allocates no memory.
-    pub fn tell<W: Sink>(self, told: &mut Told<W>)
-        ensures { (text : List ℕ) → IsToldText self text → HasTold (writing W.contents told.old told.new) text }
+    pub fn write<W: Sink>(self, reported: &mut CheckedSink<W>)
+        ensures { (text : List ℕ) → IsWrittenText self text → IsWritten (writing W.contents reported.old reported.new) text }
     {
         let HopsOutput {
             domain,
@@ -56,8 +56,8 @@ impl HopsOutput {
             drops: drops.as_slice(),
         };
         let under_way = LegsUnderWay::at_first(pass, kept, here);
-        let mut writer = Writer::new(told, buffer);
+        let mut writer = Writer::new(reported, buffer);
         put_rounds(&mut writer, &domain, &run, rounds.as_slice(), under_way);
-        let _told = writer.close();
+        let _written = writer.close();
     }
 }

@@ -22,7 +22,7 @@ use cqf_instants_run::drops_of;
 use cqf_laws_coverage::offers_are_judged;
 use cqf_laws_history::tables_are_orderly;
 use cqf_model::{Dropped, Offer};
-use cqf_program_runs::deepest;
+use cqf_program_runs::greatest_hop_number;
 use cqf_program_scenario::{RunInput, ScenarioOutcome, outcome_of, pass_of_outcome};
 use cqf_topology::Domain;
 use cqf_units::Memory;
@@ -72,13 +72,13 @@ fn drops_by_frame(
 fn make_room(
     run: &HopsRun<'_>,
     domain: &Domain,
-    depth: u8,
+    hop_number: u8,
     rounds: &[Round],
     under_way: LegsUnderWay,
 ) -> Result<LegsUnderWay, Memory>
     requires first { under_way.at ≡ no_round }
-    requires fresh { under_way.pass.told ≡ 0 }
-    requires rounds { AreRounds domain.now depth run.now.offers.now run.now.drops.now rounds.now }
+    requires fresh { under_way.pass.reported ≡ 0 }
+    requires rounds { AreRounds domain.now hop_number run.now.offers.now run.now.drops.now rounds.now }
     ensures { IfOk result (λ made. (starts : List AStart) → StandsAt starts (source_of run.now) under_way →
         HaveRoom starts (source_of run.now) rounds.now (vec_capacity made.kept) (vec_capacity made.here)) }
 {
@@ -94,17 +94,17 @@ fn rooms_of(
     alloc: Global,
     run: &HopsRun<'_>,
     domain: &Domain,
-    depth: u8,
+    hop_number: u8,
     rounds: &[Round],
     pass: Pass,
 ) -> Result<(Vec<Leg>, Vec<Leg>), Memory>
-    requires fresh { pass.told ≡ 0 }
-    requires rounds { AreRounds domain.now depth run.now.offers.now run.now.drops.now rounds.now }
+    requires fresh { pass.reported ≡ 0 }
+    requires rounds { AreRounds domain.now hop_number run.now.offers.now run.now.drops.now rounds.now }
     ensures { IfOk result (λ made. (starts : List AStart) → AreStartsOf pass.basis starts →
         HaveRoom starts (source_of run.now) rounds.now (vec_capacity made.0) (vec_capacity made.1)) }
 {
     let under_way = LegsUnderWay::at_first(pass, Vec::new(alloc), Vec::new(alloc));
-    let LegsUnderWay { kept, here, .. } = make_room(run, domain, depth, rounds, under_way)?;
+    let LegsUnderWay { kept, here, .. } = make_room(run, domain, hop_number, rounds, under_way)?;
     Ok((kept, here))
 }
 
@@ -127,18 +127,18 @@ pub(crate) fn prepare(
     let domain = &given.domain;
     let offers = given.offers.as_slice();
     let rows = outcome.rows.as_slice();
-    let depth = deepest(rows);
+    let hop_number = greatest_hop_number(rows);
     let first = pass_of_outcome(alloc, cycles, given, outcome)?;
     let drops = drops_by_frame(alloc, cycles, given, outcome)?;
     let by_frame = drops.as_slice();
-    let rounds = lay_rounds(alloc, domain, cycles, depth, offers, by_frame)?;
+    let rounds = lay_rounds(alloc, domain, cycles, hop_number, offers, by_frame)?;
     let laid = rounds.as_slice();
     let run = HopsRun {
         offers,
         choice,
         drops: by_frame,
     };
-    let (kept, here) = rooms_of(alloc, &run, domain, depth, laid, first)?;
+    let (kept, here) = rooms_of(alloc, &run, domain, hop_number, laid, first)?;
     let wanted = WantedFrames::copy(alloc, choice)?;
     let pass = pass_of_outcome(alloc, cycles, given, outcome)?;
     Ok(Prepared {

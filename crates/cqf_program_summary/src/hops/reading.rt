@@ -10,7 +10,7 @@ use crate::hops::known::know;
 use crate::hops::wanting::FrameFilter;
 use cqf_model::Limits;
 use cqf_output::Stop;
-use cqf_program_scenario::{RunInput, RunParts, domain_part, read_behind, run_parts, streams_part};
+use cqf_program_scenario::{RunInput, RunParts, domain_part, read_after, run_parts, streams_part};
 use std::alloc::Global;
 
 /// Reads the scenario of the parts within given limits, with the plan's streams.
@@ -25,7 +25,7 @@ fn read_parts(
 {
     let domain = domain_part(alloc, limits, parts.domain)?;
     let requests = streams_part(alloc, parts.streams)?;
-    let given = read_behind(alloc, cycles, domain, requests, parts)?;
+    let given = read_after(alloc, cycles, domain, requests, parts)?;
     Ok(given)
 }
 

@@ -37,29 +37,29 @@ pub(crate) fn no_round() -> Round
 }
 
 /// Returns the cycle of the offer at an index.
-fn cycle_there(domain: &Domain, offers: &[Offer], place: usize) -> u64
+fn cycle_there(domain: &Domain, offers: &[Offer], index: usize) -> u64
     requires offers { AreOffers domain.now offers.now }
-    requires there { place < length offers.now }
-    ensures is { (offer : AnOffer) → slice_get offers.now place ≡ Some offer → result ≡ cycle_at domain.now.cycle_time offer.at.0 }
+    requires there { index < length offers.now }
+    ensures is { (offer : AnOffer) → slice_get offers.now index ≡ Some offer → result ≡ cycle_at domain.now.cycle_time offer.at.0 }
     ensures small { result < 2 ^ 32 }
 {
-    u64::from(cycle_of(offers[place].at, domain.cycle_time()).0)
+    u64::from(cycle_of(offers[index].at, domain.cycle_time()).0)
 }
 
 /// Returns the index of the first offer after the one at `from` whose cycle isn't before `end`; if there is none, the
 /// number of offers.
-fn place_behind(domain: &Domain, offers: &[Offer], from: usize, end: u64) -> usize
+fn index_after(domain: &Domain, offers: &[Offer], from: usize, end: u64) -> usize
     requires offers { AreOffers domain.now offers.now }
     requires inside { from < length offers.now }
     requires first { (offer : AnOffer) → slice_get offers.now from ≡ Some offer → cycle_at domain.now.cycle_time offer.at.0 < end }
     ensures later { from < result }
     ensures within { result ≤ length offers.now }
-    ensures before { (place : ℕ) (offer : AnOffer) → from ≤ place → place < result → slice_get offers.now place ≡ Some offer →
+    ensures before { (index : ℕ) (offer : AnOffer) → from ≤ index → index < result → slice_get offers.now index ≡ Some offer →
         cycle_at domain.now.cycle_time offer.at.0 < end }
 {
-    for place in from + 1..offers.len() {
-        if cycle_there(domain, offers, place) >= end {
-            return place;
+    for index in from + 1..offers.len() {
+        if cycle_there(domain, offers, index) >= end {
+            return index;
         }
     }
     offers.len()
@@ -73,7 +73,7 @@ fn drops_before(drops: &[Dropped], from: usize, frames: usize) -> usize
     ensures later { from ≤ result }
     ensures within { result ≤ length drops.now }
     ensures before { (x : ADropped) → Contains (take result drops.now) x → x.frame ≤ frames }
-    ensures behind { (x : ADropped) → Contains (drop result drops.now) x → frames < x.frame }
+    ensures following { (x : ADropped) → Contains (drop result drops.now) x → frames < x.frame }
 {
     for at in from..drops.len() {
         if drops[at].frame as usize > frames {
@@ -83,34 +83,34 @@ fn drops_before(drops: &[Dropped], from: usize, frames: usize) -> usize
     drops.len()
 }
 
-/// Returns the round after another one, if an offer is left. Its offers are those of as many cycles as a frame can be
-/// under way, and one more.
+/// Returns the round after another one, after which some offer is left. Its offers are those of as many cycles as a
+/// frame can be under way, and one more.
 fn next_round(
     domain: &Domain,
-    depth: u8,
+    hop_number: u8,
     offers: &[Offer],
     drops: &[Dropped],
     before: Round,
 ) -> Round
     requires offers { AreOffers domain.now offers.now }
     requires left { before.frames < length offers.now }
-    requires after { GoesOnFrom domain.now depth offers.now drops.now before }
+    requires after { GoesOnFrom domain.now hop_number offers.now drops.now before }
     requires early { before.cycles ≤ 2 ^ 33 }
     requires rise { AllPairs (λ (a b : ADropped). a.frame < b.frame) drops.now }
-    ensures next { IsNextRound domain.now depth offers.now drops.now before result }
+    ensures next { IsNextRound domain.now hop_number offers.now drops.now before result }
     ensures more { before.frames < result.frames }
     ensures soon { result.cycles ≤ 2 ^ 33 }
 {
-    let end = cycle_there(domain, offers, before.frames) + u64::from(depth) + 1;
-    let frames = place_behind(domain, offers, before.frames, end);
+    let end = cycle_there(domain, offers, before.frames) + u64::from(hop_number) + 1;
+    let frames = index_after(domain, offers, before.frames, end);
     Round {
-        cycles: before.cycles.max(end + u64::from(depth)),
+        cycles: before.cycles.max(end + u64::from(hop_number)),
         frames,
         drops: drops_before(drops, before.drops, frames),
     }
 }
 
-/// Returns the rounds of a run over `cycles` cycles in which no frame is under way for more than `depth` cycles. All
+/// Returns the rounds of a run over `cycles` cycles in which no frame is under way for more than `hop_number` cycles. All
 /// offers of cycles that aren't run are in the last round.
 ///
 /// # Errors
@@ -119,7 +119,7 @@ pub(crate) fn lay_rounds(
     alloc: Global,
     domain: &Domain,
     cycles: u32,
-    depth: u8,
+    hop_number: u8,
     offers: &[Offer],
     drops: &[Dropped],
 ) -> Result<Vec<Round>, Memory>
@@ -127,7 +127,7 @@ pub(crate) fn lay_rounds(
     requires rise { AllPairs (λ (a b : ADropped). a.frame < b.frame) drops.now }
     requires some { (x : ADropped) → Contains drops.now x → 0 < x.frame }
     requires few { (x : ADropped) → Contains drops.now x → x.frame ≤ length offers.now }
-    ensures { IfOk result (λ rounds. AreRounds domain.now depth offers.now drops.now rounds.items) }
+    ensures { IfOk result (λ rounds. AreRounds domain.now hop_number offers.now drops.now rounds.items) }
 {
     domain.know();
     let mut rounds = Vec::new(alloc);
@@ -136,7 +136,7 @@ pub(crate) fn lay_rounds(
         if cycle_there(domain, offers, last.frames) >= u64::from(cycles) {
             break;
         }
-        last = next_round(domain, depth, offers, drops, last);
+        last = next_round(domain, hop_number, offers, drops, last);
         rounds.push(last)?;
     }
     rounds.push(Round {

@@ -4,8 +4,8 @@ ghost use Rattle.cqf_model.specs.declared.frames.Started.{Started as AStart};
 ghost use Rattle.cqf_instants.specs.Progress.{AreStartsOf};
 ghost use Rattle.cqf_program_summary.specs.Hops.Gathered.{kept_legs};
 ghost use Rattle.cqf_program_summary.specs.Hops.Legs.{AreApart, AreByFrame};
-ghost use Rattle.cqf_program_summary.specs.Hops.Rounds.{GoesThrough, HasRoom, IsLater, KeepsRoom, Source as ASource, StandsAt, TellsKept};
-ghost use Rattle.cqf_program_summary.specs.Hops.Rounds.{dropped_legs, kept_in, legs_behind, legs_up_to, no_round, source_of, started_legs, starts_before};
+ghost use Rattle.cqf_program_summary.specs.Hops.Rounds.{GoesThrough, HasRoom, IsLater, KeepsRoom, Source as ASource, StandsAt, WritesKept};
+ghost use Rattle.cqf_program_summary.specs.Hops.Rounds.{dropped_legs, kept_in, legs_after, legs_up_to, no_round, source_of, started_legs, starts_before};
 
 use crate::hops::legs::{Leg, sort_legs};
 use crate::hops::rounds::{Round, no_round};
@@ -55,9 +55,9 @@ fn push_starts(
     frames: usize,
     starts: &[Started],
 ) -> Result<(), Memory>
-    ensures ok { OnOk result (legs.new.items ≡ legs.old.items ++ legs_behind frames (started_legs (source_of run.now) starts.now)) }
+    ensures ok { OnOk result (legs.new.items ≡ legs.old.items ++ legs_after frames (started_legs (source_of run.now) starts.now)) }
     ensures capacity { vec_capacity legs.old ≤ vec_capacity legs.new }
-    ensures succeeds { length legs.old.items + length (legs_behind frames (started_legs (source_of run.now) starts.now)) ≤ vec_capacity legs.old →
+    ensures succeeds { length legs.old.items + length (legs_after frames (started_legs (source_of run.now) starts.now)) ≤ vec_capacity legs.old →
         IsOk result }
 {
     for started in starts {
@@ -96,8 +96,8 @@ fn take_up_to(here: &mut Vec<Leg>, kept: &[Leg], frames: usize) -> Result<(), Me
 }
 
 /// Keeps only the legs of later frames.
-fn keep_behind(kept: &mut Vec<Leg>, frames: usize)
-    ensures legs { kept.new.items ≡ legs_behind frames kept.old.items }
+fn keep_after(kept: &mut Vec<Leg>, frames: usize)
+    ensures legs { kept.new.items ≡ legs_after frames kept.old.items }
     ensures capacity { vec_capacity kept.new ≡ vec_capacity kept.old }
 {
     kept.retain(|leg| leg.frame() as usize > frames);
@@ -106,7 +106,7 @@ fn keep_behind(kept: &mut Vec<Leg>, frames: usize)
 impl LegsUnderWay {
     /// Returns the state before the first round, with the given room.
     pub(crate) fn at_first(pass: Pass, kept: Vec<Leg>, here: Vec<Leg>) -> LegsUnderWay
-        requires { pass.told ≡ 0 }
+        requires { pass.reported ≡ 0 }
         ensures stands { (starts : List AStart) (source : ASource) → AreStartsOf pass.basis starts → StandsAt starts source result }
         ensures first { result.at ≡ no_round }
         ensures same { result.pass ≡ pass }
@@ -126,10 +126,10 @@ impl LegsUnderWay {
 
     /// Takes the starts of the first `cycles` cycles from the pass, and keeps the wanted ones of frames that aren't
     /// written completely.
-    fn tell_up_to(&mut self, run: &HopsRun<'_>, cycles: u64) -> Result<(), Memory>
-        requires told { self.old.pass.told ≡ min self.old.at.cycles self.old.pass.basis.cycles }
+    fn write_up_to(&mut self, run: &HopsRun<'_>, cycles: u64) -> Result<(), Memory>
+        requires reported { self.old.pass.reported ≡ min self.old.at.cycles self.old.pass.basis.cycles }
         requires later { self.old.at.cycles ≤ cycles }
-        ensures ok { OnOk result (TellsKept (source_of run.now) cycles self.old self.new) }
+        ensures ok { OnOk result (WritesKept (source_of run.now) cycles self.old self.new) }
         ensures capacity { KeepsRoom self.old self.new }
         ensures succeeds { (starts : List AStart) → StandsAt starts (source_of run.now) self.old →
             length (kept_in (source_of run.now) self.old.at (starts_before cycles starts)) ≤ vec_capacity self.old.kept →
@@ -146,7 +146,7 @@ impl LegsUnderWay {
 
     /// Processes a round: afterwards `here` has the legs that are written in it.
     pub(crate) fn go_through(&mut self, run: &HopsRun<'_>, round: &Round) -> Result<(), Memory>
-        requires told { self.old.pass.told ≡ min self.old.at.cycles self.old.pass.basis.cycles }
+        requires reported { self.old.pass.reported ≡ min self.old.at.cycles self.old.pass.basis.cycles }
         requires next { IsLater self.old.at round.now }
         requires drops_within { round.now.drops ≤ length run.now.drops.now }
         ensures ok { OnOk result (GoesThrough (source_of run.now) round.now self.old self.new) }
@@ -155,9 +155,9 @@ impl LegsUnderWay {
             HasRoom starts (source_of run.now) self.old.at round.now (vec_capacity self.old.kept) (vec_capacity self.old.here) → IsOk result }
     {
         let from = self.at.drops;
-        self.tell_up_to(run, round.cycles)?;
+        self.write_up_to(run, round.cycles)?;
         take_up_to(&mut self.here, self.kept.as_slice(), round.frames)?;
-        keep_behind(&mut self.kept, round.frames);
+        keep_after(&mut self.kept, round.frames);
         let own = &run.drops[from..round.drops];
         push_drops(&mut self.here, run, own)?;
         self.at = *round;

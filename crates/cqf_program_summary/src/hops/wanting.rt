@@ -80,7 +80,7 @@ pub(crate) fn stream_of(offers: &[Offer], frame: u32) -> &str
     }
 }
 
-/// Whether a name is that of the stream, if one is named.
+/// Returns whether a name is that of the stream, if one is named.
 fn is_stream(stream: Option<&str>, name: &str) -> bool
     ensures { result ≡ is_stream (option_map (λ stream. stream.now) stream.entry) name.now }
 {
@@ -90,7 +90,7 @@ fn is_stream(stream: Option<&str>, name: &str) -> bool
     }
 }
 
-/// Whether a number is that of the frame, if one is given.
+/// Returns whether a number is that of the frame, if one is given.
 fn is_frame(frame: Option<u32>, number: u32) -> bool
     ensures { result ≡ is_frame frame number }
 {
@@ -101,7 +101,7 @@ fn is_frame(frame: Option<u32>, number: u32) -> bool
 }
 
 impl<'c> FrameFilter<'c> {
-    /// Whether the frame with a number is wanted.
+    /// Returns whether the frame with a number is wanted.
     pub(crate) fn wants(self, offers: &[Offer], frame: u32) -> bool
         ensures { result ≡ is_wanted offers.now (wanted_by self.entry) frame }
     {

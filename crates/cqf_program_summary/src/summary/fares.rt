@@ -5,10 +5,10 @@ ghost use Rattle.cqf_model.specs.Domain.{end_of};
 ghost use Rattle.cqf_model.specs.Limits.{most_links};
 ghost use Rattle.cqf_program_plans.specs.Latency.Text.{is_station};
 ghost use Rattle.cqf_program_runs.specs.Deliveries.{fate_of};
-ghost use Rattle.cqf_program_summary.specs.Summary.Counting.{AreApart, FareWithin, OthersWithin, WaysWithin};
-ghost use Rattle.cqf_program_summary.specs.Summary.Counting.{fare_with, fare_with_each, fare_with_offer, leads_there, leads_to, others_with, place_by, way_with, ways_with};
+ghost use Rattle.cqf_program_summary.specs.Summary.Counting.{AreApart, FareWithin, OthersWithin, PathsWithin};
+ghost use Rattle.cqf_program_summary.specs.Summary.Counting.{fare_with, fare_with_each, fare_with_offer, index_by, leads_there, leads_to, others_with, path_with, paths_with};
 ghost use Rattle.cqf_program_summary.specs.Summary.Listing.{AreBounded, IsOfStream, MayBeSummed, cost_beside, fare_from};
-ghost use Rattle.cqf_program_summary.specs.Summary.{listener_to, way_to, ways_of};
+ghost use Rattle.cqf_program_summary.specs.Summary.{listener_to, path_to, paths_of};
 
 use crate::summary::listing::ListedStream;
 use crate::summary::tallies::{Tally, count_dropped, drops_of};
@@ -32,7 +32,7 @@ pub(crate) struct Listener {
 
 /// The path of a stream to one of its listeners.
 #[derive(Debug, Drop)]
-pub(crate) struct ListenerWay {
+pub(crate) struct ListenerPath {
     /// The listener; none is known for a stream whose octets, pace or path are refused.
     pub(crate) to: Option<Listener>,
     /// What becomes of the frames on it.
@@ -50,7 +50,7 @@ pub(crate) struct Fares {
     /// The number of them that are dropped.
     pub(crate) dropped: u32,
     /// The paths to its listeners, in the order of its tree.
-    pub(crate) ways: Vec<ListenerWay>,
+    pub(crate) paths: Vec<ListenerPath>,
 }
 
 impl Model for Fares {
@@ -59,9 +59,9 @@ impl Model for Fares {
 
     ghost Value = { Fare };
 
-    ghost view = { λ f. record { name = f.name; deadline = f.deadline; offered = f.offered; dropped = f.dropped; ways = f.ways.items } };
+    ghost view = { λ f. record { name = f.name; deadline = f.deadline; offered = f.offered; dropped = f.dropped; paths = f.paths.items } };
 
-    ghost invariant = { λ f. AreApart f.ways.items };
+    ghost invariant = { λ f. AreApart f.paths.items };
 }
 
 /// Offers that claim the name of none of the streams.
@@ -104,15 +104,15 @@ fn listener_to(domain: &Domain, costs: &CycleSums, row: &Row, hop: &Hop) -> Opti
     let cost = cost_to(costs, row, hop);
     Some(Listener {
         name,
-        bound: most_to(domain, hop.link, hop.depth, cost),
+        bound: most_to(domain, hop.link, hop.hop_number, cost),
     })
 }
 
 /// Appends a path that no frame has taken.
-fn push_way(ways: &mut Vec<ListenerWay>, to: Option<Listener>) -> Result<(), Memory>
-    ensures { OnOk result (ways.new.items ≡ ways.old.items ++ way_to [] to ∷ []) }
+fn push_path(paths: &mut Vec<ListenerPath>, to: Option<Listener>) -> Result<(), Memory>
+    ensures { OnOk result (paths.new.items ≡ paths.old.items ++ path_to [] to ∷ []) }
 {
-    ways.push(ListenerWay {
+    paths.push(ListenerPath {
         to,
         tally: Tally::none(),
     })?;
@@ -121,7 +121,7 @@ fn push_way(ways: &mut Vec<ListenerWay>, to: Option<Listener>) -> Result<(), Mem
 
 /// Appends the paths to the listeners of a row.
 fn push_listeners(
-    ways: &mut Vec<ListenerWay>,
+    paths: &mut Vec<ListenerPath>,
     domain: &Domain,
     costs: &CycleSums,
     row: &Row,
@@ -129,37 +129,37 @@ fn push_listeners(
     requires bounded { AreBounded costs.now }
     requires all { costs.now.links ≡ most_links }
     requires summable { IsSummable most_links row.now }
-    ensures { OnOk result (ways.new.items ≡ ways.old.items ++ ways_of domain.now (cost_beside costs.now (Some row.now)) [] (Some row.now)) }
+    ensures { OnOk result (paths.new.items ≡ paths.old.items ++ paths_of domain.now (cost_beside costs.now (Some row.now)) [] (Some row.now)) }
 {
     for hop in row.tree.as_slice() {
         if let Some(listener) = listener_to(domain, costs, row, hop) {
-            push_way(ways, Some(listener))?;
+            push_path(paths, Some(listener))?;
         }
     }
     Ok(())
 }
 
 /// Returns the paths to the listeners of a stream with this row; without a row, one path without a listener.
-fn ways_of(
+fn paths_of(
     alloc: Global,
     domain: &Domain,
     costs: &CycleSums,
     row: &Option<Row>,
-) -> Result<Vec<ListenerWay>, Memory>
+) -> Result<Vec<ListenerPath>, Memory>
     requires bounded { AreBounded costs.now }
     requires all { costs.now.links ≡ most_links }
     requires summable { MayBeSummed row.now }
-    ensures { IfOk result (λ ways. ways.items ≡ ways_of domain.now (cost_beside costs.now row.now) [] row.now) }
+    ensures { IfOk result (λ paths. paths.items ≡ paths_of domain.now (cost_beside costs.now row.now) [] row.now) }
 {
-    let mut ways = Vec::new(alloc);
+    let mut paths = Vec::new(alloc);
     match row {
-        Some(row) => push_listeners(&mut ways, domain, costs, row)?,
-        None => push_way(&mut ways, None)?,
+        Some(row) => push_listeners(&mut paths, domain, costs, row)?,
+        None => push_path(&mut paths, None)?,
     }
-    Ok(ways)
+    Ok(paths)
 }
 
-/// Whether a path leads to the listener with a name.
+/// Returns whether a path leads to the listener with a name.
 fn leads_to(to: &Option<Listener>, name: &Name) -> bool
     ensures { result ≡ leads_to name.now to.now }
 {
@@ -169,67 +169,67 @@ fn leads_to(to: &Option<Listener>, name: &Name) -> bool
     }
 }
 
-/// Whether there is a path at an index, and it leads to the listener with a name.
-fn leads_there(ways: &[ListenerWay], place: usize, name: &Name) -> bool
-    ensures { result ≡ leads_there name.now (slice_get ways.now place) }
+/// Returns whether there is a path at an index, and it leads to the listener with a name.
+fn leads_there(paths: &[ListenerPath], index: usize, name: &Name) -> bool
+    ensures { result ≡ leads_there name.now (slice_get paths.now index) }
 {
-    match ways.get(place) {
-        Some(way) => leads_to(&way.to, name),
+    match paths.get(index) {
+        Some(path) => leads_to(&path.to, name),
         None => false,
     }
 }
 
 /// Returns the index of the first path to the listener with a name.
-fn first_to(ways: &[ListenerWay], name: &Name) -> Option<usize>
-    ensures { result ≡ position (λ way. leads_to name.now way.to) ways.now }
+fn first_to(paths: &[ListenerPath], name: &Name) -> Option<usize>
+    ensures { result ≡ position (λ path. leads_to name.now path.to) paths.now }
 {
-    ways.iter().position(|way| leads_to(&way.to, name))
+    paths.iter().position(|path| leads_to(&path.to, name))
 }
 
 /// Returns the index of the path to the listener with a name: the expected one if it leads there, otherwise the first.
 /// Deliveries are in the order of the paths, so the expected one is mostly right.
-fn place_to(ways: &[ListenerWay], expected: usize, name: &Name) -> Option<usize>
-    ensures { result ≡ place_by ways.now expected name.now }
+fn index_to(paths: &[ListenerPath], expected: usize, name: &Name) -> Option<usize>
+    ensures { result ≡ index_by paths.now expected name.now }
 {
-    if leads_there(ways, expected, name) {
+    if leads_there(paths, expected, name) {
         return Some(expected);
     }
-    first_to(ways, name)
+    first_to(paths, name)
 }
 
 /// Adds a frame on a journey to the path to its listener.
 fn add_journey(
-    ways: &mut [ListenerWay],
+    paths: &mut [ListenerPath],
     expected: usize,
     ending: Fate,
     at: Nanos,
     journey: &Journey,
 )
-    requires apart { AreApart ways.old }
-    requires few { WaysWithin 3372220214 ways.old }
-    ensures ways { ways.new ≡ map (way_with ending at.0 journey.now) ways.old }
-    ensures more { (many : ℕ) → WaysWithin many ways.old → WaysWithin (many + 1) ways.new }
+    requires apart { AreApart paths.old }
+    requires few { PathsWithin 3372220214 paths.old }
+    ensures paths { paths.new ≡ map (path_with ending at.0 journey.now) paths.old }
+    ensures more { (many : ℕ) → PathsWithin many paths.old → PathsWithin (many + 1) paths.new }
 {
-    if let Some(place) = place_to(ways, expected, &journey.listener) {
-        let way = &mut ways[place];
-        way.tally = way.tally.with(ending, at, journey.whole);
+    if let Some(index) = index_to(paths, expected, &journey.listener) {
+        let path = &mut paths[index];
+        path.tally = path.tally.with(ending, at, journey.whole);
     }
 }
 
 /// Adds a delivery to the path to its listener. A drop is added to none.
-fn add_passage(ways: &mut [ListenerWay], expected: usize, delivery: &Delivery)
-    requires apart { AreApart ways.old }
-    requires few { WaysWithin 3372220214 ways.old }
-    ensures ways { ways.new ≡ ways_with (fate_of delivery.now) delivery.now.at.0 delivery.now.passage ways.old }
-    ensures more { (many : ℕ) → WaysWithin many ways.old → WaysWithin (many + 1) ways.new }
+fn add_passage(paths: &mut [ListenerPath], expected: usize, delivery: &Delivery)
+    requires apart { AreApart paths.old }
+    requires few { PathsWithin 3372220214 paths.old }
+    ensures paths { paths.new ≡ paths_with (fate_of delivery.now) delivery.now.at.0 delivery.now.passage paths.old }
+    ensures more { (many : ℕ) → PathsWithin many paths.old → PathsWithin (many + 1) paths.new }
 {
     if let Passage::Goes(journey) = &delivery.passage {
-        add_journey(ways, expected, delivery.fate(), delivery.at, journey);
+        add_journey(paths, expected, delivery.fate(), delivery.at, journey);
     }
 }
 
 impl Fares {
-    /// Makes the counts of a stream with this name and row before anything is offered, if streams have these costs.
+    /// Returns the counts of a stream with this name and row before anything is offered, if streams have these costs.
     pub(crate) fn new(
         alloc: Global,
         domain: &Domain,
@@ -244,13 +244,13 @@ impl Fares {
     {
         // names differ, and the domain is accepted; the paths need these facts
         domain.know();
-        let ways = ways_of(alloc, domain, costs, &listed.row)?;
+        let paths = paths_of(alloc, domain, costs, &listed.row)?;
         Ok(Fares {
             name: listed.name.copied(),
             deadline,
             offered: 0,
             dropped: 0,
-            ways,
+            paths,
         })
     }
 
@@ -261,7 +261,7 @@ impl Fares {
         ensures more { (many : ℕ) → FareWithin many self.old → FareWithin (many + 1) self.new }
     {
         self.dropped += drops_of(delivery);
-        add_passage(self.ways.as_mut_slice(), expected, delivery);
+        add_passage(self.paths.as_mut_slice(), expected, delivery);
     }
 
     /// Adds the deliveries of an offer, at most 200.
@@ -271,8 +271,8 @@ impl Fares {
         ensures fare { self.new ≡ fare_with_each here.now self.old }
         ensures more { (many : ℕ) → FareWithin many self.old → FareWithin (many + 200) self.new }
     {
-        for (place, delivery) in here.iter().enumerate() {
-            self.add(place, delivery);
+        for (index, delivery) in here.iter().enumerate() {
+            self.add(index, delivery);
         }
     }
 

@@ -19,7 +19,7 @@ use cqf_topology::Domain;
 use cqf_units::{Memory, cycle_of};
 use std::alloc::Global;
 
-/// Whether an offer is of a cycle that is run.
+/// Returns whether an offer is of a cycle that is run.
 fn is_run(domain: &Domain, cycles: u32, offer: &Offer) -> bool
     requires { offer.now.at.0 < end_of_offers }
     ensures { result ≡ nat_lt (cycle_at domain.now.cycle_time offer.now.at.0) cycles }
@@ -41,9 +41,9 @@ fn gathered(
         IsSummaryOver (over_of ended.now whole) sums result }
 {
     let (mut here, mut under_way, mut sums) = (here, under_way, sums);
-    for place in 0..ended.offers.len() {
-        let offer = &ended.offers[place];
-        put_those_of(&mut here, ended, &mut under_way, place);
+    for index in 0..ended.offers.len() {
+        let offer = &ended.offers[index];
+        put_those_of(&mut here, ended, &mut under_way, index);
         if is_run(ended.domain, ended.cycles, offer) {
             sums.add(&offer.stream, here.as_slice());
         }

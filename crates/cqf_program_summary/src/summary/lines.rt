@@ -3,9 +3,9 @@ ghost use Rattle.cqf_output.specs.Writer.{Puts};
 ghost use Rattle.cqf_report.specs.Written.{line_of_fields};
 ghost use Rattle.cqf_program_summary.specs.Summary.Text.{lines_of_fare, lines_of_fares, lines_of_others, summary_header};
 ghost use Rattle.cqf_program_summary.specs.Summary.Text.{text_of_bound, text_of_least, text_of_listener, text_of_mean, text_of_most, text_of_summary};
-ghost use Rattle.cqf_program_summary.specs.Summary.Text.{count_fields, last_fields, way_fields};
+ghost use Rattle.cqf_program_summary.specs.Summary.Text.{count_fields, last_fields, path_fields};
 
-use crate::summary::fares::{Fares, Listener, ListenerWay, Others};
+use crate::summary::fares::{Fares, Listener, ListenerPath, Others};
 use crate::summary::sums::StreamSums;
 use crate::summary::tallies::{LatencySummary, Tally};
 use cqf_output::{Sink, Writer};
@@ -111,23 +111,30 @@ fn put_counts<W: Sink>(
 }
 
 /// Puts the row of a path of a stream.
-fn put_way<W: Sink>(writer: &mut Writer<'_, W>, fares: &Fares, way: &ListenerWay)
-    ensures { Puts W.contents writer.old writer.new (line_of_fields (way_fields fares.now way.now)) }
+fn put_path<W: Sink>(writer: &mut Writer<'_, W>, fares: &Fares, path: &ListenerPath)
+    ensures { Puts W.contents writer.old writer.new (line_of_fields (path_fields fares.now path.now)) }
 {
     writer.put(fares.name.as_bytes());
     writer.put_byte(b',');
-    put_listener(writer, &way.to);
+    put_listener(writer, &path.to);
     writer.put_byte(b',');
     let (offered, dropped) = (fares.offered, fares.dropped);
-    put_counts(writer, &way.to, offered, dropped, way.tally, fares.deadline);
+    put_counts(
+        writer,
+        &path.to,
+        offered,
+        dropped,
+        path.tally,
+        fares.deadline,
+    );
 }
 
 /// Puts the rows of a stream.
 fn put_fare<W: Sink>(writer: &mut Writer<'_, W>, fares: &Fares)
     ensures { Puts W.contents writer.old writer.new (lines_of_fare fares.now) }
 {
-    for way in fares.ways.as_slice() {
-        put_way(writer, fares, way);
+    for path in fares.paths.as_slice() {
+        put_path(writer, fares, path);
     }
 }
 

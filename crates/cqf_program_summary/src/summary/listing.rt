@@ -2,16 +2,16 @@
 ghost use Rattle.std.specs.Prelude.{◌≡◌, ◌++◌, ◌∷◌, [], false, IfOk, List, map};
 ghost use Rattle.cqf_admission.specs.Asking.{asked_paced};
 ghost use Rattle.cqf_admission.specs.Rows.{IsSummable};
-ghost use Rattle.cqf_admission.specs.Turns.{AreMoreIn};
+ghost use Rattle.cqf_admission.specs.ActiveCycles.{AreMoreIn};
 ghost use Rattle.cqf_model.specs.Domain.{Domain as ADomain};
 ghost use Rattle.cqf_model.specs.History.{Asked};
 ghost use Rattle.cqf_model.specs.Limits.{most_links};
 ghost use Rattle.cqf_topology.specs.DomainText.{is_among};
 ghost use Rattle.cqf_units.specs.Timing.{cost_of};
 ghost use Rattle.cqf_program_summary.specs.Summary.Listing.{AreBounded, CostsWith, IsListing, ListsOne, MayBeSummed};
-ghost use Rattle.cqf_program_summary.specs.Summary.Told.{row_of_stream};
+ghost use Rattle.cqf_program_summary.specs.Summary.Written.{row_of_stream};
 
-use cqf_admission::{CycleSums, count_places, judge_paced};
+use cqf_admission::{CycleSums, count_indices, judge_paced};
 use cqf_model::{MOST_LINKS, Row};
 use cqf_program_plans::add_cost;
 use cqf_topology::{Domain, NameList, PacedRequest};
@@ -45,7 +45,7 @@ fn add(costs: &mut CycleSums, row: &Row)
     requires summable { IsSummable most_links row.now }
     requires all { costs.old.links ≡ most_links }
     requires bounded { AreBounded costs.old }
-    ensures { AreMoreIn costs.old row.now.tree.items row.now.pace (cost_of row.now.octets) costs.new }
+    ensures { AreMoreIn costs.old row.now.tree.items row.now.pace (cost_of row.now.overhead row.now.octets) costs.new }
 {
     add_cost(costs, row);
 }
@@ -75,7 +75,7 @@ fn row_of_request(
 {
     // the domain is accepted: it has no more links than can be represented
     domain.know();
-    if count_places(request.paths.as_slice()).is_none() {
+    if count_indices(request.paths.as_slice()).is_none() {
         return Err(AllocError);
     }
     match judge_paced(domain, request) {
@@ -85,7 +85,7 @@ fn row_of_request(
 }
 
 impl SummaryListing {
-    /// Makes an empty listing. Returns `Memory` if an allocation fails.
+    /// Returns an empty listing. Returns `Memory` if an allocation fails.
     fn new(alloc: Global) -> Result<SummaryListing, Memory>
         ensures { IfOk result (λ listing. (d : ADomain) → IsListing d [] listing) }
     {
@@ -147,7 +147,7 @@ impl SummaryListing {
     }
 }
 
-/// Lists the streams of the requests that a summary has.
+/// Returns the listing of those of the requests' streams that a summary has.
 pub(crate) fn list_streams(
     alloc: Global,
     domain: &Domain,

@@ -1,10 +1,10 @@
 //! The output of `summary`, before it is written.
-ghost use Rattle.cqf_output.specs.Edge.{HasTold, writing};
+ghost use Rattle.cqf_output.specs.Edge.{IsWritten, writing};
 ghost use Rattle.cqf_program_summary.specs.Summary.Text.{text_of_summary};
 
 use crate::summary::lines::put_summary;
 use crate::summary::sums::StreamSums;
-use cqf_output::{Buffer, Sink, Told, Writer};
+use cqf_output::{Buffer, CheckedSink, Sink, Writer};
 use std::marker::Model;
 
 /// The data of the output of `summary`: the counts of each stream, and a buffer. In contracts it is the summary.
@@ -24,12 +24,12 @@ impl Model for SummaryOutput {
 
 impl SummaryOutput {
     /// Writes the output: a row for each stream and listener, in order, and one of other names. Allocates no memory.
-    pub fn tell<W: Sink>(self, told: &mut Told<W>)
-        ensures { HasTold (writing W.contents told.old told.new) (text_of_summary self) }
+    pub fn write<W: Sink>(self, reported: &mut CheckedSink<W>)
+        ensures { IsWritten (writing W.contents reported.old reported.new) (text_of_summary self) }
     {
         let SummaryOutput { sums, buffer } = self;
-        let mut writer = Writer::new(told, buffer);
+        let mut writer = Writer::new(reported, buffer);
         put_summary(&mut writer, &sums);
-        let _told = writer.close();
+        let _written = writer.close();
     }
 }

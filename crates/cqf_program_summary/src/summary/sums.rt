@@ -6,7 +6,7 @@ ghost use Rattle.cqf_program_runs.specs.Deliveries.Deadlines.{deadline_in};
 ghost use Rattle.cqf_program_summary.specs.Summary.Counting.{SummaryWithin, summary_with};
 ghost use Rattle.cqf_program_summary.specs.Summary.Listing.{AreBounded, IsOfStream, fare_named};
 ghost use Rattle.cqf_program_summary.specs.Summary.{summary_by};
-ghost use Rattle.cqf_program_summary.specs.Summary.Told.{told_streams};
+ghost use Rattle.cqf_program_summary.specs.Summary.Written.{written_streams};
 
 use crate::summary::fares::{Fares, Others};
 use crate::summary::listing::{ListedStream, SummaryListing, list_streams};
@@ -36,7 +36,7 @@ impl Model for StreamSums {
     ghost invariant = { λ s. s.names.keys ≡ map (λ fare. fare.name) s.fares.items };
 }
 
-/// Makes the counts of listed streams with these deadlines before anything is offered.
+/// Returns the counts of listed streams with these deadlines before anything is offered.
 fn fares_of(
     alloc: Global,
     domain: &Domain,
@@ -58,7 +58,7 @@ fn fares_of(
 }
 
 impl StreamSums {
-    /// Makes the counts of the requests' streams with these deadlines before anything is offered.
+    /// Returns the counts of the requests' streams with these deadlines before anything is offered.
     pub(crate) fn new(
         alloc: Global,
         domain: &Domain,
@@ -66,7 +66,7 @@ impl StreamSums {
         deadlines: &[Option<u32>],
     ) -> Result<StreamSums, Memory>
         ensures { let due = deadline_in (record { requests = requests.now; deadlines = deadlines.now }) in
-            IfOk result (λ sums. sums ≡ summary_by domain.now (told_streams (map asked_paced requests.now)) due [] []) }
+            IfOk result (λ sums. sums ≡ summary_by domain.now (written_streams (map asked_paced requests.now)) due [] []) }
     {
         // the domain is accepted: it has no more links than can be represented
         domain.know();
@@ -99,7 +99,7 @@ impl StreamSums {
         ensures more { (many : ℕ) → SummaryWithin many self.old → SummaryWithin (many + 201) self.new }
     {
         match self.names.number_of(name) {
-            Some(place) => self.fares[place].add_offer(here),
+            Some(index) => self.fares[index].add_offer(here),
             None => self.others = self.others.with(here),
         }
     }

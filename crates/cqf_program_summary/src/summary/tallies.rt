@@ -12,10 +12,10 @@ use cqf_units::Nanos;
 pub struct LatencySummary {
     pub least: u64,
     pub most: u64,
-    /// The sum of all of them. There is room for some 3,372,000,000.
+    /// The sum of all of them. It has room for some 3,372,000,000 latencies.
     pub total: u128,
     /// The number of frames that arrived after the first.
-    pub behind: u32,
+    pub following: u32,
 }
 
 /// How deliveries to a listener end.
@@ -42,13 +42,13 @@ fn taken_more(taken: Option<LatencySummary>, latency: u64) -> LatencySummary
             least: taken.least.min(latency),
             most: taken.most.max(latency),
             total: taken.total + u128::from(latency),
-            behind: taken.behind + 1,
+            following: taken.following + 1,
         },
         None => LatencySummary {
             least: latency,
             most: latency,
             total: u128::from(latency),
-            behind: 0,
+            following: 0,
         },
     }
 }
@@ -74,7 +74,7 @@ impl LatencySummary {
     pub fn mean(self) -> u128
         ensures { result ≡ mean_of self }
     {
-        self.total / (u128::from(self.behind) + 1)
+        self.total / (u128::from(self.following) + 1)
     }
 }
 
@@ -91,7 +91,7 @@ impl Tally {
         }
     }
 
-    /// Counts one more end.
+    /// Counts how one more delivery ends.
     fn counted(self, ending: Fate) -> Tally
         requires { TallyWithin 3372220214 self }
         ensures { result ≡ counted ending self }
@@ -127,7 +127,7 @@ impl Tally {
     }
 }
 
-/// Whether a delivery is a drop.
+/// Returns whether a delivery is a drop.
 fn is_dropped(delivery: &Delivery) -> bool
     ensures { result ≡ is_dropped (fate_of delivery.now) }
 {

@@ -3,7 +3,7 @@ use Rattle.toml.specs.View.{items_view}
 use Rattle.cqf_topology.specs.declared.toml_faults.TomlFault.TheVariants as toml_fault
 use Rattle.cqf_topology.proofs.Refusals.{Gives-residual}
 use Rattle.cqf_addressing.specs.declared.faults.AddressingFault.TheVariants as fault
-use Rattle.cqf_addressing.proofs.Behind.{element_fault, element_read}
+use Rattle.cqf_addressing.proofs.After.{element_fault, element_read}
 use Rattle.cqf_addressing.proofs.links.all_links_in.Goals as goal
 
 pub returns-in_err-put_element : goal.returns-in_err-put_element

@@ -1,6 +1,6 @@
 use Rattle.toml.specs.View.{items_view, table_view}
 use Rattle.cqf_addressing.specs.Links.{back_too, there_from}
-use Rattle.cqf_addressing.proofs.Behind.{first_read}
+use Rattle.cqf_addressing.proofs.After.{first_read}
 use Rattle.cqf_addressing.proofs.links.put_link.Goals as goal
 
 pub returns : goal.returns

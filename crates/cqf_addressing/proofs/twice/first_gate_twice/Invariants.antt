@@ -2,5 +2,5 @@
 use Rattle.cqf_addressing.proofs.Seen.{HasSeen}
 use Rattle.cqf_addressing.proofs.twice.first_gate_twice.Given as goal
 
-abbrev pub invariant-loop-place : goal.invariant-loop-place
-invariant-loop-place l = HasSeen l.addresses l.place l.seen
+abbrev pub invariant-loop-index : goal.invariant-loop-index
+invariant-loop-index l = HasSeen l.addresses l.index l.seen

@@ -12,9 +12,9 @@ pub overflow_add-result : goal.overflow_add-result
 overflow_add-result c =
     let d = c.args.domain.now in
     let branch = c.branch-item.result in
-    let found : fault_in d c.args.check (branch_of branch.items) ≡ Some c.in-Some.place =
+    let found : fault_in d c.args.check (branch_of branch.items) ≡ Some c.in-Some.index =
     ap (λ (xs : List (String Global)). fault_in d c.args.check (branch_of xs)) (sym c.as_slice.ensures.value) ∙ sym c.fault_of.ensures ∙ c.in-Some.is in
-    let within = fault_within d c.args.check (branch_of branch.items) c.in-Some.place found in
+    let within = fault_within d c.args.check (branch_of branch.items) c.in-Some.index found in
     let room = room_for d c.args.check c.args.paths.now c.loop-branch.branch-index c.loop-branch.before branch c.loop-branch-test.true
     (sym c.branch-item.is) c.loop-branch.invariant.0 in
     record { fits = omega (arith, within, room, length-map branch.items string_bytes, c.requires) }
@@ -39,7 +39,7 @@ loop-branch-preserved c =
     omega (arith, c.len.ensures, c.as_slice.ensures.len, ap (λ (xs : List (String Global)). length xs) c.as_slice.ensures.value) in (
       goes_on d c.args.check c.args.paths.now index c.loop-branch.before branch c.loop-branch-test.true is c.loop-branch.invariant.0
           (c.loop-branch.before + c.len-before.result) (ap (λ (n : ℕ). c.loop-branch.before + n) counted) none,
-      subst (AreNodes d (flat_map (λ b. b) (branches_of (drop (index + 1) c.args.paths.now)))) (sym c.nodes_behind-rest.ensures)
+      subst (AreNodes d (flat_map (λ b. b) (branches_of (drop (index + 1) c.args.paths.now)))) (sym c.nodes_after-rest.ensures)
           (nodes_next d c.args.paths.now index branch c.loop-branch.rest.now c.loop-branch-test.true is c.loop-branch.invariant.1
           c.len.result counted_too),
     )

@@ -16,13 +16,13 @@ returns c =
     let text = c.args.text.now in
     elim c.match-order.branch [
       | in-Admit+in_ok-try_clone-in-Admit w ↦
-          let place = w.in-Admit.place in
+          let position = w.in-Admit.position in
           let copied = ap asked_paced w.in_ok-try_clone-in-Admit.ensures in
-          let stands : StandsIn requests text (what.Admit place) = subst (λ what. StandsIn requests text what) w.in-Admit.is c.requires in
+          let stands : StandsIn requests text (what.Admit position) = subst (λ what. StandsIn requests text what) w.in-Admit.is c.requires in
           let same : length requests ≡ length c.args.requests.now = length-map c.args.requests.now asked_shared in
-          let inside : place < length c.args.requests.now = omega (arith, stands, same) in
+          let inside : position < length c.args.requests.now = omega (arith, stands, same) in
           rw (w.call-is, w.in-Admit.is) (ap (λ asked. (c.args.order.seat, Admits asked))
-          (copied ∙ sym (shared_read c.args.requests.now place w.index-requests-place.result inside w.index-requests-place.is)))
+          (copied ∙ sym (shared_read c.args.requests.now position w.index-requests-position.result inside w.index-requests-position.is)))
       | in-Withdraw+in_ok-from_str-in-Withdraw w ↦
           rw (w.call-is, w.in-Withdraw.is) (ap (λ word. (c.args.order.seat, Withdraws word)) (w.in_ok-from_str-in-Withdraw.ensures.ok ∙ w.word_of.ensures))
       | in-Seal w ↦ rw (w.call-is, w.in-Seal.is) refl

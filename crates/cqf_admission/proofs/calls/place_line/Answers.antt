@@ -8,7 +8,7 @@ use Rattle.cqf_admission.specs.declared.faults.ScriptFault.TheVariants as script
 use Rattle.cqf_admission.specs.Lines.{is_seal_line, order_of_line}
 use Rattle.cqf_admission.specs.Script.{Called, call_of_line, call_of_order}
 use Rattle.cqf_admission.specs.Written.{written}
-use Rattle.cqf_admission.proofs.NamePlaces.{name_at, name_ends, name_shorter, word_short}
+use Rattle.cqf_admission.proofs.NameIndices.{name_at, name_ends, name_shorter, word_short}
 use Rattle.cqf_admission.proofs.calls.place_line.Goals as goal
 
 pub place_order-requires-clause-short : goal.place_order-requires-clause-short
@@ -27,11 +27,11 @@ returns-in-Some-clause-value c = λ text at.
     let placed = name_at text c.args.end c.args.line.now c.in-Some.order.name.now at ends in
     let requests = map asked_paced c.args.names.now in
     let order = written c.in-Some.order in
-    let place = c.args.place in
+    let position = c.args.position in
     let off : is_seal_line c.args.line.now ≡ false = sym c.if-is_seal_line.ensures in
     let is : order_of_line c.args.line.now ≡ Some order = sym c.in-Some.ensures.value in
-    let same : call_of_line requests c.args.seat c.args.cycles place.line place.sealed place.called c.args.line.now
-    ≡ call_of_order requests place.line place.called order = rw (off, is) refl in
+    let same : call_of_line requests c.args.seat c.args.cycles position.line position.sealed position.called c.args.line.now
+    ≡ call_of_order requests position.line position.called order = rw (off, is) refl in
     subst (λ (wanted : Result Called ScriptFault). Gives script_fault.Memory (ordered_in requests text) c.place_order.result wanted) (sym same)
     (c.place_order.ensures.value text placed)
 

@@ -11,8 +11,8 @@ use Rattle.cqf_admission.proofs.calls.place_order.Goals.{in-Admit+in-Some, in-Wi
 
 pub returns-in_default-clause-value : goal.returns-in_default-clause-value
 returns-in_default-clause-value c =
-    λ text ends other. unknown_stream c.args.names.now c.args.place.line c.args.place.called (written c.args.order.now)
-    (sym c.place_of.ensures ∙ c.in_default.is) c.in-Admit.is
+    λ text ends other. unknown_stream c.args.names.now c.args.position.line c.args.position.called (written c.args.order.now)
+    (sym c.index_of.ensures ∙ c.in_default.is) c.in-Admit.is
 
 pub returns-then-many-clause-value : goal.returns-then-many-clause-value
 returns-then-many-clause-value c = λ text ends other.
@@ -20,12 +20,12 @@ returns-then-many-clause-value c = λ text ends other.
     let order = written c.args.order.now in
     elim c.match-order.branch [
       | in-Admit+in-Some w ↦
-          let place = w.in-Some.request in
-          too_many requests c.args.place.line c.args.place.called order (Admits (request_at requests place))
+          let position = w.in-Some.request in
+          too_many requests c.args.position.line c.args.position.called order (Admits (request_at requests position))
           (ap (λ wish. act_for requests wish order.name) w.in-Admit.is
-          ∙ admits c.args.names.now order.name place (sym w.place_of.ensures ∙ w.in-Some.is)) c.if-many.true
+          ∙ admits c.args.names.now order.name position (sym w.index_of.ensures ∙ w.in-Some.is)) c.if-many.true
       | in-Withdraw w ↦
-          too_many requests c.args.place.line c.args.place.called order (Withdraws order.name)
+          too_many requests c.args.position.line c.args.position.called order (Withdraws order.name)
           (ap (λ wish. act_for requests wish order.name) w.in-Withdraw.is) c.if-many.true
     ]
 
@@ -35,13 +35,13 @@ returns-clause-value c = λ text ends.
     let order = written c.args.order.now in
     elim c.match-order.branch [
       | in-Admit+in-Some w ↦
-          let place = w.in-Some.request in
-          called_for requests c.args.place.line c.args.place.called order (Admits (request_at requests place))
+          let position = w.in-Some.request in
+          called_for requests c.args.position.line c.args.position.called order (Admits (request_at requests position))
           (ap (λ wish. act_for requests wish order.name) w.in-Admit.is
-          ∙ admits c.args.names.now order.name place (sym w.place_of.ensures ∙ w.in-Some.is)) c.if-many.false
+          ∙ admits c.args.names.now order.name position (sym w.index_of.ensures ∙ w.in-Some.is)) c.if-many.false
           ∙ ap (λ what. Ok (order.seat, act_in requests text what)) (sym w.what-is)
       | in-Withdraw w ↦
-          called_for requests c.args.place.line c.args.place.called order (Withdraws order.name)
+          called_for requests c.args.position.line c.args.position.called order (Withdraws order.name)
           (ap (λ wish. act_for requests wish order.name) w.in-Withdraw.is) c.if-many.false
           ∙ ap (λ word. Ok (order.seat, Withdraws word)) (sym ends.ends.is)
           ∙ ap (λ what. Ok (order.seat, act_in requests text what)) (sym w.what-is)

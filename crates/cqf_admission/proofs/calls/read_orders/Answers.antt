@@ -16,48 +16,48 @@ pub returns-in-Err-clause-orders : goal.returns-in-Err-clause-orders
 returns-in-Err-clause-orders c = λ other.
     let requests = map asked_paced c.args.names.now in
     let text = c.args.text.now in
-    let place = c.loop-line.place in
+    let position = c.loop-line.position in
     let line = c.in-Some.line.now in
     let left = c.loop-line.left.now in
-    let behind = c.in-Some.behind.now in
+    let following = c.in-Some.following.now in
     let seat = c.administrators-seat.result in
     let so_far = c.loop-line.invariant.0 in
-    let first : lines_of left ≡ line ∷ lines_of behind = rw (c.in-Some.line-is, c.in-Some.behind-is) c.in-Some.ensures.lines in
+    let first : lines_of left ≡ line ∷ lines_of following = rw (c.in-Some.line-is, c.in-Some.following-is) c.in-Some.ensures.lines in
     let is_line : line ≡ before_first is_line_feed left = ap (λ l. l.now) c.in-Some.line-is ∙ c.in-Some.ensures.line in
     let ends : LineEnds text (length text - length left + length line) line =
     line_at text left line c.loop-line.invariant.1.rest (omega (arith, so_far.inside, so_far.counted)) is_line in
-    let bad : call_of_line requests seat c.args.cycles place.line place.sealed place.called line ≡ Err c.in-Err.fault =
+    let bad : call_of_line requests seat c.args.cycles position.line position.sealed position.called line ≡ Err c.in-Err.fault =
     c.in-Err.ensures.value text ends other in
-    read-fault requests seat c.args.cycles text (map (ordered_in requests text) c.loop-line.orders.items) place.line place.sealed place.called
-    left line behind c.in-Err.fault so_far c.administrators-seat.ensures first bad
+    read-fault requests seat c.args.cycles text (map (ordered_in requests text) c.loop-line.orders.items) position.line position.sealed position.called
+    left line following c.in-Err.fault so_far c.administrators-seat.ensures first bad
 
 pub loop-line-preserved : goal.loop-line-preserved
 loop-line-preserved c =
     let requests = map asked_paced c.args.names.now in
     let text = c.args.text.now in
     let show = ordered_in requests text in
-    let place = c.loop-line.place in
-    let next = c.behind-place.result in
+    let position = c.loop-line.position in
+    let next = c.following-position.result in
     let orders = c.loop-line.orders.items in
     let line = c.in-Some.line.now in
     let left = c.loop-line.left.now in
-    let behind = c.in-Some.behind.now in
+    let following = c.in-Some.following.now in
     let so_far = c.loop-line.invariant.0 in
     let stood = c.loop-line.invariant.1 in
-    let first : lines_of left ≡ line ∷ lines_of behind = rw (c.in-Some.line-is, c.in-Some.behind-is) c.in-Some.ensures.lines in
+    let first : lines_of left ≡ line ∷ lines_of following = rw (c.in-Some.line-is, c.in-Some.following-is) c.in-Some.ensures.lines in
     let seat = c.administrators-seat.result in
     let is_line : line ≡ before_first is_line_feed left = ap (λ l. l.now) c.in-Some.line-is ∙ c.in-Some.ensures.line in
-    let is_behind : behind ≡ after_first is_line_feed left = ap (λ l. l.now) c.in-Some.behind-is ∙ c.in-Some.ensures.rest in
+    let is_after : following ≡ after_first is_line_feed left = ap (λ l. l.now) c.in-Some.following-is ∙ c.in-Some.ensures.rest in
     let ends : LineEnds text (length text - length left + length line) line =
     line_at text left line stood.rest (omega (arith, so_far.inside, so_far.counted)) is_line in
-    let good : call_of_line requests seat c.args.cycles place.line place.sealed place.called line ≡ Ok (show c.in-Ok.order) =
-    ap (λ l. call_of_line requests seat c.args.cycles place.line place.sealed place.called l.now) c.in-Some.line-is ∙ c.in-Ok.ensures.value text ends in
+    let good : call_of_line requests seat c.args.cycles position.line position.sealed position.called line ≡ Ok (show c.in-Ok.order) =
+    ap (λ l. call_of_line requests seat c.args.cycles position.line position.sealed position.called l.now) c.in-Some.line-is ∙ c.in-Ok.ensures.value text ends in
     let more : c.push.new.self.items ≡ orders ++ c.in-Ok.order ∷ [] = c.in_ok-push.ensures.items in (
-      read-one_more requests seat c.args.cycles text (map show orders) (map show c.push.new.self.items) place.line next.line place.sealed place.called
-          next.sealed next.called left line behind (show c.in-Ok.order)
+      read-one_more requests seat c.args.cycles text (map show orders) (map show c.push.new.self.items) position.line next.line position.sealed position.called
+          next.sealed next.called left line following (show c.in-Ok.order)
           so_far first (omega (arith, c.in-Some.ensures.shorter)) good (ap (map show) more ∙ map-append show orders (c.in-Ok.order ∷ []))
-          c.behind-place.ensures.line c.behind-place.ensures.sealed c.behind-place.ensures.called,
-      orders-one_more requests text orders c.push.new.self.items left behind c.in-Ok.order stood (c.in-Ok.ensures.stands text ends) more is_behind,
+          c.following-position.ensures.line c.following-position.ensures.sealed c.following-position.ensures.called,
+      orders-one_more requests text orders c.push.new.self.items left following c.in-Ok.order stood (c.in-Ok.ensures.stands text ends) more is_after,
     )
 
 -- the orders are few

@@ -8,7 +8,7 @@ use Rattle.cqf_admission.proofs.calls.read_orders.Given as goal
 abbrev pub invariant-loop-line : goal.invariant-loop-line
 invariant-loop-line l =
     IsReadSoFar (map asked_paced l.names) l.seat l.cycles l.text (map (ordered_in (map asked_paced l.names) l.text) l.orders.items)
-    l.place.line l.place.sealed l.place.called l.left
+    l.position.line l.position.sealed l.position.called l.left
     × AreOrdersSoFar (map asked_paced l.names) l.text l.orders.items l.left
 
 abbrev pub decreases-loop-line : goal.decreases-loop-line

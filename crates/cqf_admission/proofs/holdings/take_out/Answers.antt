@@ -19,27 +19,27 @@ rising numbers order i j le low = elim (cases_lt i j) [
 
 -- a number among them is found
 abbrev Finds : List ℕ → ℕ → Result ℕ ℕ → Type 0
-Finds numbers number r = MatchResult r (λ place. (place < length numbers) × (get_or numbers place 0 ≡ number)) (λ place. Contains numbers number → ⊥)
+Finds numbers number r = MatchResult r (λ index. (index < length numbers) × (get_or numbers index 0 ≡ number)) (λ index. Contains numbers number → ⊥)
 
 finds : (numbers : List ℕ) (number : ℕ) (r : Result ℕ ℕ) → AllPairs (λ (a b : ℕ). a < b) numbers → IsBinarySearchResult (λ (y : ℕ). nat_cmp y number) numbers r →
     Finds numbers number r
-finds numbers number (Ok place) order by = searched numbers number (Ok place) by (rising numbers order)
-finds numbers number (Err place) order by = λ among.
-    let w = searched numbers number (Err place) by (rising numbers order) in
+finds numbers number (Ok index) order by = searched numbers number (Ok index) by (rising numbers order)
+finds numbers number (Err index) order by = λ among.
+    let w = searched numbers number (Err index) by (rising numbers order) in
     let is : get_or numbers among.0 0 ≡ number = get_or_default numbers among.0 0 number among.1 ∙ among.2 in
-    elim (cases_lt among.0 place) [
+    elim (cases_lt among.0 index) [
       | inl before ↦ omega (arith, w.1 among.0 before, is)
-      | inr behind ↦ omega (arith, w.2 among.0 behind among.1, is)
+      | inr following ↦ omega (arith, w.2 among.0 following among.1, is)
     ]
 
 pub returns-in-Ok : goal.returns-in-Ok
 returns-in-Ok c =
     let numbers = c.args.held.now.items in
-    let w : Finds numbers c.args.number (Ok c.in-Ok.place) = subst (Finds numbers c.args.number) c.in-Ok.is
+    let w : Finds numbers c.args.number (Ok c.in-Ok.index) = subst (Finds numbers c.args.number) c.in-Ok.is
     (finds numbers c.args.number c.binary_search.result c.requires.order
     (subst (λ (ns : List ℕ). IsBinarySearchResult (λ (y : ℕ). nat_cmp y c.args.number) ns c.binary_search.result) c.deref.ensures.value
     c.binary_search.ensures.position)) in
-    c.remove.ensures.items ∙ removed_is_without numbers c.in-Ok.place c.args.number c.requires.order w.0 w.1
+    c.remove.ensures.items ∙ removed_is_without numbers c.in-Ok.index c.args.number c.requires.order w.0 w.1
 
 pub returns-in_default : goal.returns-in_default
 returns-in_default c =

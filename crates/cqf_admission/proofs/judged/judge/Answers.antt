@@ -2,11 +2,11 @@ use Rattle.std.proofs.Common.{◌≡◌, ◌<◌, ◌^◌, subst, sym}
 use Rattle.cqf_model.specs.History.{Asked}
 use Rattle.cqf_admission.specs.Asking.{asked_of, asked_with}
 use Rattle.cqf_admission.specs.Judging.{Judges}
-use Rattle.cqf_admission.specs.Branches.{branches_of, places_of}
+use Rattle.cqf_admission.specs.Branches.{branches_of, indices_of}
 use Rattle.cqf_admission.proofs.judged.judge.Goals as goal
 
 pub judge_parts-requires : goal.judge_parts-requires
-judge_parts-requires c = subst (λ paths. places_of (branches_of paths) < 2 ^ 64) (sym c.as_slice-paths.ensures.value) c.requires
+judge_parts-requires c = subst (λ paths. indices_of (branches_of paths) < 2 ^ 64) (sym c.as_slice-paths.ensures.value) c.requires
 
 pub returns : goal.returns
 returns c =

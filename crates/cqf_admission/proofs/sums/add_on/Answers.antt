@@ -11,13 +11,13 @@ pub index_mut-requires : goal.index_mut-requires
 index_mut-requires c =
     let at = link_at c.args.tree.now c.loop-hop.hop-index no_hop c.loop-hop-test.true in
     let low = All-get_or (λ (l : ℕ). l < length c.args.sums.now.items) (links_in c.args.tree.now) c.loop-hop.hop-index 0 at.0 c.requires.inside in
-    omega (arith, low, c.from-place.ensures, at.1, c.loop-hop.invariant.as_many)
+    omega (arith, low, c.from-index.ensures, at.1, c.loop-hop.invariant.as_many)
 
 pub overflow_add-index_mut : goal.overflow_add-index_mut
 overflow_add-index_mut c =
     let at = link_at c.args.tree.now c.loop-hop.hop-index no_hop c.loop-hop-test.true in
     let step = room_step (links_in c.args.tree.now) c.loop-hop.hop-index c.requires.apart at.0 c.args.sums.now.items c.loop-hop.sums.items c.args.number
-    c.from-place.result c.index_mut.result.now (c.from-place.ensures ∙ at.1) c.requires.inside c.index_mut.ensures.value c.requires.room c.loop-hop.invariant in
+    c.from-index.result c.index_mut.result.now (c.from-index.ensures ∙ at.1) c.requires.inside c.index_mut.ensures.value c.requires.room c.loop-hop.invariant in
     omega (arith, step.1, c.from.ensures)
 
 pub loop-hop-preserved : goal.loop-hop-preserved
@@ -25,10 +25,10 @@ loop-hop-preserved c =
     let now = c.loop-hop.sums.items in
     let here = c.index_mut.result.now in
     let at = link_at c.args.tree.now c.loop-hop.hop-index no_hop c.loop-hop-test.true in
-    subst (λ (n : ℕ). AreMoreOn c.args.sums.now.items (take (c.loop-hop.hop-index + 1) (links_in c.args.tree.now)) c.args.number (set now c.from-place.result (here + n)))
+    subst (λ (n : ℕ). AreMoreOn c.args.sums.now.items (take (c.loop-hop.hop-index + 1) (links_in c.args.tree.now)) c.args.number (set now c.from-index.result (here + n)))
     (sym c.from.ensures)
-    (more_step (links_in c.args.tree.now) c.loop-hop.hop-index c.requires.apart at.0 c.args.sums.now.items now c.args.number c.from-place.result here
-    (c.from-place.ensures ∙ at.1) c.requires.inside c.index_mut.ensures.value c.loop-hop.invariant)
+    (more_step (links_in c.args.tree.now) c.loop-hop.hop-index c.requires.apart at.0 c.args.sums.now.items now c.args.number c.from-index.result here
+    (c.from-index.ensures ∙ at.1) c.requires.inside c.index_mut.ensures.value c.loop-hop.invariant)
 
 pub returns : goal.returns
 returns c =

@@ -37,7 +37,7 @@ loop-branch-preserved c =
       subst (AreAsFarAsRoom c.add_branch.new.tree.items)
           (one_branch_more d c.args.paths.now index branch whole (fold keep_link whole (hops_along d (branch_of branch.items))) c.loop-branch-test.true
           (sym c.branch-item.is) refl refl) far,
-      subst (AreNodes d (flat_map (λ b. b) (branches_of (drop (index + 1) c.args.paths.now)))) (sym c.nodes_behind-rest.ensures)
+      subst (AreNodes d (flat_map (λ b. b) (branches_of (drop (index + 1) c.args.paths.now)))) (sym c.nodes_after-rest.ensures)
           (nodes_next d c.args.paths.now index branch c.loop-branch.rest.now c.loop-branch-test.true (sym c.branch-item.is) c.loop-branch.invariant.1
           c.len.result counted),
     )

@@ -9,6 +9,6 @@ returns-then-not-is_same c = (
   λ never. absurd (true≢false (sym never)),
   λ same.
       sym c.if-not-is_same.true
-      ∙ c.is_same.ensures.1 (alike_at c.args.pages.now c.args.others.now same c.loop-place.place c.index-pages-place.result c.index-others-place.result
-      (omega arith) c.index-pages-place.is c.index-others-place.is),
+      ∙ c.is_same.ensures.1 (alike_at c.args.pages.now c.args.others.now same c.loop-index.index c.index-pages-index.result c.index-others-index.result
+      (omega arith) c.index-pages-index.is c.index-others-index.is),
 )

@@ -2,7 +2,7 @@ use Rattle.std.proofs.Common.{◌∙◌, sym, subst, Contains}
 use Rattle.std.proofs.lemmas.List.Elements.{Contains-get_or}
 use Rattle.cqf_bridge.specs.Taking.{IsBatchOf}
 use Rattle.cqf_model.proofs.LinkEnds.{enters_inside}
-use Rattle.cqf_bridge.proofs.Coming.{are_batches_of, batch_enters, not_batches_of, one_more_place}
+use Rattle.cqf_bridge.proofs.Coming.{are_batches_of, batch_enters, not_batches_of, one_more_index}
 use Rattle.cqf_bridge.proofs.checking.are_batches.Goals as goal
 
 pub is_batch_of-requires-clause-inside : goal.is_batch_of-requires-clause-inside
@@ -22,7 +22,7 @@ returns-then-not-is_batch_of-clause-no c =
 
 pub loop-batch-preserved : goal.loop-batch-preserved
 loop-batch-preserved c =
-    one_more_place (IsBatchOf c.args.domain.now c.args.number c.args.cycle.0 c.args.table.now.rows) c.args.batches.now c.loop-batch.batch-index
+    one_more_index (IsBatchOf c.args.domain.now c.args.number c.args.cycle.0 c.args.table.now.rows) c.args.batches.now c.loop-batch.batch-index
     c.batch-item.result c.batch-item.is (c.is_batch_of.ensures.yes c.if-not-is_batch_of.false) c.loop-batch.invariant
 
 pub returns-clause-yes : goal.returns-clause-yes

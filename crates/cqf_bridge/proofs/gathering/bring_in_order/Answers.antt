@@ -1,6 +1,6 @@
 use Rattle.std.proofs.Common.{rules}
 use Rattle.std.proofs.lemmas.List.Sorted.{IsNonDecreasingBy-from_sort_by_key, answers_always}
-use Rattle.cqf_model.specs.Traffic.{Received}
+use Rattle.cqf_model.specs.Policing.{Received}
 use Rattle.cqf_bridge.specs.Taking.{received_as}
 use Rattle.cqf_bridge.proofs.InOrder.{at_instant, at_instants, brought_in_order, instant_of_frame, mapped_in_order}
 use Rattle.cqf_bridge.proofs.gathering.bring_in_order.Goals as goal

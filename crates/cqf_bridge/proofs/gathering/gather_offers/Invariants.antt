@@ -1,5 +1,5 @@
 use Rattle.std.specs.Prelude.{◌≡◌, ◌+◌, ◌≤◌, ◌++◌, length, map, take, vec_capacity, vec_len}
-use Rattle.cqf_model.specs.Traffic.{offer_received}
+use Rattle.cqf_model.specs.Policing.{offer_received}
 use Rattle.cqf_bridge.specs.Taking.{received_as}
 use Rattle.cqf_bridge.proofs.gathering.gather_offers.Given as goal
 

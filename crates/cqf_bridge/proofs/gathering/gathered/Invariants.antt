@@ -1,6 +1,6 @@
 use Rattle.std.specs.Prelude.{◌≡◌, map, take}
 use Rattle.std.specs.List.{flat_map}
-use Rattle.cqf_model.specs.Traffic.{sent_received}
+use Rattle.cqf_model.specs.Policing.{sent_received}
 use Rattle.cqf_bridge.specs.Batch.{LinkBatch}
 use Rattle.cqf_bridge.specs.Taking.{received_as}
 use Rattle.cqf_bridge.proofs.gathering.gathered.Given as goal

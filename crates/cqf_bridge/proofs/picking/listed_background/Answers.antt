@@ -7,16 +7,16 @@ use Rattle.cqf_bridge.proofs.picking.listed_background.Goals as goal
 use Rattle.cqf_bridge.proofs.picking.listed_background.Goals.{then-is_from+in_ok-push, else-is_from}
 
 -- a frame of the bridge is listed, and another one is skipped
-pub loop-place-preserved : goal.loop-place-preserved
-loop-place-preserved c =
+pub loop-index-preserved : goal.loop-index-preserved
+loop-index-preserved c =
     let named : ℕ × Background → Backed = λ x. record { frame = x.0; background = x.1 } in
     elim c.if-is_from.branch [
       | then-is_from+in_ok-push w ↦
-          one_kept named (is_backed_from c.args.domain.now c.args.bridge) c.args.background.now c.loop-place.place _ _ c.loop-place-test.true refl
-          c.loop-place.list.items _ (sym c.is_from.ensures ∙ w.if-is_from.true) c.loop-place.invariant
-          (ap (λ v. v.items) w.list-is ∙ w.in_ok-push.ensures.items ∙ ap (λ (x : Backed). c.loop-place.list.items ++ x ∷ []) w.numbered_frame.ensures)
+          one_kept named (is_backed_from c.args.domain.now c.args.bridge) c.args.background.now c.loop-index.index _ _ c.loop-index-test.true refl
+          c.loop-index.list.items _ (sym c.is_from.ensures ∙ w.if-is_from.true) c.loop-index.invariant
+          (ap (λ v. v.items) w.list-is ∙ w.in_ok-push.ensures.items ∙ ap (λ (x : Backed). c.loop-index.list.items ++ x ∷ []) w.numbered_frame.ensures)
       | else-is_from w ↦
           ap (λ v. v.items) w.list-is
-          ∙ one_passed named (is_backed_from c.args.domain.now c.args.bridge) c.args.background.now c.loop-place.place _ _ c.loop-place-test.true refl
-          c.loop-place.list.items (sym c.is_from.ensures ∙ w.if-is_from.false) c.loop-place.invariant
+          ∙ one_passed named (is_backed_from c.args.domain.now c.args.bridge) c.args.background.now c.loop-index.index _ _ c.loop-index-test.true refl
+          c.loop-index.list.items (sym c.is_from.ensures ∙ w.if-is_from.false) c.loop-index.invariant
     ]

@@ -8,16 +8,16 @@ pub rest_to-requires : goal.rest_to-requires
 rest_to-requires c =
     let before = c.args.ports.now.items in
     let r = c.index_mut.result.now in
-    let inside : c.loop-place.place < length before = omega (arith, c.loop-place-test.true, c.len-place-end.ensures) in
-    let same : r ≡ get_or before c.loop-place.place r =
+    let inside : c.loop-index.index < length before = omega (arith, c.loop-index-test.true, c.len-index-end.ensures) in
+    let same : r ≡ get_or before c.loop-index.index r =
     c.index_mut.ensures.value
-    ∙ next_is (rested c.args.until.0) before c.loop-place.ports.items c.loop-place.place inside c.loop-place.invariant r in
-    let held = subst (Contains before) (sym same) (Contains-get_or before c.loop-place.place r inside) in
+    ∙ next_is (rested c.args.until.0) before c.loop-index.ports.items c.loop-index.index inside c.loop-index.invariant r in
+    let held = subst (Contains before) (sym same) (Contains-get_or before c.loop-index.index r inside) in
     record { later = c.requires.later r held; early = c.requires.early; quiet = c.requires.quiet r held }
 
-pub loop-place-preserved : goal.loop-place-preserved
-loop-place-preserved c =
+pub loop-index-preserved : goal.loop-index-preserved
+loop-index-preserved c =
     let before = c.args.ports.now.items in
-    next_done (rested c.args.until.0) before c.loop-place.ports.items c.loop-place.place
-    (omega (arith, c.loop-place-test.true, c.len-place-end.ensures)) c.loop-place.invariant c.index_mut.result.now c.rest_to.new.self
+    next_done (rested c.args.until.0) before c.loop-index.ports.items c.loop-index.index
+    (omega (arith, c.loop-index-test.true, c.len-index-end.ensures)) c.loop-index.invariant c.index_mut.result.now c.rest_to.new.self
     c.index_mut.ensures.value c.in_ok-rest_to.ensures

@@ -1,7 +1,7 @@
 use Rattle.std.proofs.Common.{[], List, arith, map, rules, subst, sym}
 use Rattle.std.proofs.lemmas.List.Sorted.{IsNonDecreasingBy-from_sort_by_key, answers_always}
 use Rattle.cqf_model.specs.declared.frames.Dropped.{Dropped}
-use Rattle.cqf_model.specs.Traffic.{Policed, Received}
+use Rattle.cqf_model.specs.Policing.{Policed, Received}
 use Rattle.cqf_laws_cycle.specs.Gathered.{IsInOrderOf}
 use Rattle.cqf_bridge.specs.declared.gathering.Incoming.{Incoming}
 use Rattle.cqf_bridge.specs.Taking.{HasPoliced, IsFaultByPoliced, gathered_by, policed_by, received_as}

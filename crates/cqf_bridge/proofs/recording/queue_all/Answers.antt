@@ -8,15 +8,15 @@ pub queue_one-requires-clause-taken : goal.queue_one-requires-clause-taken
 queue_one-requires-clause-taken c =
     let before = c.args.ports.now.items in
     let r = c.index_mut.result.now in
-    let inside : c.loop-place.place < length before = omega (arith, c.loop-place-test.true, c.len-place-end.ensures) in
-    let same : r ≡ get_or before c.loop-place.place r =
+    let inside : c.loop-index.index < length before = omega (arith, c.loop-index-test.true, c.len-index-end.ensures) in
+    let same : r ≡ get_or before c.loop-index.index r =
     c.index_mut.ensures.value
-    ∙ next_is (queue_on c.args.row.now c.args.way c.args.arrival) before c.loop-place.ports.items c.loop-place.place inside c.loop-place.invariant r in
-    c.requires.taken r (subst (Contains before) (sym same) (Contains-get_or before c.loop-place.place r inside))
+    ∙ next_is (queue_on c.args.row.now c.args.ingress c.args.arrival) before c.loop-index.ports.items c.loop-index.index inside c.loop-index.invariant r in
+    c.requires.taken r (subst (Contains before) (sym same) (Contains-get_or before c.loop-index.index r inside))
 
-pub loop-place-preserved : goal.loop-place-preserved
-loop-place-preserved c =
+pub loop-index-preserved : goal.loop-index-preserved
+loop-index-preserved c =
     let before = c.args.ports.now.items in
-    next_done (queue_on c.args.row.now c.args.way c.args.arrival) before c.loop-place.ports.items c.loop-place.place
-    (omega (arith, c.loop-place-test.true, c.len-place-end.ensures)) c.loop-place.invariant c.index_mut.result.now c.queue_one.new.port
+    next_done (queue_on c.args.row.now c.args.ingress c.args.arrival) before c.loop-index.ports.items c.loop-index.index
+    (omega (arith, c.loop-index-test.true, c.len-index-end.ensures)) c.loop-index.invariant c.index_mut.result.now c.queue_one.new.port
     c.index_mut.ensures.value c.in_ok-queue_one.ensures

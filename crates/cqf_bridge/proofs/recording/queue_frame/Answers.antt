@@ -17,7 +17,7 @@ queue_all-requires-clause-taken c =
     (λ l. guard_within c.args.domain.now l c.know.ensures.accepted) c.gate_gives_class.ensures
     c.queued_frames_wait.ensures c.requires.in_cycle c.requires.waiting _
     (λ i. record { at = c.args.frame.now.at; class = c.requires.class i; octets = x.octets; frame = x.frame }) r held
-    (subst (λ (way : Option ℕ). list_any (λ next. next == r.link) (goes_to row way) ≡ true) c.link.ensures goes)
+    (subst (λ (ingress : Option ℕ). list_any (λ next. next == r.link) (goes_to row ingress) ≡ true) c.link.ensures goes)
 
 pub returns : goal.returns
 returns c =

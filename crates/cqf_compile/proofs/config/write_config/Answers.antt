@@ -18,7 +18,7 @@ returns c =
     let rows = Puts-as _ (flat_map (text_of_row plan) c.args.table.now.rows)
     (ap (λ (rows : List Row). flat_map (text_of_row plan) rows) c.rows.ensures.rows) c.put_shared.ensures in
     let puts = Puts-then (texts_of_links plan) (flat_map (text_of_row plan) c.args.table.now.rows) links rows in
-    let names = c.close-told.ensures.same ∙ puts.same ∙ c.new-writer.ensures.same in
-    text-written c.close-told.result.now (config_text plan c.args.table.now.rows) c.told_text.result
-    (ap (λ list. list.items) c.new-told.ensures.writer ∙ c.new.ensures.items)
-    c.new-writer.ensures.opens puts c.close-told.ensures.closes c.told_text.ensures.ok (search rules) (search rules)
+    let names = c.close-written.ensures.same ∙ puts.same ∙ c.new-writer.ensures.same in
+    text-written c.close-written.result.now (config_text plan c.args.table.now.rows) c.written_text.result
+    (ap (λ list. list.items) c.new-reported.ensures.writer ∙ c.new.ensures.items)
+    c.new-writer.ensures.opens puts c.close-written.ensures.closes c.written_text.ensures.ok (search rules) (search rules)

@@ -6,7 +6,7 @@ use Rattle.cqf_desk.proofs.same.are_same_entries.Goals as goal
 pub returns-then-not-is_same_entry : goal.returns-then-not-is_same_entry
 returns-then-not-is_same_entry c = (
   λ none. absurd cc,
-  λ same. sym c.if-not-is_same_entry.true ∙ c.is_same_entry.ensures.1 (alike_at recorded_of c.args.these.now c.args.those.now c.loop-place.place
-      c.index-these-place.result c.index-those-place.result c.loop-place-test.true (omega (arith, c.loop-place-test.true, c.if-these-those.false))
-      c.index-these-place.is c.index-those-place.is same),
+  λ same. sym c.if-not-is_same_entry.true ∙ c.is_same_entry.ensures.1 (alike_at recorded_of c.args.these.now c.args.those.now c.loop-index.index
+      c.index-these-index.result c.index-those-index.result c.loop-index-test.true (omega (arith, c.loop-index-test.true, c.if-these-those.false))
+      c.index-these-index.is c.index-those-index.is same),
 )

@@ -7,6 +7,6 @@ pub returns-then-not-is_same_row : goal.returns-then-not-is_same_row
 returns-then-not-is_same_row c = (
   λ none. absurd cc,
   λ same. sym c.if-not-is_same_row.true ∙ c.is_same_row.ensures.1 (c.deref.ensures ∙ alike_at (λ row. arc_value row) c.args.these.now c.args.those.now
-      c.loop-place.place c.index-these-place.result c.index-those-place.result c.loop-place-test.true
-      (omega (arith, c.loop-place-test.true, c.if-these-those.false)) c.index-these-place.is c.index-those-place.is same ∙ sym c.deref-in-loop-place.ensures),
+      c.loop-index.index c.index-these-index.result c.index-those-index.result c.loop-index-test.true
+      (omega (arith, c.loop-index-test.true, c.if-these-those.false)) c.index-these-index.is c.index-those-index.is same ∙ sym c.deref-in-loop-index.ensures),
 )

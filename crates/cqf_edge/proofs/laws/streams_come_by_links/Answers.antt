@@ -1,4 +1,4 @@
-use Rattle.cqf_edge.proofs.Came.{edges_are_by_places}
+use Rattle.cqf_edge.proofs.Came.{edges_are_by_indices}
 use Rattle.cqf_edge.proofs.ComeByLinks.{others_begin_at_edges, streams_come_by_links}
 use Rattle.cqf_edge.proofs.laws.streams_come_by_links.Goals as goal
 
@@ -8,5 +8,5 @@ returns-clause-come c = streams_come_by_links
 pub returns-clause-others : goal.returns-clause-others
 returns-clause-others c = others_begin_at_edges
 
-pub returns-clause-places : goal.returns-clause-places
-returns-clause-places c = edges_are_by_places
+pub returns-clause-indices : goal.returns-clause-indices
+returns-clause-indices c = edges_are_by_indices

@@ -9,8 +9,8 @@ passages_of-requires-clause-each c = ap length c.as_slice-all_bounds.ensures.val
 pub times_of-requires : goal.times_of-requires
 times_of-requires c = All-same IsPassageOne _ _ c.as_slice-all_passages.ensures.value c.in_ok-passages.ensures.ready
 
-pub streams_behind-requires-clause-ready : goal.streams_behind-requires-clause-ready
-streams_behind-requires-clause-ready c = All-same IsPassageOne _ _ c.as_slice-all_passages.ensures.value c.in_ok-passages.ensures.ready
+pub streams_at_edge-requires-clause-ready : goal.streams_at_edge-requires-clause-ready
+streams_at_edge-requires-clause-ready c = All-same IsPassageOne _ _ c.as_slice-all_passages.ensures.value c.in_ok-passages.ensures.ready
 
 pub full_station-full-requires : goal.full_station-full-requires
 full_station-full-requires c = ap length c.as_slice-all_bounds.ensures.value ∙ c.in_ok-bounds.ensures.each

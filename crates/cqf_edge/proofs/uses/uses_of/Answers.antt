@@ -24,12 +24,12 @@ loop-one-preserved c =
           let h = w.in-Some.handed in
           let old = w.index_mut.result.now in
           let new = w.put.new.self in
-          let there : h.place < length links = c.requires k item inside h (sym c.one-item.is ∙ w.in-Some.is) in
-          let within : h.place < length uses = omega (arith, there, c.loop-one.invariant.each) in
+          let there : h.index < length links = c.requires k item inside h (sym c.one-item.is ∙ w.in-Some.is) in
+          let within : h.index < length uses = omega (arith, there, c.loop-one.invariant.each) in
           let made = used_more links (take k all) uses h old new c.loop-one.invariant
-          (slice_get_read uses (length uses) h.place old refl within w.index_mut.ensures.value) within w.in_ok-put.ensures.other w.in_ok-put.ensures.promises in
+          (slice_get_read uses (length uses) h.index old refl within w.index_mut.ensures.value) within w.in_ok-put.ensures.other w.in_ok-put.ensures.promises in
           subst (λ (v : Vec AccessUse Global). AreUses links (take (k + 1) all) v.items) (sym w.uses-is)
-          (subst (λ (xs : List (Option Handed)). AreUses links xs (set uses h.place new))
+          (subst (λ (xs : List (Option Handed)). AreUses links xs (set uses h.index new))
           (sym (next ∙ ap (λ (x : Option Handed). take k all ++ x ∷ []) w.in-Some.is)) made)
       | in_default w ↦
           subst (λ (v : Vec AccessUse Global). AreUses links (take (k + 1) all) v.items) (sym w.uses-is)

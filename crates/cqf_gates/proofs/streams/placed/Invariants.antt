@@ -2,8 +2,8 @@
 use Rattle.std.proofs.Common.{◌≡◌, length, take}
 use Rattle.cqf_gates.proofs.streams.placed.Given as goal
 
-abbrev pub invariant-loop-place : goal.invariant-loop-place
-invariant-loop-place l = record {
-  places : length l.places ≡ 16;
-  placed : take l.place l.places ≡ take l.place l.entries;
+abbrev pub invariant-loop-index : goal.invariant-loop-index
+invariant-loop-index l = record {
+  indices : length l.indices ≡ 16;
+  placed : take l.index l.indices ≡ take l.index l.entries;
 }

@@ -30,8 +30,8 @@ returns-clause-laid c =
     let three = c.tie.new.branches.items in
     let from : c.len-from.result ≡ length before = omega (arith, c.len-from.ensures) in
     let groups = c.lay_groups.new.groups.items in
-    let told = subst (λ (gs : List Group). AreTied two three c.len-from.result (length two) gs) c.as_slice.ensures.value c.tie.ensures in
-    let tied = subst (λ n. AreTied two three n (length two) groups) from told in
+    let reported = subst (λ (gs : List Group). AreTied two three c.len-from.result (length two) gs) c.as_slice.ensures.value c.tie.ensures in
+    let tied = subst (λ n. AreTied two three n (length two) groups) from reported in
     subst (λ n. IsLaidBranch tree before three (record { first = n; many = c.in_ok-many.many })) (sym from)
     (laid tree before c.lay_group.new.branches.items two c.in_ok-many.many c.lay_groups.new.groups.items c.requires.few c.requires.links c.in_ok-many.ensures
     c.in_ok-lay_groups.ensures three tied)

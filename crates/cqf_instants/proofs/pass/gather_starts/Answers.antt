@@ -15,6 +15,6 @@ loop-starts-preserved c =
           c.in_ok-extend_from_slice.ensures.items
           ∙ ap₂ (λ (xs ys : List Started). xs ++ ys) (so_far.gathered given is)
           (c.starts.ensures ∙ next.starts given (subst (IsBasisOf given) (sym so_far.basis) is))
-          ∙ starts_more given c.loop-starts.pass.told
-          ∙ ap (λ (n : ℕ). starts_of given.run.domain n given.net.carried) (sym next.told);
+          ∙ starts_more given c.loop-starts.pass.reported
+          ∙ ap (λ (n : ℕ). starts_of given.run.domain n given.net.carried) (sym next.reported);
     }

@@ -9,8 +9,8 @@ abbrev pub invariant-loop-starts : goal.invariant-loop-starts
 invariant-loop-starts l = record {
   basis : l.pass.basis ≡ l.initial.pass.basis;
   gathered : (given : Given) → IsBasisOf given l.initial.pass.basis →
-      l.starts.items ≡ starts_of given.run.domain l.pass.told given.net.carried;
+      l.starts.items ≡ starts_of given.run.domain l.pass.reported given.net.carried;
 }
 
 abbrev pub decreases-loop-starts : goal.decreases-loop-starts
-decreases-loop-starts l = l.pass.basis.cycles - l.pass.told
+decreases-loop-starts l = l.pass.basis.cycles - l.pass.reported

@@ -27,8 +27,8 @@ feed_links-requires-clause-starts c =
     c.cycle_time-cycle_time.ensures.accepted c.requires.starts) c.links-links.ensures
 
 -- a port may take what it is given
-pub tell_links-requires-clause-taken : goal.tell_links-requires-clause-taken
-tell_links-requires-clause-taken c =
+pub report_links-requires-clause-taken : goal.report_links-requires-clause-taken
+report_links-requires-clause-taken c =
     let d = c.args.domain.now in
     let r : AreOfRun d c.args.cycles c.args.starts.now = some_run c.tables_are_orderly.ensures.orderly c.legal_network_exists.ensures d c.args.cycles
     c.args.starts.now c.cycle_time-cycle_time.ensures.accepted c.requires.starts in
@@ -36,7 +36,7 @@ tell_links-requires-clause-taken c =
     c.in_ok-frames.ensures ∙ ap (by_instant c.args.background.now)
     ((λ i. c.from.ensures i * c.cycle_time-cycle_time.ensures.value i)) in
     λ l inside. all_taken d c.args.cycles r.carried c.args.starts.now c.args.background.now c.in_ok-frames.frames.items (lists_of c.in_ok-lists.lists.items)
-    c.cycle_time-cycle_time.ensures.accepted (omega (arith, c.ranges.cycles.fits)) r.turn r.are c.requires.background by
+    c.cycle_time-cycle_time.ensures.accepted (omega (arith, c.ranges.cycles.fits)) r.in_turn r.are c.requires.background by
     (subst (λ (xs : List Backed). AreFed xs c.args.starts.now (length d.links) (lists_of c.in_ok-lists.lists.items)) c.as_slice.ensures.value
     (subst (λ k. AreFed c.as_slice.result.now c.args.starts.now k (lists_of c.in_ok-lists.lists.items)) c.links-links.ensures c.in_ok-lists.ensures))
     l (omega (arith, inside, length-map c.in_ok-lists.lists.items (λ (v : Vec Arrival Global). v.items)))

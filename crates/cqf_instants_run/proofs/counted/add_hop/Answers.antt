@@ -9,8 +9,8 @@ pub overflow_add-column : goal.overflow_add-column
 overflow_add-column c =
     let columns = c.args.columns.now.items in
     let d = c.index_mut-column.result.now in
-    let is_link : c.args.link < length columns = omega (arith, c.if-place-len.true, c.from-place.ensures, c.len.ensures) in
-    let old : d ≡ get_or columns c.args.link d = c.index_mut-column.ensures.value ∙ ap (λ k. get_or columns k d) c.from-place.ensures in
+    let is_link : c.args.link < length columns = omega (arith, c.if-index-len.true, c.from-index.ensures, c.len.ensures) in
+    let old : d ≡ get_or columns c.args.link d = c.index_mut-column.ensures.value ∙ ap (λ k. get_or columns k d) c.from-index.ensures in
     omega (
       arith,
       frame_fits c.args.cycles columns c.args.link c.args.cycle c.args.octets is_link c.if-cycle-cycles.true c.requires.room d,
@@ -21,8 +21,8 @@ pub index_mut-requires : goal.index_mut-requires
 index_mut-requires c =
     let columns = c.args.columns.now.items in
     let d = c.index_mut-column.result.now in
-    let is_link : c.args.link < length columns = omega (arith, c.if-place-len.true, c.from-place.ensures, c.len.ensures) in
-    let old : d ≡ get_or columns c.args.link d = c.index_mut-column.ensures.value ∙ ap (λ k. get_or columns k d) c.from-place.ensures in
+    let is_link : c.args.link < length columns = omega (arith, c.if-index-len.true, c.from-index.ensures, c.len.ensures) in
+    let old : d ≡ get_or columns c.args.link d = c.index_mut-column.ensures.value ∙ ap (λ k. get_or columns k d) c.from-index.ensures in
     omega (
       arith,
       c.requires.width c.if-cycle-cycles.true c.args.link is_link,
@@ -34,8 +34,8 @@ pub overflow_add-index_mut : goal.overflow_add-index_mut
 overflow_add-index_mut c =
     let columns = c.args.columns.now.items in
     let d = c.index_mut-column.result.now in
-    let is_link : c.args.link < length columns = omega (arith, c.if-place-len.true, c.from-place.ensures, c.len.ensures) in
-    let old : d ≡ get_or columns c.args.link d = c.index_mut-column.ensures.value ∙ ap (λ k. get_or columns k d) c.from-place.ensures in
+    let is_link : c.args.link < length columns = omega (arith, c.if-index-len.true, c.from-index.ensures, c.len.ensures) in
+    let old : d ≡ get_or columns c.args.link d = c.index_mut-column.ensures.value ∙ ap (λ k. get_or columns k d) c.from-index.ensures in
     let inside : c.args.cycle < length d.octets.items =
     omega (
       arith,
@@ -51,14 +51,14 @@ overflow_add-index_mut c =
       get_or_default d.octets.items c.args.cycle c.index_mut.result.now 0 inside,
     )
 
-pub returns-then-place-len : goal.returns-then-place-len
-returns-then-place-len c =
+pub returns-then-index-len : goal.returns-then-index-len
+returns-then-index-len c =
     let columns = c.args.columns.now.items in
     let link = c.args.link in
     let cycle = c.args.cycle in
     let d = c.index_mut-column.result.now in
-    let is_link : link < length columns = omega (arith, c.if-place-len.true, c.from-place.ensures, c.len.ensures) in
-    let old : d ≡ get_or columns link d = c.index_mut-column.ensures.value ∙ ap (λ k. get_or columns k d) c.from-place.ensures in
+    let is_link : link < length columns = omega (arith, c.if-index-len.true, c.from-index.ensures, c.len.ensures) in
+    let old : d ≡ get_or columns link d = c.index_mut-column.ensures.value ∙ ap (λ k. get_or columns k d) c.from-index.ensures in
     let inside : cycle < length d.octets.items =
     omega (
       arith,
@@ -69,8 +69,8 @@ returns-then-place-len c =
     let cell : c.index_mut.result.now ≡ get_or d.octets.items cycle 0 =
     c.index_mut.ensures.value ∙ get_or_default d.octets.items cycle c.index_mut.result.now 0 inside in
     let new : Column = record { frames = d.frames + 1; octets = with_item d.octets cycle (c.index_mut.result.now + c.args.octets) } in
-    adds_hop c.args.cycles columns link cycle c.args.octets is_link c.if-cycle-cycles.true d new (set columns c.from-place.result new)
-    (ap (λ k. set columns k new) c.from-place.ensures)
+    adds_hop c.args.cycles columns link cycle c.args.octets is_link c.if-cycle-cycles.true d new (set columns c.from-index.result new)
+    (ap (λ k. set columns k new) c.from-index.ensures)
     (omega (arith, inside, ap (λ (z : Column). length z.octets.items) old))
     (ap (λ (z : Column). z.frames + 1) old)
     (ap (λ n. set d.octets.items cycle (n + c.args.octets)) cell

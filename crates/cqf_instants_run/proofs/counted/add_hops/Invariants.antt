@@ -8,5 +8,5 @@ use Rattle.cqf_instants_run.proofs.counted.add_hops.Given as goal
 abbrev pub invariant-loop-hop : goal.invariant-loop-hop
 invariant-loop-hop l =
     AddsFrame l.cycles l.initial.columns.items l.columns.items
-    (λ link. sum_by (λ (hop : Hop). counts_frames link l.cycles hop.link (l.cycle.0 + hop.depth) l.octets) (take l.hop-index l.hops))
-    (λ link cycle. sum_by (λ (hop : Hop). counts_in link cycle hop.link (l.cycle.0 + hop.depth) l.octets) (take l.hop-index l.hops))
+    (λ link. sum_by (λ (hop : Hop). counts_frames link l.cycles hop.link (l.cycle.0 + hop.hop_number) l.octets) (take l.hop-index l.hops))
+    (λ link cycle. sum_by (λ (hop : Hop). counts_in link cycle hop.link (l.cycle.0 + hop.hop_number) l.octets) (take l.hop-index l.hops))

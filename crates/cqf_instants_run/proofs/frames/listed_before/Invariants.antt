@@ -4,5 +4,5 @@ use Rattle.cqf_model.specs.Network.{numbered_background}
 use Rattle.cqf_instants_run.specs.Frames.{is_early}
 use Rattle.cqf_instants_run.proofs.frames.listed_before.Given as goal
 
-abbrev pub invariant-loop-place : goal.invariant-loop-place
-invariant-loop-place l = l.frames.items ≡ filter (is_early l.end.0) (numbered_background (take l.place l.background))
+abbrev pub invariant-loop-index : goal.invariant-loop-index
+invariant-loop-index l = l.frames.items ≡ filter (is_early l.end.0) (numbered_background (take l.index l.background))

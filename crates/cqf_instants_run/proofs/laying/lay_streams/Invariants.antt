@@ -4,4 +4,4 @@ use Rattle.cqf_instants_run.specs.Laid.{AreLaid}
 use Rattle.cqf_instants_run.proofs.laying.lay_streams.Given as goal
 
 abbrev pub invariant-loop-row : goal.invariant-loop-row
-invariant-loop-row l = AreLaid l.cycles l.rows l.row-index l.branches.items l.groups.items × (length l.behind.items ≡ 4096)
+invariant-loop-row l = AreLaid l.cycles l.rows l.row-index l.branches.items l.groups.items × (length l.following.items ≡ 4096)

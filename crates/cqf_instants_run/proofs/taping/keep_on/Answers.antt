@@ -5,7 +5,7 @@ use Rattle.cqf_model.specs.declared.ports.Start.{Start}
 use Rattle.cqf_port.specs.PortState.{AreTaken}
 use Rattle.cqf_trace.specs.declared.trace.Trace.{Trace}
 use Rattle.cqf_instants_run.proofs.Feeds.{some_in}
-use Rattle.cqf_instants_run.proofs.Traces.{HasBesides, all_taken, given_behind, none_besides, none_more, nothing_taken, one_besides}
+use Rattle.cqf_instants_run.proofs.Traces.{HasBesides, all_taken, given_after, none_besides, none_more, nothing_taken, one_besides}
 use Rattle.cqf_instants_run.proofs.taping.keep_on.Goals as goal
 use Rattle.cqf_instants_run.proofs.taping.keep_on.Goals.{then-is_low+in_ok-push, else-is_low}
 
@@ -15,7 +15,7 @@ starts_of_port-requires-clause-taken c =
     let some : 0 < length c.args.frames.items =
     omega (arith, c.args.frames.ok.0, some_in c.args.frames.len (sym c.is_empty.ensures ∙ c.if-is_empty.false)) in
     subst (λ (xs : List Arrival). AreTaken xs)
-    (sym (given_behind c.args.domain.now c.args.frames.items c.put_marks.new.arrivals.items c.as_slice.result.now c.args.trace.now.starts.items some
+    (sym (given_after c.args.domain.now c.args.frames.items c.put_marks.new.arrivals.items c.as_slice.result.now c.args.trace.now.starts.items some
     c.in_ok-put_marks.ensures c.as_slice.ensures.value))
     c.requires.taken
 
@@ -51,6 +51,6 @@ returns c =
     omega (arith, c.args.frames.ok.0, some_in c.args.frames.len (sym c.is_empty.ensures ∙ c.if-is_empty.false)) in
     let all = take_all c.loop-start.start-index c.as_slice-start-items.result.now c.loop-start-test.false ∙ c.as_slice-start-items.ensures.value in
     all_taken c.args.domain.now c.args.end.0 c.args.frames.items c.args.trace.now c.loop-start.trace c.put_marks.new.arrivals.items c.in_ok-made.made.items
-    (given_behind c.args.domain.now c.args.frames.items c.put_marks.new.arrivals.items c.as_slice.result.now c.args.trace.now.starts.items some
+    (given_after c.args.domain.now c.args.frames.items c.put_marks.new.arrivals.items c.as_slice.result.now c.args.trace.now.starts.items some
     c.in_ok-put_marks.ensures c.as_slice.ensures.value)
     c.in_ok-made.ensures (subst (λ (xs : List Start). HasBesides xs c.args.trace.now c.loop-start.trace) all c.loop-start.invariant)

@@ -20,24 +20,24 @@ loop-frames-init c = (
 )
 
 -- the next trace is there
-pub bounds-traces-place : goal.bounds-traces-place
-bounds-traces-place c =
+pub bounds-traces-index : goal.bounds-traces-index
+bounds-traces-index c =
     let all : c.loop-frames.yielded ++ c.in-Some.frames ∷ into_iter_items c.next.new.self ≡ c.args.lists.items =
     ap (λ xs. c.loop-frames.yielded ++ xs) (sym c.in-Some.ensures.steps.0) ∙ c.loop-frames.invariant.0 in
-    let is_link : c.loop-frames.place < length c.args.domain.now.links =
-    omega (arith, below_all c.loop-frames.yielded c.in-Some.frames _ c.args.lists.items c.loop-frames.place all c.loop-frames.invariant.1, c.requires.one_each)
+    let is_link : c.loop-frames.index < length c.args.domain.now.links =
+    omega (arith, below_all c.loop-frames.yielded c.in-Some.frames _ c.args.lists.items c.loop-frames.index all c.loop-frames.invariant.1, c.requires.one_each)
     in
-    next_there c.args.domain.now c.args.end.0 (λ k. get_or (lists_of c.args.lists.items) k []) c.args.traces.now c.loop-frames.traces c.loop-frames.place
+    next_there c.args.domain.now c.args.end.0 (λ k. get_or (lists_of c.args.lists.items) k []) c.args.traces.now c.loop-frames.traces c.loop-frames.index
     c.loop-frames.invariant.2 c.requires.links is_link
 
 -- and its offset fits
-pub offset_bounds-traces-place : goal.offset_bounds-traces-place
-offset_bounds-traces-place c =
+pub offset_bounds-traces-index : goal.offset_bounds-traces-index
+offset_bounds-traces-index c =
     let all : c.loop-frames.yielded ++ c.in-Some.frames ∷ into_iter_items c.next.new.self ≡ c.args.lists.items =
     ap (λ xs. c.loop-frames.yielded ++ xs) (sym c.in-Some.ensures.steps.0) ∙ c.loop-frames.invariant.0 in
     omega (
       arith,
-      below_all c.loop-frames.yielded c.in-Some.frames _ c.args.lists.items c.loop-frames.place all c.loop-frames.invariant.1,
+      below_all c.loop-frames.yielded c.in-Some.frames _ c.args.lists.items c.loop-frames.index all c.loop-frames.invariant.1,
       c.requires.few,
     )
 
@@ -46,10 +46,10 @@ pub keep_on-requires-clause-link : goal.keep_on-requires-clause-link
 keep_on-requires-clause-link c =
     let all : c.loop-frames.yielded ++ c.in-Some.frames ∷ into_iter_items c.next.new.self ≡ c.args.lists.items =
     ap (λ xs. c.loop-frames.yielded ++ xs) (sym c.in-Some.ensures.steps.0) ∙ c.loop-frames.invariant.0 in
-    let is_link : c.loop-frames.place < length c.args.domain.now.links =
-    omega (arith, below_all c.loop-frames.yielded c.in-Some.frames _ c.args.lists.items c.loop-frames.place all c.loop-frames.invariant.1, c.requires.one_each)
+    let is_link : c.loop-frames.index < length c.args.domain.now.links =
+    omega (arith, below_all c.loop-frames.yielded c.in-Some.frames _ c.args.lists.items c.loop-frames.index all c.loop-frames.invariant.1, c.requires.one_each)
     in
-    next_link c.args.domain.now c.args.end.0 (λ k. get_or (lists_of c.args.lists.items) k []) c.args.traces.now c.loop-frames.traces c.loop-frames.place
+    next_link c.args.domain.now c.args.end.0 (λ k. get_or (lists_of c.args.lists.items) k []) c.args.traces.now c.loop-frames.traces c.loop-frames.index
     c.loop-frames.invariant.2 c.requires.links is_link _
 
 -- its port may take what it is given
@@ -57,35 +57,35 @@ pub keep_on-requires-clause-taken : goal.keep_on-requires-clause-taken
 keep_on-requires-clause-taken c =
     let d = c.args.domain.now in
     let front = c.loop-frames.yielded in
-    let place = c.loop-frames.place in
+    let index = c.loop-frames.index in
     let rest = into_iter_items c.next.new.self in
     let all : front ++ c.in-Some.frames ∷ rest ≡ c.args.lists.items =
     ap (λ xs. front ++ xs) (sym c.in-Some.ensures.steps.0) ∙ c.loop-frames.invariant.0 in
-    let within : place < length c.args.lists.items = below_all front c.in-Some.frames rest c.args.lists.items place all c.loop-frames.invariant.1 in
-    let is_link : place < length d.links = omega (arith, within, c.requires.one_each) in
+    let within : index < length c.args.lists.items = below_all front c.in-Some.frames rest c.args.lists.items index all c.loop-frames.invariant.1 in
+    let is_link : index < length d.links = omega (arith, within, c.requires.one_each) in
     subst AreTaken
     (ap₂ (λ (xs : List Arrival) (ms : List Mark). fed xs (map (arrival_of_mark d) ms))
-    (list_there front c.in-Some.frames rest c.args.lists.items place all c.loop-frames.invariant.1)
-    (sym (next_marks d c.args.end.0 (λ k. get_or (lists_of c.args.lists.items) k []) c.args.traces.now c.loop-frames.traces place c.loop-frames.invariant.2
+    (list_there front c.in-Some.frames rest c.args.lists.items index all c.loop-frames.invariant.1)
+    (sym (next_marks d c.args.end.0 (λ k. get_or (lists_of c.args.lists.items) k []) c.args.traces.now c.loop-frames.traces index c.loop-frames.invariant.2
     c.requires.links is_link _)))
-    (c.requires.taken place within)
+    (c.requires.taken index within)
 
 -- one more trace has its background frames
 pub loop-frames-preserved : goal.loop-frames-preserved
 loop-frames-preserved c =
     let d = c.args.domain.now in
     let front = c.loop-frames.yielded in
-    let place = c.loop-frames.place in
+    let index = c.loop-frames.index in
     let rest = into_iter_items c.next.new.self in
     let all : front ++ c.in-Some.frames ∷ rest ≡ c.args.lists.items =
     ap (λ xs. front ++ xs) (sym c.in-Some.ensures.steps.0) ∙ c.loop-frames.invariant.0 in
-    let is_link : place < length d.links =
-    omega (arith, below_all front c.in-Some.frames rest c.args.lists.items place all c.loop-frames.invariant.1, c.requires.one_each) in (
+    let is_link : index < length d.links =
+    omega (arith, below_all front c.in-Some.frames rest c.args.lists.items index all c.loop-frames.invariant.1, c.requires.one_each) in (
       append_assoc front (c.in-Some.frames ∷ []) rest ∙ all,
       omega (arith, length-append front (c.in-Some.frames ∷ []), c.loop-frames.invariant.1),
-      next_has d c.args.end.0 (λ k. get_or (lists_of c.args.lists.items) k []) c.args.traces.now c.loop-frames.traces place c.loop-frames.invariant.2
-          c.requires.links is_link c.in-Some.frames.items c.index-traces-place.result _
-          (list_there front c.in-Some.frames rest c.args.lists.items place all c.loop-frames.invariant.1) c.in_ok-keep_on.ensures,
+      next_has d c.args.end.0 (λ k. get_or (lists_of c.args.lists.items) k []) c.args.traces.now c.loop-frames.traces index c.loop-frames.invariant.2
+          c.requires.links is_link c.in-Some.frames.items c.index-traces-index.result _
+          (list_there front c.in-Some.frames rest c.args.lists.items index all c.loop-frames.invariant.1) c.in_ok-keep_on.ensures,
     )
 
 -- in the end all have them
@@ -93,7 +93,7 @@ pub returns : goal.returns
 returns c =
     let none = sym c.loop-frames.frames-iterator.rest.ok.0 ∙ c.in-None.ensures.steps.0 in
     let many = length-append c.loop-frames.yielded (into_iter_items c.loop-frames.frames-iterator) in
-    all_take c.args.domain.now c.args.end.0 (λ k. get_or (lists_of c.args.lists.items) k []) c.args.traces.now c.loop-frames.traces c.loop-frames.place
+    all_take c.args.domain.now c.args.end.0 (λ k. get_or (lists_of c.args.lists.items) k []) c.args.traces.now c.loop-frames.traces c.loop-frames.index
     c.loop-frames.invariant.2
     (omega (
       arith,

@@ -8,5 +8,5 @@ use Rattle.cqf_instants_run.proofs.taping.keep_on_each.Given as goal
 abbrev pub invariant-loop-frames : goal.invariant-loop-frames
 invariant-loop-frames l =
     (l.yielded ++ into_iter_items l.frames-iterator ≡ l.fn.lists.items)
-    × (length l.yielded ≡ l.place)
-    × FirstTake l.domain l.end.0 (λ k. get_or (lists_of l.fn.lists.items) k []) l.fn.traces l.traces l.place
+    × (length l.yielded ≡ l.index)
+    × FirstTake l.domain l.end.0 (λ k. get_or (lists_of l.fn.lists.items) k []) l.fn.traces l.traces l.index

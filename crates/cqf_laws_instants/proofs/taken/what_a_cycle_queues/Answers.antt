@@ -1,4 +1,4 @@
-use Rattle.cqf_laws_instants.proofs.Behind.{covering_covers, cycle_queues, sorted_queued}
+use Rattle.cqf_laws_instants.proofs.After.{covering_covers, cycle_queues, sorted_queued}
 use Rattle.cqf_laws_instants.proofs.taken.what_a_cycle_queues.Goals as goal
 
 pub returns-clause-covering : goal.returns-clause-covering

@@ -8,20 +8,20 @@ use Rattle.cqf_network.proofs.repeats.find_repeat.Goals as goal
 pub returns-then-holds-clause-first : goal.returns-then-holds-clause-first
 returns-then-holds-clause-first c =
     let pairs = c.args.pairs.now in
-    let i = c.loop-place.place in
+    let i = c.loop-index.index in
     let none : End × End = (Bridge 0, Bridge 0) in
     let pair = get_or pairs i none in
-    repeat_here pairs i pair _ _ (omega arith) (get_or_default pairs i none pair (omega arith)) c.loop-place.invariant.0 c.loop-place.invariant.1
+    repeat_here pairs i pair _ _ (omega arith) (get_or_default pairs i none pair (omega arith)) c.loop-index.invariant.0 c.loop-index.invariant.1
     (sym c.holds.ensures ∙ c.if-holds.true)
 
-pub loop-place-preserved : goal.loop-place-preserved
-loop-place-preserved c =
+pub loop-index-preserved : goal.loop-index-preserved
+loop-index-preserved c =
     let pairs = c.args.pairs.now in
-    let i = c.loop-place.place in
+    let i = c.loop-index.index in
     let none : End × End = (Bridge 0, Bridge 0) in
     let pair = get_or pairs i none in
     let is = get_or_default pairs i none pair (omega arith) in
-    let inv = c.loop-place.invariant in (
+    let inv = c.loop-index.invariant in (
       c.in_ok-hold.ensures ∙ held_more pairs i pair _ _ (omega arith) is inv.0 inv.1,
       repeat_later pairs i pair _ _ (omega arith) is inv.0 inv.1 (sym c.holds.ensures ∙ c.if-holds.false),
     )

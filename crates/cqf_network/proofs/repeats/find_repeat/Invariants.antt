@@ -3,7 +3,7 @@ use Rattle.std.proofs.Common.{◌≡◌, [], drop, map, take}
 use Rattle.cqf_network.specs.Edges.{first_repeat, pair_of}
 use Rattle.cqf_network.proofs.repeats.find_repeat.Given as goal
 
-abbrev pub invariant-loop-place : goal.invariant-loop-place
-invariant-loop-place l =
-    (map pair_of l.held.keys ≡ map pair_of (take l.place l.pairs))
-    × (first_repeat (map pair_of (take l.place l.pairs)) (map pair_of (drop l.place l.pairs)) ≡ first_repeat [] (map pair_of l.pairs))
+abbrev pub invariant-loop-index : goal.invariant-loop-index
+invariant-loop-index l =
+    (map pair_of l.held.keys ≡ map pair_of (take l.index l.pairs))
+    × (first_repeat (map pair_of (take l.index l.pairs)) (map pair_of (drop l.index l.pairs)) ≡ first_repeat [] (map pair_of l.pairs))

@@ -3,5 +3,5 @@ use Rattle.std.proofs.Common.{◌≡◌, [], drop, take}
 use Rattle.cqf_topology.specs.DomainText.{first_taken}
 use Rattle.cqf_network.proofs.wanted.are_different.Given as goal
 
-abbrev pub invariant-loop-place : goal.invariant-loop-place
-invariant-loop-place l = first_taken (take l.place l.names) (drop l.place l.names) ≡ first_taken [] l.names
+abbrev pub invariant-loop-index : goal.invariant-loop-index
+invariant-loop-index l = first_taken (take l.index l.names) (drop l.index l.names) ≡ first_taken [] l.names

@@ -4,6 +4,6 @@ use Rattle.cqf_network_text.proofs.FilledLists.{filled_list}
 use Rattle.cqf_network_text.proofs.filling.filled_values.Given as goal
 
 -- the values so far, followed by the remaining ones with what was chosen for them, are all values with what was chosen
-abbrev pub invariant-loop-place : goal.invariant-loop-place
-invariant-loop-place l =
-    map view l.all.items ++ filled_list (drop l.place l.filled) (map view (drop l.place l.values)) ≡ filled_list l.filled (map view l.values)
+abbrev pub invariant-loop-index : goal.invariant-loop-index
+invariant-loop-index l =
+    map view l.all.items ++ filled_list (drop l.index l.filled) (map view (drop l.index l.values)) ≡ filled_list l.filled (map view l.values)

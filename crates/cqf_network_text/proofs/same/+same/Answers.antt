@@ -11,13 +11,13 @@ one_more : (vs : List Value) (i : ℕ) (v : Value) → i < length vs → v ≡ g
 one_more vs i v inside at =
     ap items_view (take_more vs i v inside ∙ ap (λ x. take i vs ++ x ∷ []) (sym at)) ∙ items_view-push (take i vs) v
 
-pub are_same-loop-place-preserved : goal.are_same-loop-place-preserved
-are_same-loop-place-preserved t c =
-    let i = c.loop-place.place in
-    let at : c.index-rest-place.result ≡ get_or c.args.others.now.items i c.index-rest-place.result =
-    c.index-rest-place.is ∙ ap (λ vs. get_or vs i c.index-rest-place.result) c.as_slice-rest.ensures.value in
+pub are_same-loop-index-preserved : goal.are_same-loop-index-preserved
+are_same-loop-index-preserved t c =
+    let i = c.loop-index.index in
+    let at : c.index-rest-index.result ≡ get_or c.args.others.now.items i c.index-rest-index.result =
+    c.index-rest-index.is ∙ ap (λ vs. get_or vs i c.index-rest-index.result) c.as_slice-rest.ensures.value in
     let inside : i < length c.args.items.now.items = omega arith in
     let inside_other : i < length c.args.others.now.items = omega arith in
     one_more c.args.items.now.items i c.index.result.now inside c.index.ensures
-    ∙ (λ j. push_item (c.loop-place.invariant j) (c.is_same.ensures c.if-not-is_same.false j))
-    ∙ sym (one_more c.args.others.now.items i c.index-rest-place.result inside_other at)
+    ∙ (λ j. push_item (c.loop-index.invariant j) (c.is_same.ensures c.if-not-is_same.false j))
+    ∙ sym (one_more c.args.others.now.items i c.index-rest-index.result inside_other at)

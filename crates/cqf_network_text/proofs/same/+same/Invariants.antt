@@ -2,8 +2,8 @@ use Rattle.std.proofs.Common.{◌≡◌, take}
 use Rattle.toml.specs.View.{items_view, members_view}
 use Rattle.cqf_network_text.proofs.same.+same.Given as goal
 
-abbrev pub invariant-are_same-loop-place : goal.invariant-are_same-loop-place
-invariant-are_same-loop-place l = items_view (take l.place l.items.items) ≡ items_view (take l.place l.others.items)
+abbrev pub invariant-are_same-loop-index : goal.invariant-are_same-loop-index
+invariant-are_same-loop-index l = items_view (take l.index l.items.items) ≡ items_view (take l.index l.others.items)
 
 -- where what is still to come is the same, all is
 abbrev pub invariant-is_same_table-loop-key : goal.invariant-is_same_table-loop-key

@@ -1,5 +1,5 @@
 use Rattle.std.proofs.Common.{◌∙◌, List, ap, map, sym, subst}
-use Rattle.cqf_model.specs.Traffic.{Received}
+use Rattle.cqf_model.specs.Policing.{Received}
 use Rattle.cqf_laws_cycle.specs.Gathered.{IsInOrderOf}
 use Rattle.cqf_bridge.specs.Taking.{gathered_by, received_as}
 use Rattle.cqf_bridge.specs.Agenda.{offers_listed_at}

@@ -8,14 +8,14 @@ pub pass_one-requires : goal.pass_one-requires
 pass_one-requires c =
     let before = c.args.bridges.now.items in
     let s = c.index_mut.result.now in
-    let inside : c.loop-place.place < length before = omega (arith, c.loop-place-test.true, c.len-place-end.ensures) in
-    let same : s ≡ get_or before c.loop-place.place s =
+    let inside : c.loop-index.index < length before = omega (arith, c.loop-index-test.true, c.len-index-end.ensures) in
+    let same : s ≡ get_or before c.loop-index.index s =
     c.index_mut.ensures.value
-    ∙ next_is (driven_past c.args.cycle.0) before c.loop-place.bridges.items c.loop-place.place inside c.loop-place.invariant s in
-    c.requires s (subst (Contains before) (sym same) (Contains-get_or before c.loop-place.place s inside))
+    ∙ next_is (driven_past c.args.cycle.0) before c.loop-index.bridges.items c.loop-index.index inside c.loop-index.invariant s in
+    c.requires s (subst (Contains before) (sym same) (Contains-get_or before c.loop-index.index s inside))
 
-pub loop-place-preserved : goal.loop-place-preserved
-loop-place-preserved c =
-    next_done (driven_past c.args.cycle.0) c.args.bridges.now.items c.loop-place.bridges.items c.loop-place.place
-    (omega (arith, c.loop-place-test.true, c.len-place-end.ensures)) c.loop-place.invariant c.index_mut.result.now c.pass_one.new.driven
+pub loop-index-preserved : goal.loop-index-preserved
+loop-index-preserved c =
+    next_done (driven_past c.args.cycle.0) c.args.bridges.now.items c.loop-index.bridges.items c.loop-index.index
+    (omega (arith, c.loop-index-test.true, c.len-index-end.ensures)) c.loop-index.invariant c.index_mut.result.now c.pass_one.new.driven
     c.index_mut.ensures.value c.in_ok-pass_one.ensures

@@ -6,10 +6,10 @@ use Rattle.cqf_plain.proofs.Received.{FirstHaveReceived}
 use Rattle.cqf_plain.proofs.receiving.receive_all.Given as goal
 
 -- the first bridges have received
-abbrev pub invariant-loop-place : goal.invariant-loop-place
-invariant-loop-place l = record {
+abbrev pub invariant-loop-index : goal.invariant-loop-index
+invariant-loop-index l = record {
   many : length l.bridges.items ≡ length l.fn.bridges.items;
   received : (run : Run) (net : Network) (of : IsCycleOf run net l.table.cycle) (is_table : IsTableOf run l.table) →
       AllStandHalfway run net l.table.cycle (all_of run net l.table.cycle) l.fn.bridges.items →
-      FirstHaveReceived run net l.table of is_table l.place l.bridges.items l.fn.drops.items l.drops.items;
+      FirstHaveReceived run net l.table of is_table l.index l.bridges.items l.fn.drops.items l.drops.items;
 }

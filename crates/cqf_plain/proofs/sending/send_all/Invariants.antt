@@ -6,9 +6,9 @@ use Rattle.cqf_plain.proofs.Sent.{FirstHaveSent}
 use Rattle.cqf_plain.proofs.sending.send_all.Given as goal
 
 -- the first bridges have sent
-abbrev pub invariant-loop-place : goal.invariant-loop-place
-invariant-loop-place l = record {
+abbrev pub invariant-loop-index : goal.invariant-loop-index
+invariant-loop-index l = record {
   many : length l.bridges.items ≡ length l.fn.bridges.items;
   sent : (run : Run) (net : Network) (of : IsCycleOf run net l.cycle.0) → AllStandBefore run net l.cycle.0 l.fn.bridges.items →
-      FirstHaveSent run net l.cycle.0 of l.place l.bridges.items l.batches.items;
+      FirstHaveSent run net l.cycle.0 of l.index l.bridges.items l.batches.items;
 }

@@ -6,5 +6,5 @@ pub loop-class-init : goal.loop-class-init
 loop-class-init c = record {
   from = omega arith;
   soon = omega arith;
-  come = λ class place below. absurd (omega arith);
+  come = λ class index below. absurd (omega arith);
 }

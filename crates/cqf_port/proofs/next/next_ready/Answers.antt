@@ -9,7 +9,7 @@ pub returns-in-Some : goal.returns-in-Some
 returns-in-Some c = record {
   later = c.events.invariant.from;
   none_before = c.events.invariant.none;
-  place = _;
+  index = _;
   chosen = c.in-Some.ensures;
 }
 

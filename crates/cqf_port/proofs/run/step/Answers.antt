@@ -24,11 +24,11 @@ returns-in-None-clause-ok c = steps_none (rules_of c.args.egress.now.schedule.no
 pub returns-in_ok-push-in-Some-clause-ok : goal.returns-in_ok-push-in-Some-clause-ok
 returns-in_ok-push-in-Some-clause-ok c =
     let goes_by = rules_of c.args.egress.now.schedule.now c.args.egress.now.rate in
-    let place = c.in-Some.place in
+    let index = c.in-Some.index in
     let free : c.args.before.idle_from.0 ≤ c.args.t.0 = search rules in
     let started = subst (λ (starts : List Transmission). IsAbreast goes_by c.args.egress.now.arrivals.now (c.args.t.0 + 1) starts c.after_start-after.result)
     (sym c.in_ok-push-in-Some.ensures.items)
-    (abreast_start goes_by c.args.egress.now.arrivals.now c.args.t.0 c.args.starts.now.items place c.args.before c.after_start-after.result
+    (abreast_start goes_by c.args.egress.now.arrivals.now c.args.t.0 c.args.starts.now.items index c.args.before c.after_start-after.result
     c.requires.taken c.requires.abreast free c.in-Some.ensures c.after_start-after.ensures) in
-    steps_start goes_by c.args.egress.now.arrivals.now c.args.t.0 place c.args.starts.now.items _ c.args.before c.after_start-after.result
+    steps_start goes_by c.args.egress.now.arrivals.now c.args.t.0 index c.args.starts.now.items _ c.args.before c.after_start-after.result
     (rate_positive c.args.egress.now.rate) c.requires.taken c.requires.abreast free c.in-Some.ensures c.after_start-after.ensures started

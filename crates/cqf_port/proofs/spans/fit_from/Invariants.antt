@@ -7,7 +7,7 @@ use Rattle.cqf_port.proofs.spans.fit_from.Given as goal
 abbrev pub invariant-loop-t : goal.invariant-loop-t
 invariant-loop-t l = record {
   later : l.fn.ahead.begins ≤ l.t;
-  force : InForce l.list l.t l.place 0;
+  force : InForce l.list l.t l.index 0;
   nowhere : FitsNowhere l.list l.class l.need l.fn.ahead.begins l.t;
 }
 

@@ -21,9 +21,9 @@ pub returns-in_err-figures-clause-err : goal.returns-in_err-figures-clause-err
 returns-in_err-figures-clause-err c =
     let d = c.args.domain.now in
     let stop = c.in_err-figures.field-0.0 in
-    let told = figures_refused c.args.network.now d (edges_text c.args.edge) c.in_ok-requests.requests.items stop c.requires c.in_ok-requests.ensures.ok
+    let reported = figures_refused c.args.network.now d (edges_text c.args.edge) c.in_ok-requests.requests.items stop c.requires c.in_ok-requests.ensures.ok
     (subst (λ (found : Result FiguresText (List ℕ)). IsRefused found stop)
     (λ i. figures_for d (map asked_paced (c.as_slice-asked.ensures.value i)) (c.as_slice-deadlines.ensures.value i) (c.as_slice-times.ensures.value i))
     c.in_err-figures.ensures.err) in
     let p = err_from_is_err_and c.from_residual-in_err-figures.result c.from_residual-in_err-figures.ensures.1 in
-    rw (p.1, p.2) told
+    rw (p.1, p.2) reported

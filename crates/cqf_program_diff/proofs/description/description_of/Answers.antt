@@ -6,9 +6,9 @@ use Rattle.cqf_program_diff.proofs.description.description_of.Goals as goal
 
 pub returns-in_err-edge-clause-err : goal.returns-in_err-edge-clause-err
 returns-in_err-edge-clause-err c =
-    let told = edges_refused c.args.limits c.args.text.now c.in_ok-network.network c.in_err-edge.field-0.0 c.in_ok-network.ensures.ok c.in_err-edge.ensures.err in
+    let reported = edges_refused c.args.limits c.args.text.now c.in_ok-network.network c.in_err-edge.field-0.0 c.in_ok-network.ensures.ok c.in_err-edge.ensures.err in
     let p = err_from_is_err_and c.from_residual-in_err-edge.result c.from_residual-in_err-edge.ensures.1 in
-    rw (p.1, p.2) told
+    rw (p.1, p.2) reported
 
 pub returns-clause-ok : goal.returns-clause-ok
 returns-clause-ok c =

@@ -1,6 +1,6 @@
 use Rattle.std.proofs.Common.{◌∙◌, List, ap, map, subst, sym}
 use Rattle.cqf_admission.specs.Asking.{asked_paced}
-use Rattle.cqf_admission.specs.Turns.{AreOfGoodPaces}
+use Rattle.cqf_admission.specs.ActiveCycles.{AreOfGoodPaces}
 use Rattle.cqf_model.specs.declared.topology.Row.{Row}
 use Rattle.cqf_program_diff.specs.Figures.{figures_of}
 use Rattle.cqf_program_diff.specs.FigureValues.{figures_text}

@@ -6,7 +6,7 @@ use Rattle.cqf_program_diff.specs.Changes.{changed_value, value_of}
 use Rattle.cqf_program_diff.specs.Kinds.{keys_of}
 use Rattle.cqf_program_diff.proofs.forms.changed_values.Given as goal
 
-abbrev pub invariant-loop-place : goal.invariant-loop-place
-invariant-loop-place l =
+abbrev pub invariant-loop-index : goal.invariant-loop-index
+invariant-loop-index l =
     string_bytes l.text
-    ≡ each_below (λ place. changed_value l.kind l.before.name (slice_index_or (keys_of l.kind) place []) (value_of l.before place) (value_of l.after place)) l.place
+    ≡ each_below (λ index. changed_value l.kind l.before.name (slice_index_or (keys_of l.kind) index []) (value_of l.before index) (value_of l.after index)) l.index

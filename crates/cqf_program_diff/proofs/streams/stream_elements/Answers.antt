@@ -11,24 +11,24 @@ use Rattle.cqf_program_diff.specs.Streams.{element_at, stream_element}
 use Rattle.cqf_program_diff.proofs.Steps.{more_streams, seen_at}
 use Rattle.cqf_program_diff.proofs.streams.stream_elements.Goals as goal
 
-pub loop-place-preserved : goal.loop-place-preserved
-loop-place-preserved c =
+pub loop-index-preserved : goal.loop-index-preserved
+loop-index-preserved c =
     let edge = c.args.edge.now in
-    let place = c.loop-place.place in
-    let flow : Flow = c.index-flows-place.result in
-    let before : List ElementText = c.loop-place.elements.items in
-    let below : place < length edge.flows.items = omega (arith, c.loop-place-test.true, ap length c.as_slice-flows.ensures.value) in
-    let here = c.index-flows-place.is ∙ ap (λ (flows : List Flow). get_or flows place flow) c.as_slice-flows.ensures.value in
-    let deadline = c.deadline_at-deadline.ensures ∙ ap (λ (all : List (Option ℕ)). slice_index_or all place None) c.as_slice-deadlines.ensures.value in
-    let handed = c.handed_at-one.ensures ∙ ap (λ (all : List (Option Handed)). slice_index_or all place None) c.as_slice-handed.ensures.value in
-    more_streams c.args.domain.now c.args.talkers.now (edges_text edge) place (flow_text flow) before _ c.loop-place.invariant
-    (seen_at flow_text edge.flows.items place flow flow below here)
+    let index = c.loop-index.index in
+    let flow : Flow = c.index-flows-index.result in
+    let before : List ElementText = c.loop-index.elements.items in
+    let below : index < length edge.flows.items = omega (arith, c.loop-index-test.true, ap length c.as_slice-flows.ensures.value) in
+    let here = c.index-flows-index.is ∙ ap (λ (flows : List Flow). get_or flows index flow) c.as_slice-flows.ensures.value in
+    let deadline = c.deadline_at-deadline.ensures ∙ ap (λ (all : List (Option ℕ)). slice_index_or all index None) c.as_slice-deadlines.ensures.value in
+    let handed = c.handed_at-one.ensures ∙ ap (λ (all : List (Option Handed)). slice_index_or all index None) c.as_slice-handed.ensures.value in
+    more_streams c.args.domain.now c.args.talkers.now (edges_text edge) index (flow_text flow) before _ c.loop-index.invariant
+    (seen_at flow_text edge.flows.items index flow flow below here)
     (c.in_ok-push.ensures.items ∙ ap (λ (element : ElementText). before ++ element ∷ [])
     (c.in_ok-element.ensures ∙ (λ i. stream_element c.args.domain.now c.args.talkers.now (deadline i) (handed i) (flow_text flow))))
 
 pub returns : goal.returns
 returns c =
     let edge = c.args.edge.now in
-    let all : c.loop-place.place ≡ length edge.flows.items = omega (arith, c.loop-place-test.false, ap length c.as_slice-flows.ensures.value) in
-    c.loop-place.invariant
+    let all : c.loop-index.index ≡ length edge.flows.items = omega (arith, c.loop-index-test.false, ap length c.as_slice-flows.ensures.value) in
+    c.loop-index.invariant
     ∙ ap (each_below (element_at c.args.domain.now c.args.talkers.now (edges_text edge))) (all ∙ sym (length-map edge.flows.items flow_text))

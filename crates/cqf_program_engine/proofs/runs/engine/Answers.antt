@@ -2,7 +2,7 @@ use Rattle.std.proofs.Common.{◌∙◌, Bool, List, ℕ, ap, false, map, subst}
 use Rattle.cqf_program_engine.specs.Edge.{reading}
 use Rattle.cqf_output.specs.Edge.{writing}
 use Rattle.cqf_program_engine.specs.Prepared.{status_after}
-use Rattle.cqf_program_engine.specs.Run.{HandsOver, TellsStop, input_of}
+use Rattle.cqf_program_engine.specs.Run.{HandsOver, WritesStop, input_of}
 use Rattle.cqf_program_threads.specs.ThreadsOutput.{EndsThreads, IsThreadsOutput}
 use Rattle.cqf_program_engine.proofs.RunLemmas.{Ends-ran, Ends-stopped, HasRun-threads, IsStopped-threads, threads_within}
 use Rattle.cqf_program_engine.proofs.runs.engine.Goals as goal
@@ -17,22 +17,22 @@ returns-in-Ok-prepare_threads g c =
     let words = map (λ word. word.now) c.args.words.now in
     let input = reading g.R.Read.remaining c.args.input.now c.run_unless_threaded.new.input in
     let threaded = c.in-Err.threaded in
-    let told = c.in-Ok-prepare_threads.ensures.ok in
-    let of_input = subst (λ (bytes : List ℕ). IsThreadsOutput threaded.limits threaded.cycles bytes told.0) (c.input_of.ensures ∙ ap (input_of words) c.bytes.ensures) told.2 in
-    let told_with = subst (λ (of_diff : Bool). HandsOver (status_after of_diff told.0) told.0
-    (writing g.O.Write.contents c.run_unless_threaded.new.output c.tell_output.new.output)
-    (writing g.F.Write.contents c.run_unless_threaded.new.faults c.tell_output.new.faults) c.tell_output.result)
-    c.in-Ok-prepare_threads.ensures.of_diff (c.tell_output.ensures told.0 told.1) in
-    let written = subst (λ before. HandsOver 0 told.0 (writing g.O.Write.contents before c.tell_output.new.output)
-    (writing g.F.Write.contents c.run_unless_threaded.new.faults c.tell_output.new.faults) c.tell_output.result)
-    c.in-Err.ensures.output told_with in
-    let all_written = subst (λ before. HandsOver 0 told.0 (writing g.O.Write.contents c.args.output.now c.tell_output.new.output)
-    (writing g.F.Write.contents before c.tell_output.new.faults) c.tell_output.result)
+    let reported = c.in-Ok-prepare_threads.ensures.ok in
+    let of_input = subst (λ (bytes : List ℕ). IsThreadsOutput threaded.limits threaded.cycles bytes reported.0) (c.input_of.ensures ∙ ap (input_of words) c.bytes.ensures) reported.2 in
+    let written_with = subst (λ (of_diff : Bool). HandsOver (status_after of_diff reported.0) reported.0
+    (writing g.O.Write.contents c.run_unless_threaded.new.output c.write_output.new.output)
+    (writing g.F.Write.contents c.run_unless_threaded.new.faults c.write_output.new.faults) c.write_output.result)
+    c.in-Ok-prepare_threads.ensures.of_diff (c.write_output.ensures reported.0 reported.1) in
+    let written = subst (λ before. HandsOver 0 reported.0 (writing g.O.Write.contents before c.write_output.new.output)
+    (writing g.F.Write.contents c.run_unless_threaded.new.faults c.write_output.new.faults) c.write_output.result)
+    c.in-Err.ensures.output written_with in
+    let all_written = subst (λ before. HandsOver 0 reported.0 (writing g.O.Write.contents c.args.output.now c.write_output.new.output)
+    (writing g.F.Write.contents before c.write_output.new.faults) c.write_output.result)
     c.in-Err.ensures.faults written in
-    Ends-ran g.R.Source.fails g.O.Sink.refuses words input (writing g.O.Write.contents c.args.output.now c.tell_output.new.output)
-    (writing g.F.Write.contents c.args.faults.now c.tell_output.new.faults) c.run_unless_threaded.new.input.may_fail c.tell_output.new.output.may_refuse
-    false told.0 c.tell_output.result c.run_unless_threaded.ensures.heard c.run_unless_threaded.ensures.behind_words
-    (HasRun-threads words input threaded told.0 c.in-Err.ensures.left of_input) all_written
+    Ends-ran g.R.Source.fails g.O.Sink.refuses words input (writing g.O.Write.contents c.args.output.now c.write_output.new.output)
+    (writing g.F.Write.contents c.args.faults.now c.write_output.new.faults) c.run_unless_threaded.new.input.may_fail c.write_output.new.output.may_refuse
+    false reported.0 c.write_output.result c.run_unless_threaded.ensures.heard c.run_unless_threaded.ensures.after_words
+    (HasRun-threads words input threaded reported.0 c.in-Err.ensures.left of_input) all_written
 
 pub returns-in-Err-prepare_threads : goal.returns-in-Err-prepare_threads
 returns-in-Err-prepare_threads g c =
@@ -41,13 +41,13 @@ returns-in-Err-prepare_threads g c =
     let threaded = c.in-Err.threaded in
     let stop = c.in-Err-prepare_threads.stop in
     let of_input = subst (λ (bytes : List ℕ). EndsThreads threaded.limits threaded.cycles bytes stop) (c.input_of.ensures ∙ ap (input_of words) c.bytes.ensures) c.in-Err-prepare_threads.ensures.err in
-    let written = subst (λ before. TellsStop stop (writing g.O.Write.contents before c.tell.new.output)
-    (writing g.F.Write.contents c.run_unless_threaded.new.faults c.tell.new.faults) c.tell.result)
-    c.in-Err.ensures.output c.tell.ensures in
-    let all_written = subst (λ before. TellsStop stop (writing g.O.Write.contents c.args.output.now c.tell.new.output)
-    (writing g.F.Write.contents before c.tell.new.faults) c.tell.result)
+    let written = subst (λ before. WritesStop stop (writing g.O.Write.contents before c.write.new.output)
+    (writing g.F.Write.contents c.run_unless_threaded.new.faults c.write.new.faults) c.write.result)
+    c.in-Err.ensures.output c.write.ensures in
+    let all_written = subst (λ before. WritesStop stop (writing g.O.Write.contents c.args.output.now c.write.new.output)
+    (writing g.F.Write.contents before c.write.new.faults) c.write.result)
     c.in-Err.ensures.faults written in
-    Ends-stopped g.R.Source.fails g.O.Sink.refuses words input (writing g.O.Write.contents c.args.output.now c.tell.new.output)
-    (writing g.F.Write.contents c.args.faults.now c.tell.new.faults) c.run_unless_threaded.new.input.may_fail c.tell.new.output.may_refuse
-    stop c.tell.result c.run_unless_threaded.ensures.heard c.run_unless_threaded.ensures.behind_words
+    Ends-stopped g.R.Source.fails g.O.Sink.refuses words input (writing g.O.Write.contents c.args.output.now c.write.new.output)
+    (writing g.F.Write.contents c.args.faults.now c.write.new.faults) c.run_unless_threaded.new.input.may_fail c.write.new.output.may_refuse
+    stop c.write.result c.run_unless_threaded.ensures.heard c.run_unless_threaded.ensures.after_words
     (IsStopped-threads words input threaded stop c.in-Err.ensures.left of_input) all_written

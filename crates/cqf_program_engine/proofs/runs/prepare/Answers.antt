@@ -2,7 +2,7 @@ use Rattle.std.proofs.Common.{refl, subst, sym}
 use Rattle.cqf_program_engine.specs.Prepared.{HasText}
 use Rattle.cqf_program_engine.specs.Run.{IsOutput}
 use Rattle.cqf_program_engine.specs.declared.prepared.PreparedOutput.TheVariants as prepared
-use Rattle.cqf_program_plans.specs.Port.Told.{text_of_port}
+use Rattle.cqf_program_plans.specs.Port.Written.{text_of_port}
 use Rattle.cqf_program_words.specs.declared.words.Job.{Job}
 use Rattle.cqf_program_engine.proofs.runs.prepare.Goals as goal
 

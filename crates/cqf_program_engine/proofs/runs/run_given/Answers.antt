@@ -18,12 +18,12 @@ returns-clause-ok g c =
     let input = reading g.R.Read.remaining c.args.input.now c.read_input.new.input in
     let short = subst (λ (most : ℕ). length c.read_input.new.input.bytes ≤ most) c.most_bytes.ensures.value c.in_default.ensures.short in
     IfOk-weaker c.output_of.result _ _
-    (λ begun told. Begins-weaker begun
+    (λ begun reported. Begins-weaker begun
     (λ text status is. HasRun-given words input text status c.in-Ok.job c.requires.given c.in_default.ensures.sound c.in_default.ensures.end short c.in-Ok.ensures.ok
     (subst₂ (λ (limits : Limits) (bytes : List ℕ). IsResult limits c.in-Ok.job bytes text status) c.limits_of.ensures c.bytes.ensures is))
     (λ threaded is. LeavesThreads-given words input c.limits_of.result c.in-Ok.job threaded c.requires.given c.in_default.ensures.sound c.in_default.ensures.end
     short c.in-Ok.ensures.ok c.limits_of.ensures is)
-    told)
+    reported)
     c.output_of.ensures.ok
 
 pub output_of-requires-after_bounds : goal.output_of-requires-after_bounds

@@ -9,7 +9,7 @@ pub returns-clause-ok : goal.returns-clause-ok
 returns-clause-ok g c =
     let input = reading g.R.Read.remaining c.args.input.now c.read_input.new.input in
     IfOk-weaker c.run_line.result _ _
-    (λ begun told. Begins-weaker {B = HasRun [] input} {Q = LeavesThreads [] input} begun
+    (λ begun reported. Begins-weaker {B = HasRun [] input} {Q = LeavesThreads [] input} begun
     (λ text status done. record {
       is_done = subst (λ (bytes : List ℕ). IsDone [] bytes text status) c.bytes.ensures done;
       at_end = c.in_default.ensures.end;
@@ -20,7 +20,7 @@ returns-clause-ok g c =
       at_end = c.in_default.ensures.end;
       sound = c.in_default.ensures.sound;
     })
-    told)
+    reported)
     c.run_line.ensures.ok
 
 pub returns-clause-err : goal.returns-clause-err

@@ -11,11 +11,11 @@ pub returns-in-Ok-Ready-clause-ended : goal.returns-in-Ok-Ready-clause-ended
 returns-in-Ok-Ready-clause-ended g c =
     let words = map (λ word. word.now) c.args.words.now in
     let input = reading g.R.Read.remaining c.args.input.now c.run.new.input in
-    let told : HasResult (HasRun words input) c.in-Ok-Ready.prepared =
+    let reported : HasResult (HasRun words input) c.in-Ok-Ready.prepared =
     subst (λ (begun : Begun). Begins (HasRun words input) (LeavesThreads words input) begun) c.in-Ok-Ready.field-0-is c.in-Ok-Ready.ensures.ok in
-    Ends-ran g.R.Source.fails g.O.Sink.refuses words input (writing g.O.Write.contents c.args.output.now c.tell_output.new.output)
-    (writing g.F.Write.contents c.args.faults.now c.tell_output.new.faults) c.run.new.input.may_fail c.tell_output.new.output.may_refuse
-    (is_of_diff c.in-Ok-Ready.prepared) told.0 c.tell_output.result c.run.ensures.heard c.run.ensures.behind_words told.2 (c.tell_output.ensures told.0 told.1)
+    Ends-ran g.R.Source.fails g.O.Sink.refuses words input (writing g.O.Write.contents c.args.output.now c.write_output.new.output)
+    (writing g.F.Write.contents c.args.faults.now c.write_output.new.faults) c.run.new.input.may_fail c.write_output.new.output.may_refuse
+    (is_of_diff c.in-Ok-Ready.prepared) reported.0 c.write_output.result c.run.ensures.heard c.run.ensures.after_words reported.2 (c.write_output.ensures reported.0 reported.1)
 
 pub returns-in-Ok-Threads-clause-ends : goal.returns-in-Ok-Threads-clause-ends
 returns-in-Ok-Threads-clause-ends g c =
@@ -27,6 +27,6 @@ returns-in-Ok-Threads-clause-ends g c =
 
 pub returns-in-Err-clause-ended : goal.returns-in-Err-clause-ended
 returns-in-Err-clause-ended g c = Ends-stopped g.R.Source.fails g.O.Sink.refuses (map (λ word. word.now) c.args.words.now)
-    (reading g.R.Read.remaining c.args.input.now c.run.new.input) (writing g.O.Write.contents c.args.output.now c.tell.new.output)
-    (writing g.F.Write.contents c.args.faults.now c.tell.new.faults) c.run.new.input.may_fail c.tell.new.output.may_refuse
-    c.in-Err.stop c.tell.result c.run.ensures.heard c.run.ensures.behind_words c.in-Err.ensures.err c.tell.ensures
+    (reading g.R.Read.remaining c.args.input.now c.run.new.input) (writing g.O.Write.contents c.args.output.now c.write.new.output)
+    (writing g.F.Write.contents c.args.faults.now c.write.new.faults) c.run.new.input.may_fail c.write.new.output.may_refuse
+    c.in-Err.stop c.write.result c.run.ensures.heard c.run.ensures.after_words c.in-Err.ensures.err c.write.ensures

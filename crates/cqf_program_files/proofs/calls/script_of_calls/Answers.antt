@@ -7,11 +7,11 @@ loop-line-init c = (begins c.args.text.now c.args.cycles _ c.new.ensures.items c
 
 pub loop-line-preserved : goal.loop-line-preserved
 loop-line-preserved c =
-    let place = c.behind-place.ensures in
+    let position = c.following-position.ensures in
     let put = rw (c.bare-line.ensures, c.loop-line.invariant.1) at c.in_ok-put_for.ensures in
-    let counted = rw (place.reached, c.bare-line.ensures) at place.counted in (
-      rw (place.number, place.reached, c.bare-line.ensures) (next_line c.args.text.now c.loop-line.left.now c.in-Some.behind.now c.in-Some.line.now c.args.cycles
-          c.loop-line.place.number c.loop-line.place.reached c.loop-line.script c.put_for.new.self c.in-Some.ensures.lines c.loop-line.invariant.0 put
+    let counted = rw (position.reached, c.bare-line.ensures) at position.counted in (
+      rw (position.number, position.reached, c.bare-line.ensures) (next_line c.args.text.now c.loop-line.left.now c.in-Some.following.now c.in-Some.line.now c.args.cycles
+          c.loop-line.position.number c.loop-line.position.reached c.loop-line.script c.put_for.new.self c.in-Some.ensures.lines c.loop-line.invariant.0 put
           c.in-Some.ensures.shorter counted),
-      place.cycles ∙ c.loop-line.invariant.1,
+      position.cycles ∙ c.loop-line.invariant.1,
     )

@@ -1,6 +1,6 @@
 use Rattle.std.proofs.Common.{ap, ◌∙◌, sym, option_map, string_bytes}
 use Rattle.cqf_program_files.specs.Files.{shown_key}
-use Rattle.cqf_program_files.proofs.Firsts.{found_behind, found_here, strange_at}
+use Rattle.cqf_program_files.proofs.Firsts.{found_after, found_here, strange_at}
 use Rattle.cqf_program_files.proofs.checking.first_strange_among.Goals as goal
 
 pub returns-in-Some : goal.returns-in-Some
@@ -12,5 +12,5 @@ returns-in-Some c =
 pub loop-text-preserved : goal.loop-text-preserved
 loop-text-preserved c =
     ap (option_map shown_key) (sym (strange_at (λ text. text.now) c.args.texts.now c.loop-text.text-index _ c.loop-text-test.true
-    ∙ found_behind shown_key _ _ (ap (option_map string_bytes) (sym c.in_default.is) ∙ c.in_ok-shown.ensures)))
+    ∙ found_after shown_key _ _ (ap (option_map string_bytes) (sym c.in_default.is) ∙ c.in_ok-shown.ensures)))
     ∙ c.loop-text.invariant

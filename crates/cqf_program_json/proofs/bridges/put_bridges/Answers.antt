@@ -3,7 +3,7 @@ use Rattle.cqf_output.proofs.WriterLemmas.{Puts-as, Puts-then}
 use Rattle.cqf_program_json.specs.Arrays.{end_text, listed}
 use Rattle.cqf_program_json.specs.Text.{bridge_text, numbers_below}
 use Rattle.cqf_program_json.proofs.Listing.{listed_number, nil_of_numbers}
-use Rattle.cqf_program_tc.proofs.NotedRows.{length-places, list_at}
+use Rattle.cqf_program_tc.proofs.NotedRows.{length-indices, list_at}
 use Rattle.cqf_program_json.proofs.bridges.put_bridges.Goals as goal
 
 pub loop-bridge-preserved : goal.loop-bridge-preserved
@@ -15,12 +15,12 @@ loop-bridge-preserved g c =
 
 pub put_bridge_object-requires-clause-at : goal.put_bridge_object-requires-clause-at
 put_bridge_object-requires-clause-at g c =
-    let places = c.args.places.now in
+    let indices = c.args.indices.now in
     let bridge = c.loop-bridge.bridge in
     let low : bridge < length c.args.wired.domain.now.bridges = omega (arith, c.loop-bridge-test.true, c.bridges-bridge-end.ensures) in
-    let inside : c.from.result < length places = omega (arith, low, c.from.ensures, c.requires.by_bridge.one_each, length-places places) in
+    let inside : c.from.result < length indices = omega (arith, low, c.from.ensures, c.requires.by_bridge.one_each, length-indices indices) in
     c.as_slice-here.ensures.value
-    ∙ sym (list_at places c.from.result bridge c.index-places-from.result _ c.from.ensures inside c.index-places-from.is [])
+    ∙ sym (list_at indices c.from.result bridge c.index-indices-from.result _ c.from.ensures inside c.index-indices-from.is [])
     ∙ c.requires.by_bridge.each bridge [] low
 
 pub returns : goal.returns

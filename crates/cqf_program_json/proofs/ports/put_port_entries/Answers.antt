@@ -4,7 +4,7 @@ use Rattle.cqf_program_json.specs.Text.{port_entry}
 use Rattle.cqf_program_json.proofs.Listing.{listed_at}
 use Rattle.cqf_program_json.proofs.ports.put_port_entries.Goals as goal
 
-pub loop-place-preserved : goal.loop-place-preserved
-loop-place-preserved g c =
-    Puts-as _ _ (sym (listed_at port_entry c.args.entries.now c.loop-place.place (0, 0) c.loop-place-test.true))
-    (Puts-then _ _ c.loop-place.invariant (Puts-then _ _ c.put_front.ensures c.put_port_entry.ensures))
+pub loop-index-preserved : goal.loop-index-preserved
+loop-index-preserved g c =
+    Puts-as _ _ (sym (listed_at port_entry c.args.entries.now c.loop-index.index (0, 0) c.loop-index-test.true))
+    (Puts-then _ _ c.loop-index.invariant (Puts-then _ _ c.put_front.ensures c.put_port_entry.ensures))

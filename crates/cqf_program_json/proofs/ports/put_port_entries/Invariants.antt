@@ -5,5 +5,5 @@ use Rattle.cqf_program_json.specs.Arrays.{listed}
 use Rattle.cqf_program_json.specs.Text.{port_entry}
 use Rattle.cqf_program_json.proofs.ports.put_port_entries.Given as goal
 
-abbrev pub invariant-loop-place : goal.invariant-loop-place
-invariant-loop-place g l = Puts g.W.Write.contents l.initial.writer l.writer (listed true (map port_entry (take l.place l.entries)))
+abbrev pub invariant-loop-index : goal.invariant-loop-index
+invariant-loop-index g l = Puts g.W.Write.contents l.initial.writer l.writer (listed true (map port_entry (take l.index l.entries)))

@@ -5,8 +5,8 @@ use Rattle.cqf_program_json.specs.Text.{gate_entry}
 use Rattle.cqf_program_json.proofs.Listing.{listed_at}
 use Rattle.cqf_program_json.proofs.streams.put_gate_entries.Goals as goal
 
-pub loop-place-preserved : goal.loop-place-preserved
-loop-place-preserved g c =
+pub loop-index-preserved : goal.loop-index-preserved
+loop-index-preserved g c =
     let blank : StreamEntry = record { ipv = 0; interval = 0; octet_max = None } in
-    Puts-as _ _ (sym (listed_at gate_entry c.args.entries.now c.loop-place.place blank c.loop-place-test.true))
-    (Puts-then _ _ c.loop-place.invariant (Puts-then _ _ c.put_front.ensures c.put_gate_entry.ensures))
+    Puts-as _ _ (sym (listed_at gate_entry c.args.entries.now c.loop-index.index blank c.loop-index-test.true))
+    (Puts-then _ _ c.loop-index.invariant (Puts-then _ _ c.put_front.ensures c.put_gate_entry.ensures))

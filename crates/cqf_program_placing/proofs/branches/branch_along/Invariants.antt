@@ -5,4 +5,4 @@ use Rattle.cqf_program_placing.specs.Placing.{names_along}
 use Rattle.cqf_program_placing.proofs.branches.branch_along.Given as goal
 
 abbrev pub invariant-loop-link : goal.invariant-loop-link
-invariant-loop-link l = branch_of l.names.items ≡ names_along l.domain l.bridge (take l.link-index l.way)
+invariant-loop-link l = branch_of l.names.items ≡ names_along l.domain l.bridge (take l.link-index l.link_path)

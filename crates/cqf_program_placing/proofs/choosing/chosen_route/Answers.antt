@@ -1,15 +1,15 @@
 use Rattle.std.proofs.Common.{◌≡◌, ◌∙◌, false, subst, sym, true}
 use Rattle.cqf_model.specs.History.{held_in, seals}
 use Rattle.cqf_program_placing.specs.declared.choosing.Route.{Route}
-use Rattle.cqf_program_placing.specs.declared.turns.Turns.TheVariants.{Chosen}
+use Rattle.cqf_program_placing.specs.declared.active_cycles.ActiveCycles.TheVariants.{Chosen}
 use Rattle.cqf_program_placing.specs.Routes.{IsTakenRoute}
 use Rattle.cqf_program_placing.specs.Settled.{Between}
-use Rattle.cqf_program_placing.specs.Turns.{AreGoodTurns}
+use Rattle.cqf_program_placing.specs.ActiveCycles.{AreGoodActiveCycles}
 use Rattle.cqf_program_placing.proofs.Chosen.{fails_chosen, roomy_by, takes_chosen, takes_either}
 use Rattle.cqf_program_placing.proofs.choosing.chosen_route.Goals as goal
 
-pub is_roomy-requires-clause-turns : goal.is_roomy-requires-clause-turns
-is_roomy-requires-clause-turns c = subst AreGoodTurns (sym c.in-Ok.ensures.ok.same_turns) c.requires.good
+pub is_roomy-requires-clause-active_cycles : goal.is_roomy-requires-clause-active_cycles
+is_roomy-requires-clause-active_cycles c = subst AreGoodActiveCycles (sym c.in-Ok.ensures.ok.same_active_cycles) c.requires.good
 
 -- by the emptiest phases it finds room
 pub returns-then-is_roomy-clause-ok : goal.returns-then-is_roomy-clause-ok

@@ -1,10 +1,10 @@
 use Rattle.std.proofs.Common.{◌≡◌, ◌∙◌, ℕ, List, Ok, ap, subst, sym}
 use Rattle.cqf_admission.specs.Branches.{branches_of}
 use Rattle.cqf_model.specs.History.{Branch, held_in, seals}
-use Rattle.cqf_program_placing.specs.declared.settled.StreamWay.{StreamWay}
-use Rattle.cqf_program_placing.specs.declared.turns.Turns.TheVariants.{Given, Chosen}
+use Rattle.cqf_program_placing.specs.declared.settled.StreamPath.{StreamPath}
+use Rattle.cqf_program_placing.specs.declared.active_cycles.ActiveCycles.TheVariants.{Given, Chosen}
 use Rattle.cqf_program_placing.specs.Routes.{IsTakenRoute}
-use Rattle.cqf_program_placing.specs.Settled.{Along, Between, way_value}
+use Rattle.cqf_program_placing.specs.Settled.{Along, Between, path_value}
 use Rattle.cqf_program_placing.proofs.Chosen.{fails_as, fails_given, route_is, takes_along, takes_as, takes_given}
 use Rattle.cqf_program_placing.proofs.choosing.find_route.Goals as goal
 
@@ -18,9 +18,9 @@ returns-in_ok-route-in-Along-clause-ok c =
     let made = c.in_ok-route-in-Along.ensures in
     let same : branches_of copies.items ≡ given = c.in_ok-given-in-Along.ensures ∙ ap branches_of c.as_slice.ensures.value in
     let route = c.in_ok-route-in-Along.route in
-    subst (λ (way : StreamWay). IsTakenRoute d rows c.args.turns c.args.cost (way_value way) route) (sym c.in-Along.is)
-    (takes_along d rows c.args.cost c.args.turns given route
-    (route_is d rows c.args.turns c.args.cost (Along given) route copies made.turns made.paths made.good (ap (λ (paths : List Branch). Ok paths) same)))
+    subst (λ (path : StreamPath). IsTakenRoute d rows c.args.active_cycles c.args.cost (path_value path) route) (sym c.in-Along.is)
+    (takes_along d rows c.args.cost c.args.active_cycles given route
+    (route_is d rows c.args.active_cycles c.args.cost (Along given) route copies made.active_cycles made.paths made.good (ap (λ (paths : List Branch). Ok paths) same)))
 
 -- in the given cycles
 pub returns-in-Given-clause-ok : goal.returns-in-Given-clause-ok
@@ -29,8 +29,8 @@ returns-in-Given-clause-ok c =
     let rows = held_in d c.args.admission.now.entries (seals c.args.admission.now.entries) in
     let bridge : ℕ = c.in-Between.bridge in
     let slice = c.as_slice-in-Given.result.now in
-    takes_as d rows c.args.cost (Given c.in-Given.every c.in-Given.phase) c.args.turns (Between bridge slice) (way_value c.args.way.now) c.given_route.result (sym c.in-Given.is)
-    (ap (Between bridge) c.as_slice-in-Given.ensures.value ∙ sym (ap way_value c.in-Between.is))
+    takes_as d rows c.args.cost (Given c.in-Given.every c.in-Given.phase) c.args.active_cycles (Between bridge slice) (path_value c.args.path.now) c.given_route.result (sym c.in-Given.is)
+    (ap (Between bridge) c.as_slice-in-Given.ensures.value ∙ sym (ap path_value c.in-Between.is))
     (takes_given d rows c.args.cost c.in-Given.every c.in-Given.phase bridge slice c.given_route.result c.given_route.ensures.ok)
 
 pub returns-in-Given-clause-err : goal.returns-in-Given-clause-err
@@ -39,8 +39,8 @@ returns-in-Given-clause-err c =
     let rows = held_in d c.args.admission.now.entries (seals c.args.admission.now.entries) in
     let bridge : ℕ = c.in-Between.bridge in
     let slice = c.as_slice-in-Given.result.now in
-    fails_as d rows c.args.cost (Given c.in-Given.every c.in-Given.phase) c.args.turns (Between bridge slice) (way_value c.args.way.now) c.given_route.result (sym c.in-Given.is)
-    (ap (Between bridge) c.as_slice-in-Given.ensures.value ∙ sym (ap way_value c.in-Between.is))
+    fails_as d rows c.args.cost (Given c.in-Given.every c.in-Given.phase) c.args.active_cycles (Between bridge slice) (path_value c.args.path.now) c.given_route.result (sym c.in-Given.is)
+    (ap (Between bridge) c.as_slice-in-Given.ensures.value ∙ sym (ap path_value c.in-Between.is))
     (fails_given d rows c.args.cost c.in-Given.every c.in-Given.phase bridge slice c.given_route.result c.given_route.ensures.err)
 
 -- in cycles that are chosen
@@ -50,8 +50,8 @@ returns-in-Chosen-clause-ok c =
     let rows = held_in d c.args.admission.now.entries (seals c.args.admission.now.entries) in
     let bridge : ℕ = c.in-Between.bridge in
     let slice = c.as_slice-in-Chosen.result.now in
-    takes_as d rows c.args.cost (Chosen c.in-Chosen.every) c.args.turns (Between bridge slice) (way_value c.args.way.now) c.chosen_route.result (sym c.in-Chosen.is)
-    (ap (Between bridge) c.as_slice-in-Chosen.ensures.value ∙ sym (ap way_value c.in-Between.is)) c.chosen_route.ensures.ok
+    takes_as d rows c.args.cost (Chosen c.in-Chosen.every) c.args.active_cycles (Between bridge slice) (path_value c.args.path.now) c.chosen_route.result (sym c.in-Chosen.is)
+    (ap (Between bridge) c.as_slice-in-Chosen.ensures.value ∙ sym (ap path_value c.in-Between.is)) c.chosen_route.ensures.ok
 
 pub returns-in-Chosen-clause-err : goal.returns-in-Chosen-clause-err
 returns-in-Chosen-clause-err c =
@@ -59,5 +59,5 @@ returns-in-Chosen-clause-err c =
     let rows = held_in d c.args.admission.now.entries (seals c.args.admission.now.entries) in
     let bridge : ℕ = c.in-Between.bridge in
     let slice = c.as_slice-in-Chosen.result.now in
-    fails_as d rows c.args.cost (Chosen c.in-Chosen.every) c.args.turns (Between bridge slice) (way_value c.args.way.now) c.chosen_route.result (sym c.in-Chosen.is)
-    (ap (Between bridge) c.as_slice-in-Chosen.ensures.value ∙ sym (ap way_value c.in-Between.is)) c.chosen_route.ensures.err
+    fails_as d rows c.args.cost (Chosen c.in-Chosen.every) c.args.active_cycles (Between bridge slice) (path_value c.args.path.now) c.chosen_route.result (sym c.in-Chosen.is)
+    (ap (Between bridge) c.as_slice-in-Chosen.ensures.value ∙ sym (ap path_value c.in-Between.is)) c.chosen_route.ensures.err

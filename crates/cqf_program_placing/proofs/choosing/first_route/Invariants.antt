@@ -1,7 +1,7 @@
 -- In the phases so far the stream finds no room.
 use Rattle.std.proofs.Common.{ℕ, ◌<◌, false}
 use Rattle.cqf_model.specs.History.{held_in, seals}
-use Rattle.cqf_program_placing.specs.declared.turns.Turns.TheVariants.{Given}
+use Rattle.cqf_program_placing.specs.declared.active_cycles.ActiveCycles.TheVariants.{Given}
 use Rattle.cqf_program_placing.specs.Placing.{FindsRoom}
 use Rattle.cqf_program_placing.specs.Settled.{Between}
 use Rattle.cqf_program_placing.proofs.choosing.first_route.Given as goal

@@ -1,7 +1,7 @@
 use Rattle.std.proofs.Common.{◌≡◌, ◌∙◌, sym}
 use Rattle.cqf_model.specs.History.{held_in, seals}
 use Rattle.cqf_program_placing.specs.Placing.{has_room_at}
-use Rattle.cqf_program_placing.specs.Turns.{hop_at}
+use Rattle.cqf_program_placing.specs.ActiveCycles.{hop_at}
 use Rattle.cqf_program_placing.proofs.Chosen.{one_passes}
 use Rattle.cqf_program_placing.proofs.choosing.has_room_on.Goals as goal
 

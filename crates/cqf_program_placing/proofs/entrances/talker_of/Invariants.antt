@@ -1,4 +1,4 @@
--- The first talker's link of the station is among the rest.
+-- The first access link of the station is among the rest.
 use Rattle.std.proofs.Common.{◌≡◌, drop, find}
 use Rattle.std.specs.Prelude.{◌==◌}
 use Rattle.cqf_network.specs.declared.domain.TalkerLink.{TalkerLink}

@@ -1,4 +1,4 @@
--- None of the bridges so far.
+-- Frames leave none of the bridges so far after that number of links.
 use Rattle.std.proofs.Common.{◌≡◌, ◌<◌, ℕ, Some}
 use Rattle.cqf_program_placing.specs.Hops.{hop_of}
 use Rattle.cqf_program_placing.proofs.hops.leave_some.Given as goal

@@ -4,5 +4,5 @@ use Rattle.cqf_program_placing.proofs.laws.placed_where_there_is_room.Goals as g
 pub returns : goal.returns
 returns c =
     let history = c.state_follows_history.ensures in
-    let ways = c.first_ways_are_a_tree.ensures in
-    placed_by_room history.goes_on history.counted history.granted history.refused ways.one ways.no_loop ways.part
+    let link_paths = c.first_paths_are_a_tree.ensures in
+    placed_by_room history.goes_on history.counted history.granted history.refused link_paths.one link_paths.no_loop link_paths.part

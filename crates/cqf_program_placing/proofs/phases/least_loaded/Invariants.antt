@@ -1,6 +1,6 @@
 -- The first of the phases so far whose loads are the least.
 use Rattle.cqf_model.specs.History.{held_in, seals}
-use Rattle.cqf_program_placing.specs.Turns.{loads_with}
+use Rattle.cqf_program_placing.specs.ActiveCycles.{loads_with}
 use Rattle.cqf_program_placing.proofs.Loads.{IsLeastSoFar}
 use Rattle.cqf_program_placing.proofs.phases.least_loaded.Given as goal
 

@@ -1,6 +1,6 @@
 use Rattle.std.proofs.Common.{◌≡◌, ◌+◌, arith}
 use Rattle.cqf_model.specs.History.{held_in, seals}
-use Rattle.cqf_program_placing.specs.Turns.{hop_at, share_at}
+use Rattle.cqf_program_placing.specs.ActiveCycles.{hop_at, share_at}
 use Rattle.cqf_program_placing.proofs.Loads.{loads_more}
 use Rattle.cqf_program_placing.proofs.phases.loads_at.Goals as goal
 

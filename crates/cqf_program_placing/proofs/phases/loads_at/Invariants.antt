@@ -2,7 +2,7 @@
 use Rattle.std.proofs.Common.{◌≡◌, take}
 use Rattle.arrayvec.specs.ArrayVec.{array_vec_len}
 use Rattle.cqf_model.specs.History.{held_in, seals}
-use Rattle.cqf_program_placing.specs.Turns.{loads_down, share_at}
+use Rattle.cqf_program_placing.specs.ActiveCycles.{loads_down, share_at}
 use Rattle.cqf_program_placing.proofs.phases.loads_at.Given as goal
 
 abbrev pub invariant-loop-hop : goal.invariant-loop-hop

@@ -3,9 +3,9 @@ use Rattle.cqf_admission.specs.Branches.{branches_of, tree_refusal}
 use Rattle.cqf_model.specs.declared.topology.Hop.{Hop}
 use Rattle.cqf_model.specs.History.{held_in, seals}
 use Rattle.cqf_model.proofs.Hops.{hops_inside}
-use Rattle.cqf_program_placing.specs.declared.turns.Turns.{Turns}
+use Rattle.cqf_program_placing.specs.declared.active_cycles.ActiveCycles.{ActiveCycles}
 use Rattle.cqf_program_placing.specs.Known.{MakeTree}
-use Rattle.cqf_program_placing.specs.Turns.{IsPhaseAlong}
+use Rattle.cqf_program_placing.specs.ActiveCycles.{IsPhaseAlong}
 use Rattle.cqf_program_placing.proofs.Known.{none_chosen}
 use Rattle.cqf_program_placing.proofs.phases.phase_along.Goals as goal
 
@@ -24,5 +24,5 @@ returns-in-None c =
     let rows = held_in d entries (seals entries) in
     let paths = branches_of c.args.branched.now.paths.items in
     let made = subst (MakeTree d paths) c.in-None.is c.requires.tree in
-    subst (λ (turns : Turns). IsPhaseAlong d rows c.args.cost paths turns 0) (sym c.in-Chosen.is)
+    subst (λ (active_cycles : ActiveCycles). IsPhaseAlong d rows c.args.cost paths active_cycles 0) (sym c.in-Chosen.is)
     (none_chosen d rows c.args.cost paths c.in-Chosen.every (tree_refusal d paths) made)

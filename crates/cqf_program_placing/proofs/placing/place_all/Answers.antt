@@ -1,4 +1,4 @@
-use Rattle.cqf_program_placing.proofs.PlaceLemmas.{one_placed, placeable_there}
+use Rattle.cqf_program_placing.proofs.IndexLemmas.{one_placed, placeable_there}
 use Rattle.cqf_program_placing.proofs.placing.place_all.Goals as goal
 
 pub place_one-requires-clause-placeable : goal.place_one-requires-clause-placeable

@@ -1,7 +1,7 @@
 -- The streams so far are placed, no call but theirs was made, and what links have left is known.
 use Rattle.cqf_model.specs.History.{held_in, seals}
 use Rattle.cqf_program_placing.specs.Known.{AreKnown}
-use Rattle.cqf_program_placing.proofs.PlaceLemmas.{ArePlacedSoFar}
+use Rattle.cqf_program_placing.proofs.IndexLemmas.{ArePlacedSoFar}
 use Rattle.cqf_program_placing.proofs.placing.place_all.Given as goal
 
 abbrev pub invariant-loop-stream : goal.invariant-loop-stream

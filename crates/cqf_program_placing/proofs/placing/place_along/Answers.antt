@@ -11,8 +11,8 @@ use Rattle.cqf_model.specs.History.{Asked, IsLegalHistory, held_in, seals}
 use Rattle.cqf_program_placing.specs.Known.{AreKnown, MakeTree, TakesNothingOff}
 use Rattle.cqf_program_placing.proofs.Known.{all_filled, asked_takes_off, known_alike, links_of}
 use Rattle.cqf_program_placing.specs.Placing.{outcome_value}
-use Rattle.cqf_program_placing.specs.Turns.{IsPhaseAlong, every_in}
-use Rattle.cqf_program_placing.proofs.PlaceLemmas.{asked_so}
+use Rattle.cqf_program_placing.specs.ActiveCycles.{IsPhaseAlong, every_in}
+use Rattle.cqf_program_placing.proofs.IndexLemmas.{asked_so}
 use Rattle.cqf_program_placing.proofs.placing.place_along.Goals as goal
 use Rattle.cqf_program_placing.proofs.placing.place_along.Goals.{in-Some, in-None}
 
@@ -23,10 +23,10 @@ returns-clause-placed c =
     let route = c.args.route in
     let paths = branches_of route.branched.paths.items in
     let become = outcome_value c.in_ok-outcome.outcome in
-    let each : c.from.result ≡ every_in route.turns = c.from.ensures ∙ c.every.ensures in
-    let chosen : IsPhaseAlong d (held_in d entries (seals entries)) (cost_of c.args.octets) paths route.turns c.from-2.result =
-    subst (IsPhaseAlong d (held_in d entries (seals entries)) (cost_of c.args.octets) paths route.turns) (sym c.from-2.ensures) c.requires.good.phase in
-    asked_so d entries c.args.name.now c.args.octets c.from.result c.from-2.result (cost_of c.args.octets) route.turns (string_bytes c.in_ok-name.name) paths become
+    let each : c.from.result ≡ every_in route.active_cycles = c.from.ensures ∙ c.every.ensures in
+    let chosen : IsPhaseAlong d (held_in d entries (seals entries)) (cost_of d.overhead c.args.octets) paths route.active_cycles c.from-2.result =
+    subst (IsPhaseAlong d (held_in d entries (seals entries)) (cost_of d.overhead c.args.octets) paths route.active_cycles) (sym c.from-2.ensures) c.requires.good.phase in
+    asked_so d entries c.args.name.now c.args.octets c.from.result c.from-2.result (cost_of d.overhead c.args.octets) route.active_cycles (string_bytes c.in_ok-name.name) paths become
     c.ask.new.admission.entries each refl chosen (c.in_ok-name.ensures.ok ∙ c.as_str.ensures.value) c.in_ok-outcome.ensures.answered
     c.in_ok-outcome.ensures.entered
 

@@ -1,7 +1,7 @@
 use Rattle.std.proofs.Common.{arith, get_or, length}
 use Rattle.std.proofs.lemmas.List.{get_or_default}
 use Rattle.cqf_program_placing.proofs.InOrder.{all_in_order, one_in_order}
-use Rattle.cqf_program_placing.proofs.PlaceLemmas.{placeable_there}
+use Rattle.cqf_program_placing.proofs.IndexLemmas.{placeable_there}
 use Rattle.cqf_program_placing.proofs.placing.place_each.Goals as goal
 
 -- each index is that of a stream

@@ -2,7 +2,7 @@
 use Rattle.cqf_model.specs.History.{held_in, seals}
 use Rattle.cqf_program_placing.specs.Known.{AreKnown}
 use Rattle.cqf_program_placing.specs.Orders.{in_order}
-use Rattle.cqf_program_placing.proofs.PlaceLemmas.{ArePlacedSoFar}
+use Rattle.cqf_program_placing.proofs.IndexLemmas.{ArePlacedSoFar}
 use Rattle.cqf_program_placing.proofs.placing.place_each.Given as goal
 
 abbrev pub invariant-loop-index : goal.invariant-loop-index

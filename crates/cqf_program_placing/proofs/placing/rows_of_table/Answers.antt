@@ -1,7 +1,7 @@
 use Rattle.std.proofs.Common.{arith, subst, sym}
 use Rattle.std.specs.Arc.{arc_value}
-use Rattle.cqf_admission.specs.Turns.{AreOfGoodPaces}
-use Rattle.cqf_program_placing.proofs.PlaceLemmas.{all_made}
+use Rattle.cqf_admission.specs.ActiveCycles.{AreOfGoodPaces}
+use Rattle.cqf_program_placing.proofs.IndexLemmas.{all_made}
 use Rattle.cqf_program_placing.proofs.placing.rows_of_table.Goals as goal
 
 pub returns-clause-good : goal.returns-clause-good

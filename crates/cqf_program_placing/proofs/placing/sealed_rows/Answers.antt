@@ -1,5 +1,5 @@
 use Rattle.std.proofs.Common.{◌∙◌}
-use Rattle.cqf_program_placing.proofs.PlaceLemmas.{sound_rows}
+use Rattle.cqf_program_placing.proofs.IndexLemmas.{sound_rows}
 use Rattle.cqf_program_placing.proofs.placing.sealed_rows.Goals as goal
 
 pub returns-clause-sound : goal.returns-clause-sound

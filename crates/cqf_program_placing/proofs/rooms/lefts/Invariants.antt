@@ -2,7 +2,7 @@
 use Rattle.std.proofs.Common.{◌≡◌, ◌∷◌, []}
 use Rattle.cqf_lists.specs.Lists.{each_below}
 use Rattle.cqf_model.specs.History.{held_in, seals}
-use Rattle.cqf_program_placing.specs.Turns.{left_emptiest}
+use Rattle.cqf_program_placing.specs.ActiveCycles.{left_emptiest}
 use Rattle.cqf_program_placing.proofs.rooms.lefts.Given as goal
 
 abbrev pub invariant-loop-link : goal.invariant-loop-link

@@ -1,6 +1,6 @@
 use Rattle.std.proofs.Common.{◌≡◌, ◌∙◌, ◌<◌, ℕ, arith, ap, get_or, length, refl, sym}
 use Rattle.cqf_model.specs.History.{held_in, seals}
-use Rattle.cqf_program_placing.specs.Turns.{hop_at, left_emptiest}
+use Rattle.cqf_program_placing.specs.ActiveCycles.{hop_at, left_emptiest}
 use Rattle.cqf_program_placing.proofs.Known.{none_renewed, renewed_more}
 use Rattle.cqf_program_placing.proofs.rooms.renew_lefts.Goals as goal
 

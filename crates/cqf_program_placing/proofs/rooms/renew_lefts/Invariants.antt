@@ -3,7 +3,7 @@ use Rattle.std.proofs.Common.{◌≡◌, take}
 use Rattle.cqf_model.specs.History.{held_in, seals}
 use Rattle.cqf_model.specs.Table.{links_in}
 use Rattle.cqf_program_placing.specs.Known.{AreRenewed}
-use Rattle.cqf_program_placing.specs.Turns.{left_emptiest}
+use Rattle.cqf_program_placing.specs.ActiveCycles.{left_emptiest}
 use Rattle.cqf_program_placing.proofs.rooms.renew_lefts.Given as goal
 
 abbrev pub invariant-loop-hop : goal.invariant-loop-hop

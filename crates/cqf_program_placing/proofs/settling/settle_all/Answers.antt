@@ -4,7 +4,7 @@ use Rattle.std.specs.Vec.Iter.{into_iter_items}
 use Rattle.cqf_network.specs.StreamsText.{stream_text}
 use Rattle.cqf_network.specs.declared.streams.Stream.{Stream}
 use Rattle.cqf_topology.specs.DomainText.{is_among, with_front}
-use Rattle.cqf_program_placing.specs.Settled.{settled_behind, settled_value}
+use Rattle.cqf_program_placing.specs.Settled.{settled_after, settled_value}
 use Rattle.cqf_program_placing.proofs.SettledLemmas.{next_stands, settled_more}
 use Rattle.cqf_program_placing.proofs.settling.settle_all.Goals as goal
 
@@ -26,7 +26,7 @@ loop-stream-preserved c =
       settled_more network plan held c.add.new.self.keys (stream_text c.in-Some.stream) (map stream_text (into_iter_items c.next.new.self)) done
           (map settled_value c.push.new.self.items) (settled_value one) c.in_ok-one.ensures next.own_name c.in_ok-add.ensures.more
           (ap (map settled_value) c.in_ok-push.ensures.items ∙ map-append settled_value c.loop-stream.settled.items (one ∷ []))
-          ∙ ap (λ (ss : List Stream). with_front done (settled_behind network plan held (map stream_text ss))) (sym c.in-Some.ensures.steps.0)
+          ∙ ap (λ (ss : List Stream). with_front done (settled_after network plan held (map stream_text ss))) (sym c.in-Some.ensures.steps.0)
           ∙ c.loop-stream.invariant.0,
       omega (arith, ap length c.in_ok-add.ensures.more, length-append held (one.name ∷ []), next.few),
     )

@@ -5,7 +5,7 @@ use Rattle.cqf_program_placing.specs.Settled.{SettledStream}
 use Rattle.cqf_program_planning.proofs.PlacedLemmas.{those_from}
 use Rattle.cqf_program_planning.proofs.judging.deadlines_placed.Given as goal
 
-abbrev pub invariant-loop-place : goal.invariant-loop-place
-invariant-loop-place l =
+abbrev pub invariant-loop-index : goal.invariant-loop-index
+invariant-loop-index l =
     map (λ (one : SettledStream × Asked). one.0.deadline) (those_from l.streams l.outcomes 0)
-    ≡ l.deadlines.items ++ map (λ (one : SettledStream × Asked). one.0.deadline) (those_from l.streams l.outcomes l.place)
+    ≡ l.deadlines.items ++ map (λ (one : SettledStream × Asked). one.0.deadline) (those_from l.streams l.outcomes l.index)

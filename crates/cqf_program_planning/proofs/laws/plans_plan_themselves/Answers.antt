@@ -1,4 +1,4 @@
-use Rattle.cqf_program_planning.proofs.ToldPlans.{plans_plan_themselves}
+use Rattle.cqf_program_planning.proofs.WrittenPlans.{plans_plan_themselves}
 use Rattle.cqf_program_planning.proofs.laws.plans_plan_themselves.Goals as goal
 
 pub returns : goal.returns

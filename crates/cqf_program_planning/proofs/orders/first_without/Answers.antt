@@ -5,16 +5,16 @@ use Rattle.cqf_program_planning.proofs.orders.first_without.Goals as goal
 -- it isn't placed
 pub returns-then-not-is_placed : goal.returns-then-not-is_placed
 returns-then-not-is_placed c =
-    sym (c.loop-place.invariant
-    ∙ without_here c.args.order.now c.loop-place.place c.loop-place-test.true c.args.outcomes.now c.index-outcomes-place.result c.requires
-    c.index-outcomes-place.is (sym c.is_placed.ensures ∙ c.if-not-is_placed.true))
+    sym (c.loop-position.invariant
+    ∙ without_here c.args.order.now c.loop-position.position c.loop-position-test.true c.args.outcomes.now c.index-outcomes-position.result c.requires
+    c.index-outcomes-position.is (sym c.is_placed.ensures ∙ c.if-not-is_placed.true))
 
 -- or it is
-pub loop-place-preserved : goal.loop-place-preserved
-loop-place-preserved c =
-    c.loop-place.invariant
-    ∙ without_later c.args.order.now c.loop-place.place c.loop-place-test.true c.args.outcomes.now c.index-outcomes-place.result c.requires
-    c.index-outcomes-place.is (sym c.is_placed.ensures ∙ c.if-not-is_placed.false)
+pub loop-position-preserved : goal.loop-position-preserved
+loop-position-preserved c =
+    c.loop-position.invariant
+    ∙ without_later c.args.order.now c.loop-position.position c.loop-position-test.true c.args.outcomes.now c.index-outcomes-position.result c.requires
+    c.index-outcomes-position.is (sym c.is_placed.ensures ∙ c.if-not-is_placed.false)
 
 pub returns : goal.returns
-returns c = sym (c.loop-place.invariant ∙ without_end c.args.order.now c.args.outcomes.now c.loop-place.place c.loop-place-test.false)
+returns c = sym (c.loop-position.invariant ∙ without_end c.args.order.now c.args.outcomes.now c.loop-position.position c.loop-position-test.false)

@@ -3,5 +3,5 @@ use Rattle.std.proofs.Common.{◌≡◌}
 use Rattle.cqf_program_planning.proofs.OrderSteps.{helped_from}
 use Rattle.cqf_program_planning.proofs.orders.may_all_be_helped.Given as goal
 
-abbrev pub invariant-loop-place : goal.invariant-loop-place
-invariant-loop-place l = helped_from l.streams l.order l.outcomes 0 ≡ helped_from l.streams l.order l.outcomes l.place
+abbrev pub invariant-loop-position : goal.invariant-loop-position
+invariant-loop-position l = helped_from l.streams l.order l.outcomes 0 ≡ helped_from l.streams l.order l.outcomes l.position

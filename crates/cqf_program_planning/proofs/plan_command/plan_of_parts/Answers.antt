@@ -4,8 +4,8 @@ use Rattle.cqf_program_planning.proofs.Inputs.{parts_input, writable}
 use Rattle.cqf_program_planning.proofs.plan_command.plan_of_parts.Goals as goal
 
 -- what was read may be written
-pub told_of-requires-clause-written : goal.told_of-requires-clause-written
-told_of-requires-clause-written c =
+pub written_of-requires-clause-written : goal.written_of-requires-clause-written
+written_of-requires-clause-written c =
     let said = option_map (λ cycles. cycles.items) c.args.given in
     let source = source_of c.in_ok-found.found in
     writable c.args.limits said source

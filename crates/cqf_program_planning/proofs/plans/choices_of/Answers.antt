@@ -21,8 +21,8 @@ loop-flow-init c =
       omega (arith, none, all, many),
     )
 
-pub offset_told-offset-requires-clause-turned : goal.offset_told-offset-requires-clause-turned
-offset_told-offset-requires-clause-turned c =
+pub offset_written-offset-requires-clause-turned : goal.offset_written-offset-requires-clause-turned
+offset_written-offset-requires-clause-turned c =
     turned_there c.args.cycle_time.0 (map settled_value c.args.streams.now) (map flow_text c.args.flows.items) c.args.times.now c.loop-flow.filled.items
     (flow_text c.in-Some.flow) (map flow_text (into_iter_items c.loop-flow.flow-iterator)) (map flow_text (into_iter_items c.next.new.self))
     (ap (map flow_text) c.in-Some.ensures.steps.0) c.loop-flow.invariant.0 c.requires.turned.turned
@@ -33,17 +33,17 @@ loop-flow-preserved c =
     let times = c.args.times.now in
     let done = c.loop-flow.filled.items in
     let rest = into_iter_items c.next.new.self in
-    let place = c.len-place.result in
-    let at : place ≡ length done = c.len-place.ensures ∙ c.loop-flow.filled.ok.0 in
+    let index = c.len-index.result in
+    let at : index ≡ length done = c.len-index.ensures ∙ c.loop-flow.filled.ok.0 in
     let front : length (into_iter_items c.loop-flow.flow-iterator) ≡ suc (length rest) = ap length c.in-Some.ensures.steps.0 in
-    let inside : place < length streams = omega (arith, at, front, c.loop-flow.invariant.1) in
-    let within : place < length times = omega (arith, inside, c.requires.taken) in
+    let inside : index < length streams = omega (arith, at, front, c.loop-flow.invariant.1) in
+    let within : index < length times = omega (arith, inside, c.requires.taken) in
     let more = c.in_ok-push.ensures.items in
     let longer : length c.push.new.self.items ≡ length done + 1 = ap length more ∙ length-append done _ in
     let next : length c.push.new.self.items ≡ suc (length done) = omega (arith, longer) in (
-      one_chosen c.args.cycle_time.0 streams (map flow_text c.args.flows.items) times done c.push.new.self.items _ place c.index-streams-place.result
-          c.index-streams-place.result c.in-Some.flow _ _ (into_iter_items c.loop-flow.flow-iterator) rest c.loop-flow.invariant.0 at inside within
-          c.index-streams-place.is refl c.in-Some.ensures.steps.0 more next refl c.offset_told-offset.ensures,
+      one_chosen c.args.cycle_time.0 streams (map flow_text c.args.flows.items) times done c.push.new.self.items _ index c.index-streams-index.result
+          c.index-streams-index.result c.in-Some.flow _ _ (into_iter_items c.loop-flow.flow-iterator) rest c.loop-flow.invariant.0 at inside within
+          c.index-streams-index.is refl c.in-Some.ensures.steps.0 more next refl c.offset_written-offset.ensures,
       omega (arith, next, front, c.loop-flow.invariant.1),
     )
 

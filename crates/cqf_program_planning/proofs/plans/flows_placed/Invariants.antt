@@ -7,8 +7,8 @@ use Rattle.cqf_program_planning.specs.Judging.{flow_of}
 use Rattle.cqf_program_planning.proofs.PlacedLemmas.{those_from}
 use Rattle.cqf_program_planning.proofs.plans.flows_placed.Given as goal
 
-abbrev pub invariant-loop-place : goal.invariant-loop-place
-invariant-loop-place l =
+abbrev pub invariant-loop-index : goal.invariant-loop-index
+invariant-loop-index l =
     map (λ (one : SettledStream × Asked). flow_of l.cycle_time.0 one.0 one.1) (those_from l.streams l.outcomes 0)
     ≡ map flow_text l.flows.items
-    ++ map (λ (one : SettledStream × Asked). flow_of l.cycle_time.0 one.0 one.1) (those_from l.streams l.outcomes l.place)
+    ++ map (λ (one : SettledStream × Asked). flow_of l.cycle_time.0 one.0 one.1) (those_from l.streams l.outcomes l.index)

@@ -2,7 +2,7 @@ use Rattle.std.proofs.Common.{◌≡◌, ◌∙◌, ℕ, List, ap, length, map, 
 use Rattle.std.specs.Prelude.{option_map}
 use Rattle.std.proofs.lemmas.List.{length-map}
 use Rattle.cqf_admission.specs.Asking.{asked_paced}
-use Rattle.cqf_admission.specs.Turns.{AreOfGoodPaces}
+use Rattle.cqf_admission.specs.ActiveCycles.{AreOfGoodPaces}
 use Rattle.cqf_laws_history.specs.StateLaws.{AreHeld}
 use Rattle.cqf_model.specs.declared.topology.Row.{Row}
 use Rattle.cqf_program_plans.specs.Latency.Text.{latencies_of}

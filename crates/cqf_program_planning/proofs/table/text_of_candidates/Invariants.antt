@@ -5,4 +5,4 @@ use Rattle.cqf_program_planning.specs.TableText.{candidates_header, lines_of_can
 use Rattle.cqf_program_planning.proofs.table.text_of_candidates.Given as goal
 
 abbrev pub invariant-loop-candidate : goal.invariant-loop-candidate
-invariant-loop-candidate l = l.text.items ≡ line_of_fields candidates_header ++ lines_of_candidates l.streams (take l.candidate-index l.told)
+invariant-loop-candidate l = l.text.items ≡ line_of_fields candidates_header ++ lines_of_candidates l.streams (take l.candidate-index l.reported)

@@ -11,5 +11,5 @@ loop-cycle_time-preserved c =
     let k = c.loop-cycle_time.cycle_time-index in
     let low = c.loop-cycle_time-test.true in
     judged_step c.args.network.now (map settled_value c.args.streams.now) c.args.tries cycles k (get_or cycles k 0) low (get_or_default cycles k 0 (get_or cycles k 0) low)
-    c.loop-cycle_time.told.items c.push.new.self.items c.in_ok-candidate.candidate c.loop-cycle_time.invariant c.in_ok-candidate.ensures
+    c.loop-cycle_time.reported.items c.push.new.self.items c.in_ok-candidate.candidate c.loop-cycle_time.invariant c.in_ok-candidate.ensures
     c.in_ok-push.ensures.items

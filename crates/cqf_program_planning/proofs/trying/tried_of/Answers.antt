@@ -1,6 +1,6 @@
 use Rattle.std.proofs.Common.{◌∙◌, [], ap, length, map, subst, sym}
 use Rattle.std.proofs.lemmas.List.{length-map}
-use Rattle.cqf_admission.specs.Turns.{AreOfGoodPaces}
+use Rattle.cqf_admission.specs.ActiveCycles.{AreOfGoodPaces}
 use Rattle.cqf_program_placing.specs.Placing.{outcome_value}
 use Rattle.cqf_program_placing.specs.Settled.{settled_value}
 use Rattle.cqf_program_planning.proofs.TriedLemmas.{each_placed, length-placed}

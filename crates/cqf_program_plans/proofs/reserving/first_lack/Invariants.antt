@@ -4,7 +4,7 @@ use Rattle.cqf_traffic.specs.PacedFlows.{paced_flow_text}
 use Rattle.cqf_program_plans.proofs.reserving.first_lack.Given as goal
 
 -- the first lack is that of the remaining streams
-abbrev pub invariant-loop-place : goal.invariant-loop-place
-invariant-loop-place l =
-    first_lack l.cycle_time.0 (l.place + 1) (map reserved_octets (map paced_flow_text (drop l.place l.flows)))
-    ≡ first_lack l.cycle_time.0 1 (map reserved_octets (map paced_flow_text l.flows))
+abbrev pub invariant-loop-index : goal.invariant-loop-index
+invariant-loop-index l =
+    first_lack l.domain.overhead l.domain.cycle_time (l.index + 1) (map reserved_octets (map paced_flow_text (drop l.index l.flows)))
+    ≡ first_lack l.domain.overhead l.domain.cycle_time 1 (map reserved_octets (map paced_flow_text l.flows))

@@ -41,7 +41,7 @@ background_of_history-requires-clause-starts c =
       legal = some.is.legal;
       sealed = some.is.sealed;
       offered = subst (λ (os : List Offer). AreOffers d os) (sym c.as_slice-offers.ensures.value) c.requires.offers;
-      behind = subst (λ (bs : List Background). AreBackground d bs) (sym c.as_slice-background.ensures.value) c.requires.background;
+      following = subst (λ (bs : List Background). AreBackground d bs) (sym c.as_slice-background.ensures.value) c.requires.background;
       are = subst (λ (ss : List Started). AreStartsOfHistory d some.entries offers background c.args.cycles ss) (sym c.as_slice-starting.ensures.value) starts;
     }
 

@@ -6,8 +6,8 @@ use Rattle.cqf_instants_run.specs.HistoryStarts.{IsLaidOutHistoryOf}
 use Rattle.cqf_program_scenario.specs.Books.{IsBookOfScenario}
 use Rattle.cqf_program_scenario.specs.Calls.{history_of}
 use Rattle.cqf_program_scenario.specs.Closing.{scenario_given}
-use Rattle.cqf_program_scenario.specs.ExactBooks.{ExactParts, TellsBook}
-use Rattle.cqf_program_scenario.proofs.ExactParts.{IsHistoryOf-as, parts_are_told}
+use Rattle.cqf_program_scenario.specs.ExactBooks.{ExactParts, WritesBook}
+use Rattle.cqf_program_scenario.proofs.ExactParts.{IsHistoryOf-as, parts_are_written}
 use Rattle.cqf_program_scenario.proofs.exact.book_of_outcome.Goals as goal
 
 pub backed_of-requires-clause-history : goal.backed_of-requires-clause-history
@@ -37,6 +37,6 @@ returns c =
     let dropped : AreDropsOfHistory s.domain entries s.offers c.args.cycles c.in_ok-drops.drops.items =
     subst (λ (os : List Offer). AreDropsOfHistory s.domain entries os c.args.cycles c.in_ok-drops.drops.items) c.as_slice-offers.ensures.value
     (c.in_ok-drops.ensures entries rows history.legal sliced.judged) in
-    subst (λ (parts : ExactParts). TellsBook parts (IsBookOfScenario c.args.cycles s)) (sym c.new.ensures)
-    (parts_are_told c.tables_are_orderly.ensures.orderly c.args.cycles s _ c.know.ensures.accepted c.requires.may history.legal
-    c.in_ok-pass.ensures.tells (c.in_ok-backed.ensures entries history) dropped)
+    subst (λ (parts : ExactParts). WritesBook parts (IsBookOfScenario c.args.cycles s)) (sym c.new.ensures)
+    (parts_are_written c.tables_are_orderly.ensures.orderly c.args.cycles s _ c.know.ensures.accepted c.requires.may history.legal
+    c.in_ok-pass.ensures.reports (c.in_ok-backed.ensures entries history) dropped)

@@ -17,11 +17,11 @@ loop-writer-preserved g c =
     record {
       basis = next.basis ∙ so_far.basis;
       puts = λ given is.
-          let told = starts_of given.run.domain c.loop-writer.pass.told given.net.carried in
-          let here = starts_of_cycle given c.loop-writer.pass.told in
-          Puts-as (lines told ++ lines c.starts.result.now) (lines (starts_of given.run.domain c.next_cycle.new.self.told given.net.carried))
-          (ap (λ (xs : List Started). lines told ++ lines xs) (c.starts.ensures ∙ next.starts given (subst (IsBasisOf given) (sym so_far.basis) is))
-          ∙ sym (flat_map-append (λ (started : Started). line_of_fields (started_fields (codes "start") c.args.domain.now started)) told here)
-          ∙ ap lines (starts_more given c.loop-writer.pass.told ∙ ap (λ (n : ℕ). starts_of given.run.domain n given.net.carried) (sym next.told)))
-          (Puts-then (lines told) (lines c.starts.result.now) (so_far.puts given is) c.put_starts.ensures);
+          let reported = starts_of given.run.domain c.loop-writer.pass.reported given.net.carried in
+          let here = starts_of_cycle given c.loop-writer.pass.reported in
+          Puts-as (lines reported ++ lines c.starts.result.now) (lines (starts_of given.run.domain c.next_cycle.new.self.reported given.net.carried))
+          (ap (λ (xs : List Started). lines reported ++ lines xs) (c.starts.ensures ∙ next.starts given (subst (IsBasisOf given) (sym so_far.basis) is))
+          ∙ sym (flat_map-append (λ (started : Started). line_of_fields (started_fields (codes "start") c.args.domain.now started)) reported here)
+          ∙ ap lines (starts_more given c.loop-writer.pass.reported ∙ ap (λ (n : ℕ). starts_of given.run.domain n given.net.carried) (sym next.reported)))
+          (Puts-then (lines reported) (lines c.starts.result.now) (so_far.puts given is) c.put_starts.ensures);
     }

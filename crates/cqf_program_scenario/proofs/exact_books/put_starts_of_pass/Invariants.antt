@@ -11,8 +11,8 @@ abbrev pub invariant-loop-writer : goal.invariant-loop-writer
 invariant-loop-writer g l = record {
   basis : l.pass.basis ≡ l.initial.pass.basis;
   puts : (given : Given) → IsBasisOf given l.initial.pass.basis →
-      Puts g.W.Write.contents l.initial.writer l.writer (lines_of_starts (codes "start") l.domain (starts_of given.run.domain l.pass.told given.net.carried));
+      Puts g.W.Write.contents l.initial.writer l.writer (lines_of_starts (codes "start") l.domain (starts_of given.run.domain l.pass.reported given.net.carried));
 }
 
 abbrev pub decreases-loop-writer : goal.decreases-loop-writer
-decreases-loop-writer g l = l.pass.basis.cycles - l.pass.told
+decreases-loop-writer g l = l.pass.basis.cycles - l.pass.reported

@@ -11,12 +11,12 @@ returns-clause-ok c =
     let texts = texts_of c.args.parts in
     let here = scenario_of-is c.args.limits c.args.cycles texts c.in_ok-domain.domain c.in_ok-requests.requests.items c.in_ok-domain.ensures.ok
     c.in_ok-requests.ensures.ok in
-    IfOk-weaker c.read_behind.result _ _ (λ given read. here ∙ read) c.read_behind.ensures.ok
+    IfOk-weaker c.read_after.result _ _ (λ given read. here ∙ read) c.read_after.ensures.ok
 
 pub returns-clause-err : goal.returns-clause-err
 returns-clause-err c =
     let texts = texts_of c.args.parts in
     let here = scenario_of-is c.args.limits c.args.cycles texts c.in_ok-domain.domain c.in_ok-requests.requests.items c.in_ok-domain.ensures.ok
     c.in_ok-requests.ensures.ok in
-    IfErr-weaker c.read_behind.result _ _ (λ stop refused. subst (λ (found : Result Scenario (List ℕ)). IsRefused found stop) (sym here) refused)
-    c.read_behind.ensures.err
+    IfErr-weaker c.read_after.result _ _ (λ stop refused. subst (λ (found : Result Scenario (List ℕ)). IsRefused found stop) (sym here) refused)
+    c.read_after.ensures.err

@@ -3,5 +3,5 @@ use Rattle.cqf_program_tc.proofs.bridges.put_clearing.Goals as goal
 
 pub returns : goal.returns
 returns g c = Puts-then _ _ c.put.ensures
-    (Puts-then _ _ c.put_way.ensures
+    (Puts-then _ _ c.put_ingress.ensures
     (c.put-2.ensures))

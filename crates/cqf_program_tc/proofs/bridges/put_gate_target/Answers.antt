@@ -2,7 +2,7 @@ use Rattle.cqf_output.proofs.WriterLemmas.{Puts-then}
 use Rattle.cqf_program_tc.proofs.bridges.put_gate_target.Goals as goal
 
 pub returns : goal.returns
-returns g c = Puts-then _ _ c.put_way.ensures
+returns g c = Puts-then _ _ c.put_ingress.ensures
     (Puts-then _ _ c.put.ensures
     (Puts-then _ _ c.put_number.ensures
     (Puts-then _ _ c.put-2.ensures

@@ -6,7 +6,7 @@ use Rattle.cqf_program_tc.specs.Bridge.{stream_needs}
 use Rattle.cqf_program_tc.proofs.LeavingRows.{AreSoFar}
 use Rattle.cqf_program_tc.proofs.bridges.put_needs.Given as goal
 
-abbrev pub invariant-loop-place : goal.invariant-loop-place
-invariant-loop-place g l =
+abbrev pub invariant-loop-index : goal.invariant-loop-index
+invariant-loop-index g l =
     AreSoFar (λ text. Puts g.W.Write.contents l.initial.writer l.writer text) (stream_needs l.plan.domain.now (gate_index l.plan.addresses.now) l.plan.rows.now l.bridge) l.plan.domain.now l.bridge l.plan.rows.now l.seen
-    (get_or l.places l.place-index (length l.plan.rows.now))
+    (get_or l.indices l.index-index (length l.plan.rows.now))

@@ -7,7 +7,7 @@ returns g c = Puts-then _ _ c.put.ensures
     (Puts-then _ _ c.put-2.ensures
     (Puts-then _ _ (rw c.as_bytes.ensures.value at c.put-3.ensures)
     (Puts-then _ _ c.put-4.ensures
-    (Puts-then _ _ c.put_ways_out.ensures
+    (Puts-then _ _ c.put_out_variables.ensures
     (Puts-then _ _ c.put-5.ensures
     (Puts-then _ _ c.put_gate_call.ensures
     (c.put-6.ensures))))))))

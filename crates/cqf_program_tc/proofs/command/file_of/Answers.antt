@@ -18,11 +18,11 @@ returns-in-Ok-clause-ok c =
     let rows = plan.rows.items in
     let bridge = c.in_ok-bridge.bridge in
     let ok : List ℕ → Result (List ℕ) (List ℕ) = λ text. Ok text in
-    let told : Domain → List Row → Result ℕ (List ℕ) → Result (List ℕ) (List ℕ) =
-    λ d held place. and_then place (λ here. ok (env_text d interfaces addresses held here)) in
-    ap (λ (held : Result (List Row) (List ℕ)). and_then held (λ them. told found.domain them (bridge_named found.domain c.args.name.now))) had.ok
-    ∙ ap (λ (d : Domain). told d rows (bridge_named d c.args.name.now)) (sym had.domain)
-    ∙ ap (told plan.domain rows) c.in_ok-bridge.ensures.ok
+    let written : Domain → List Row → Result ℕ (List ℕ) → Result (List ℕ) (List ℕ) =
+    λ d held index. and_then index (λ here. ok (env_text d interfaces addresses held here)) in
+    ap (λ (held : Result (List Row) (List ℕ)). and_then held (λ them. written found.domain them (bridge_named found.domain c.args.name.now))) had.ok
+    ∙ ap (λ (d : Domain). written d rows (bridge_named d c.args.name.now)) (sym had.domain)
+    ∙ ap (written plan.domain rows) c.in_ok-bridge.ensures.ok
     ∙ ap (λ (them : List LinkInterfaces). ok (env_text plan.domain them addresses rows bridge)) (sym had.interfaces)
     ∙ ap (λ (them : List StreamAddress). ok (env_text plan.domain plan.interfaces.items them rows bridge)) (sym had.addresses)
     ∙ ap (λ (file : EnvFile). ok (text_of_env file)) (sym c.in-Ok.ensures)

@@ -1,6 +1,6 @@
 -- With edge gates the rows are of the same streams.
 use Rattle.std.proofs.Common.{◌∙◌, AllPairs, List, subst, sym, ◌<◌}
-use Rattle.cqf_admission.specs.Turns.{AreOfGoodPaces}
+use Rattle.cqf_admission.specs.ActiveCycles.{AreOfGoodPaces}
 use Rattle.cqf_model.specs.declared.topology.Row.{Row}
 use Rattle.cqf_program_plans.proofs.EdgeGates.{numbers_gated, paced_gated}
 use Rattle.cqf_program_tc.proofs.command.plan_gated.Goals as goal

@@ -14,8 +14,8 @@ returns-in-Ok-clause-ok c =
     let plan = c.in_ok-plan.plan in
     let had = c.in_ok-plan.ensures in
     let ok : List ℕ → Result (List ℕ) (List ℕ) = λ text. Ok text in
-    let told : Domain → List StreamAddress → List Row → List ℕ = λ d addresses rows. tc_text d c.args.software (gate_index addresses) rows in
-    ap (λ (rows : Result (List Row) (List ℕ)). and_then rows (λ held. ok (told found.domain found.addresses.items held))) had.ok
-    ∙ ap (λ (d : Domain). ok (told d found.addresses.items plan.rows.items)) (sym had.domain)
-    ∙ ap (λ (addresses : List StreamAddress). ok (told plan.domain addresses plan.rows.items)) (sym had.addresses)
+    let written : Domain → List StreamAddress → List Row → List ℕ = λ d addresses rows. tc_text d c.args.software (gate_index addresses) rows in
+    ap (λ (rows : Result (List Row) (List ℕ)). and_then rows (λ held. ok (written found.domain found.addresses.items held))) had.ok
+    ∙ ap (λ (d : Domain). ok (written d found.addresses.items plan.rows.items)) (sym had.domain)
+    ∙ ap (λ (addresses : List StreamAddress). ok (written plan.domain addresses plan.rows.items)) (sym had.addresses)
     ∙ ap (λ (script : TcScript). ok (text_of_tc script)) (sym c.in-Ok.ensures)

@@ -1,9 +1,7 @@
-use Rattle.cqf_output.proofs.WriterLemmas.{Puts-then}
+use Rattle.std.proofs.Common.{◌==◌, ℕ, ap}
+use Rattle.cqf_output.proofs.WriterLemmas.{Puts-as}
+use Rattle.cqf_program_tc.specs.Text.{notes_by}
 use Rattle.cqf_program_tc.proofs.frame.put_notes.Goals as goal
 
 pub returns : goal.returns
-returns g c = Puts-then _ _ c.put.ensures
-    (Puts-then _ _ c.put-2.ensures
-    (Puts-then _ _ c.put_kind_notes.ensures
-    (Puts-then _ _ c.put-3.ensures
-    (c.put-4.ensures))))
+returns g c = Puts-as _ _ (ap (λ (n : ℕ). notes_by (n == 0) c.args.software) c.overhead.ensures.value) c.put_notes_by.ensures

@@ -9,11 +9,11 @@ use Rattle.cqf_program_tc.proofs.plan.stream_at.Goals as goal
 pub returns-clause-variable : goal.returns-clause-variable
 returns-clause-variable c =
     let rows = c.args.plan.rows.now in
-    let place = c.args.place in
-    let row = c.index-plan-place.result in
+    let index = c.args.index in
+    let row = c.index-plan-index.result in
     c.as_slice.ensures.value
-    ∙ list_there (variable_at rows) (length rows) c.args.plan.streams.now place place
-    (get_or c.args.plan.streams.now place c.index-plan-place-2.result) c.index-plan-place-2.result c.requires.named.of_streams c.requires.inside refl refl
-    ∙ ap (λ (found : Option Row). option_map_or (stream_variable rows) found []) (slice_get_read rows (length rows) place row refl c.requires.inside
-    c.index-plan-place.is)
-    ∙ ap (stream_variable rows) c.index-plan-place.is
+    ∙ list_there (variable_at rows) (length rows) c.args.plan.streams.now index index
+    (get_or c.args.plan.streams.now index c.index-plan-index-2.result) c.index-plan-index-2.result c.requires.named.of_streams c.requires.inside refl refl
+    ∙ ap (λ (found : Option Row). option_map_or (stream_variable rows) found []) (slice_get_read rows (length rows) index row refl c.requires.inside
+    c.index-plan-index.is)
+    ∙ ap (stream_variable rows) c.index-plan-index.is

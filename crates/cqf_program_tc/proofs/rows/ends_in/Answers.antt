@@ -6,14 +6,14 @@ use Rattle.cqf_program_tc.proofs.rows.ends_in.Goals as goal
 
 pub returns-in-Some : goal.returns-in-Some
 returns-in-Some c =
-    let places = c.args.places.now in
-    let there : slice_get places (length places - 1) ≡ Some c.in-Some.last.now = sym c.in-Some.ensures.value in
-    sym (is_last-at c.args.place places
-    ∙ ap (λ (found : Option ℕ). option_map_or (λ (last : ℕ). last == c.args.place) found false) there)
+    let indices = c.args.indices.now in
+    let there : slice_get indices (length indices - 1) ≡ Some c.in-Some.last.now = sym c.in-Some.ensures.value in
+    sym (is_last-at c.args.index indices
+    ∙ ap (λ (found : Option ℕ). option_map_or (λ (last : ℕ). last == c.args.index) found false) there)
 
 pub returns-in-None : goal.returns-in-None
 returns-in-None c =
-    let places = c.args.places.now in
-    let there : slice_get places (length places - 1) ≡ None = sym c.in-None.ensures.value in
-    sym (is_last-at c.args.place places
-    ∙ ap (λ (found : Option ℕ). option_map_or (λ (last : ℕ). last == c.args.place) found false) there)
+    let indices = c.args.indices.now in
+    let there : slice_get indices (length indices - 1) ≡ None = sym c.in-None.ensures.value in
+    sym (is_last-at c.args.index indices
+    ∙ ap (λ (found : Option ℕ). option_map_or (λ (last : ℕ). last == c.args.index) found false) there)

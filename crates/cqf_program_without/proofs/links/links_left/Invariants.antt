@@ -4,7 +4,7 @@ use Rattle.cqf_program_without.proofs.LinkLists.{left_list}
 use Rattle.cqf_program_without.proofs.links.links_left.Given as goal
 
 -- what is left of the values so far, followed by what is left of the others, is what is left of all
-abbrev pub invariant-loop-place : goal.invariant-loop-place
-invariant-loop-place l =
-    map view l.all.items ++ left_list l.links (items_view l.stations) (map view (drop l.place l.values))
+abbrev pub invariant-loop-index : goal.invariant-loop-index
+invariant-loop-index l =
+    map view l.all.items ++ left_list l.links (items_view l.stations) (map view (drop l.index l.values))
     ≡ left_list l.links (items_view l.stations) (map view l.values)

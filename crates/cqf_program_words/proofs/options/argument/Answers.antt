@@ -9,13 +9,13 @@ use Rattle.cqf_program_words.proofs.options.argument.Goals as goal
 pub returns-in-Some-clause-rule : goal.returns-in-Some-clause-rule
 returns-in-Some-clause-rule c =
     let given = c.value_parser.ensures.given in
-    let told : rule_of c.help-told.result ≡ option_rule c.args.option = ap rule_of c.help-told.ensures ∙ c.bare_argument.ensures.rule in
-    with_parser c.help-told.result c.value_parser.result (option_rule c.args.option) c.in-Some.parser
-    c.value_parser.ensures.others told (given.1 ∙ ap (λ (p : ValueParser). Some p) given.2)
+    let reported : rule_of c.help-reported.result ≡ option_rule c.args.option = ap rule_of c.help-reported.ensures ∙ c.bare_argument.ensures.rule in
+    with_parser c.help-reported.result c.value_parser.result (option_rule c.args.option) c.in-Some.parser
+    c.value_parser.ensures.others reported (given.1 ∙ ap (λ (p : ValueParser). Some p) given.2)
     ∙ ap (λ (q : Option ValueParser). with_parser_of q (option_rule c.args.option)) (sym c.in-Some.is ∙ c.numbers.ensures)
 
 -- and if it needn't be a number
 pub returns-in-None-clause-rule : goal.returns-in-None-clause-rule
 returns-in-None-clause-rule c =
-    ap rule_of c.help-told.ensures ∙ c.bare_argument.ensures.rule
+    ap rule_of c.help-reported.ensures ∙ c.bare_argument.ensures.rule
     ∙ ap (λ (q : Option ValueParser). with_parser_of q (option_rule c.args.option)) (sym c.in-None.is ∙ c.numbers.ensures)

@@ -2,7 +2,7 @@ use Rattle.std.proofs.Common.{◌∙◌, ap, map}
 use Rattle.clap.specs.Words.{app_of}
 use Rattle.cqf_program_words.proofs.Ranges.{at_none, at_some}
 use Rattle.cqf_program_words.proofs.WordLemmas.{EndsWords-by_error, EndsWords-by_matches, Mean-by_matches}
-use Rattle.cqf_program_words.proofs.WordLemmas.{TellsMistake-by_error, TellsMistake-by_matches}
+use Rattle.cqf_program_words.proofs.WordLemmas.{WritesMistake-by_error, WritesMistake-by_matches}
 use Rattle.cqf_program_words.specs.Commands.{cqf_app}
 use Rattle.cqf_program_words.proofs.words.read_plainly.Goals as goal
 
@@ -20,7 +20,7 @@ returns-in-Ok-None-clause-err c =
 
 pub returns-in-Ok-None-clause-line : goal.returns-in-Ok-None-clause-line
 returns-in-Ok-None-clause-line c =
-    TellsMistake-by_matches (app_of c.in-Ok.command) (map (λ word. word.now) c.args.words.now) c.in-Ok-try_get_matches_from_mut.matches
+    WritesMistake-by_matches (app_of c.in-Ok.command) (map (λ word. word.now) c.args.words.now) c.in-Ok-try_get_matches_from_mut.matches
     c.no_job.result (c.in-Ok.ensures.app ∙ ap cqf_app c.ask_for_large.ensures) c.in-Ok-try_get_matches_from_mut.ensures.ok.2 c.no_job.ensures.line
 
 pub returns-clause-err : goal.returns-clause-err
@@ -30,5 +30,5 @@ returns-clause-err c =
 
 pub returns-clause-line : goal.returns-clause-line
 returns-clause-line c =
-    TellsMistake-by_error (app_of c.in-Ok.command) (map (λ word. word.now) c.args.words.now) c.in-Err.error
+    WritesMistake-by_error (app_of c.in-Ok.command) (map (λ word. word.now) c.args.words.now) c.in-Err.error
     c.refused_by_clap.result (c.in-Ok.ensures.app ∙ ap cqf_app c.ask_for_large.ensures) c.in-Err.ensures.kinds c.refused_by_clap.ensures

@@ -8,7 +8,7 @@ use Rattle.cqf_laws_coverage.specs.Columns.{frames_by, octets_by}
 use Rattle.cqf_report.specs.Columns.{column_fields, columns_text}
 use Rattle.cqf_report.specs.LinkSums.{link_header, sums_fields}
 use Rattle.cqf_report.specs.Written.{line_of_fields}
-use Rattle.cqf_report.proofs.LinkLines.{line_behind, same_sums}
+use Rattle.cqf_report.proofs.LinkLines.{line_after, same_sums}
 use Rattle.cqf_report.proofs.columns.write_columns.Goals as goal
 
 pub loop-link-preserved : goal.loop-link-preserved
@@ -28,7 +28,7 @@ loop-link-preserved g c =
     let most : c.from-in-loop-link-2.result ≡ fold max 0 (octets_by columns link) =
     c.from-in-loop-link-2.ensures ∙ c.most_of.ensures ∙ ap (fold max 0) listed in
     Puts-as _ (each_below line (link + 1))
-    (line_behind line link
+    (line_after line link
     (line_of_fields (sums_fields (name_of_link d link) c.from-in-loop-link.result c.sum_of.result c.from-in-loop-link-2.result))
     (same_sums (name_of_link d link) c.from-in-loop-link.result (frames_by columns link) c.sum_of.result (sum (octets_by columns link))
     c.from-in-loop-link-2.result (fold max 0 (octets_by columns link)) frames (c.sum_of.ensures ∙ ap sum listed) most))
@@ -42,7 +42,7 @@ returns g c =
     let all : c.loop-link.link ≡ length d.links = omega (arith, c.loop-link-test.false, c.loop-link.auto.link-end, c.links-link-end.ensures) in
     let lines = Puts-as (each_below line c.loop-link.link) (each_below line (length d.links)) (ap (each_below line) all) c.loop-link.invariant in
     let puts = Puts-then (line_of_fields link_header) (each_below line (length d.links)) c.put_header.ensures lines in
-    let names = c.close-told.ensures.same ∙ puts.same ∙ c.new-writer.ensures.same in
-    text-written c.close-told.result.now (columns_text d (frames_by columns) (octets_by columns)) c.told_text.result
-    (ap (λ list. list.items) c.new-told.ensures.writer ∙ c.new.ensures.items)
-    c.new-writer.ensures.opens puts c.close-told.ensures.closes c.told_text.ensures.ok (search rules) (search rules)
+    let names = c.close-written.ensures.same ∙ puts.same ∙ c.new-writer.ensures.same in
+    text-written c.close-written.result.now (columns_text d (frames_by columns) (octets_by columns)) c.written_text.result
+    (ap (λ list. list.items) c.new-reported.ensures.writer ∙ c.new.ensures.items)
+    c.new-writer.ensures.opens puts c.close-written.ensures.closes c.written_text.ensures.ok (search rules) (search rules)

@@ -44,7 +44,7 @@ returns g c =
     let all : c.loop-link.link ≡ length d.links = omega (arith, c.loop-link-test.false, c.loop-link.auto.link-end, c.links-link-end.ensures) in
     let lines = Puts-as (each_below line c.loop-link.link) (each_below line (length d.links)) (ap (each_below line) all) c.loop-link.invariant in
     let puts = Puts-then (line_of_fields link_header) (each_below line (length d.links)) c.put_header.ensures lines in
-    let names = c.close-told.ensures.same ∙ puts.same ∙ c.new-writer.ensures.same in
-    text-written c.close-told.result.now (links_text d (contents_of c.args.book.now)) c.told_text.result
-    (ap (λ list. list.items) c.new-told.ensures.writer ∙ c.new.ensures.items)
-    c.new-writer.ensures.opens puts c.close-told.ensures.closes c.told_text.ensures.ok (search rules) (search rules)
+    let names = c.close-written.ensures.same ∙ puts.same ∙ c.new-writer.ensures.same in
+    text-written c.close-written.result.now (links_text d (contents_of c.args.book.now)) c.written_text.result
+    (ap (λ list. list.items) c.new-reported.ensures.writer ∙ c.new.ensures.items)
+    c.new-writer.ensures.opens puts c.close-written.ensures.closes c.written_text.ensures.ok (search rules) (search rules)

@@ -1,6 +1,6 @@
 use Rattle.std.proofs.Common.{refl, sym, ◌∙◌}
 use Rattle.csv.specs.Records.{fields_of}
-use Rattle.cqf_report.proofs.Turns.{takes-row, takes-none, refuses-row}
+use Rattle.cqf_report.proofs.ActiveCycles.{takes-row, takes-none, refuses-row}
 use Rattle.cqf_report.proofs.records.take_record.Goals as goal
 
 pub returns-in-Ok-true-clause-taken : goal.returns-in-Ok-true-clause-taken

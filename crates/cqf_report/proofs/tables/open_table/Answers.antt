@@ -1,5 +1,5 @@
 use Rattle.std.proofs.Common.{◌∙◌, inr}
-use Rattle.cqf_report.proofs.Turns.{opened}
+use Rattle.cqf_report.proofs.ActiveCycles.{opened}
 use Rattle.cqf_report.proofs.tables.open_table.Goals as goal
 
 pub returns-clause-ready : goal.returns-clause-ready

@@ -14,7 +14,7 @@ loop-byte-preserved c =
 pub returns-in-None : goal.returns-in-None
 returns-in-None c =
     let bytes = c.args.bytes.now in
-    let place = c.loop-byte.byte-index in
-    let worth = digit_value_digit (get_or bytes place 0) (search rules) in
-    none_by_size c.args.least c.args.most (place + 1) bytes
-    (omega (arith, digits_value_more 10 bytes place c.loop-byte-test.true, worth, c.loop-byte.invariant.value, c.in-None.ensures))
+    let index = c.loop-byte.byte-index in
+    let worth = digit_value_digit (get_or bytes index 0) (search rules) in
+    none_by_size c.args.least c.args.most (index + 1) bytes
+    (omega (arith, digits_value_more 10 bytes index c.loop-byte-test.true, worth, c.loop-byte.invariant.value, c.in-None.ensures))

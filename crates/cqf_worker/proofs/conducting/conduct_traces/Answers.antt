@@ -2,7 +2,7 @@ use Rattle.std.proofs.Common.{Global, Vec, map}
 use Rattle.cqf_admission.specs.declared.entries.Command.{Command}
 use Rattle.cqf_worker.proofs.Preparing.{passed_on}
 use Rattle.cqf_worker.specs.Failing.{IsConductFault}
-use Rattle.cqf_worker.proofs.Told.{told_before, told_in_the_end, told_of_threads}
+use Rattle.cqf_worker.proofs.Reported.{reported_before, reported_in_the_end, reported_of_threads}
 use Rattle.cqf_worker.proofs.Accounts.{account_is, is_ready, may_back, bridge_traces_in_the_end, tables_in_the_end, wired_in_the_end}
 use Rattle.cqf_worker.proofs.conducting.conduct_traces.Goals as goal
 
@@ -54,7 +54,7 @@ returns-in_err-desk-clause-err g c =
     passed_on c.from_residual.result c.in_err-desk.field-0.0
     (IsConductFault c.args.domain.now c.args.admission.entries c.args.offers.now c.args.background.now c.args.cycles
     (map (λ (v : Vec Command Global). v.items) c.args.admins.items)) c.from_residual.ensures.1
-    (told_before c.args.domain.now c.args.admission.entries c.args.offers.now c.args.background.now c.args.cycles
+    (reported_before c.args.domain.now c.args.admission.entries c.args.offers.now c.args.background.now c.args.cycles
     (map (λ (v : Vec Command Global). v.items) c.args.admins.items) c.in_err-desk.field-0.0 c.in_err-desk.ensures.err)
 
 -- or its threads report a fault
@@ -63,7 +63,7 @@ returns-in_err-ended-clause-err g c =
     passed_on c.from_residual-in_err-ended.result c.in_err-ended.field-0.0
     (IsConductFault c.args.domain.now c.args.admission.entries c.args.offers.now c.args.background.now c.args.cycles
     (map (λ (v : Vec Command Global). v.items) c.args.admins.items)) c.from_residual-in_err-ended.ensures.1
-    (told_of_threads c.args.domain.now c.args.admission.entries c.args.offers.now c.args.background.now c.args.cycles
+    (reported_of_threads c.args.domain.now c.args.admission.entries c.args.offers.now c.args.background.now c.args.cycles
     (map (λ (v : Vec Command Global). v.items) c.args.admins.items) c.in_ok-desk.field-0 c.in_ok-desk.ensures.ok
     c.in_err-ended.field-0.0 c.in_err-ended.ensures.err)
 
@@ -73,6 +73,6 @@ returns-in_err-account-clause-err g c =
     passed_on c.from_residual-in_err-account.result c.in_err-account.field-0.0
     (IsConductFault c.args.domain.now c.args.admission.entries c.args.offers.now c.args.background.now c.args.cycles
     (map (λ (v : Vec Command Global). v.items) c.args.admins.items)) c.from_residual-in_err-account.ensures.1
-    (told_in_the_end c.args.domain.now c.args.admission.entries c.args.offers.now c.args.background.now c.args.cycles
+    (reported_in_the_end c.args.domain.now c.args.admission.entries c.args.offers.now c.args.background.now c.args.cycles
     (map (λ (v : Vec Command Global). v.items) c.args.admins.items) c.in_ok-desk.field-0 c.in_ok-desk.ensures.ok c.in_ok-ended.ended c.in_ok-ended.ensures.ok
     c.know.ensures.accepted c.in_err-account.field-0.0 c.in_err-account.ensures.err)

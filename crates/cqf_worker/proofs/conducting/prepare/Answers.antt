@@ -1,7 +1,7 @@
 use Rattle.std.proofs.Common.{◌≡◌, Global, Vec, arith, length, map}
 use Rattle.std.proofs.lemmas.List.{length-map}
 use Rattle.cqf_admission.specs.declared.entries.Command.{Command}
-use Rattle.cqf_worker.specs.Telling.{IsStartFault}
+use Rattle.cqf_worker.specs.Reporting.{IsStartFault}
 use Rattle.cqf_worker.proofs.Preparing.{desk_is, passed_on}
 use Rattle.cqf_worker.proofs.conducting.prepare.Goals as goal
 

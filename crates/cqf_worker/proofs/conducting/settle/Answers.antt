@@ -1,7 +1,7 @@
 use Rattle.std.proofs.Common.{subst, sym}
 use Rattle.cqf_trace.specs.BridgeTraces.{AreBridgeTracesOf}
 use Rattle.cqf_worker.specs.Conducting.{IsSettleFault}
-use Rattle.cqf_worker.proofs.Preparing.{passed_on, settled_so, told_of_desk, told_of_pipes}
+use Rattle.cqf_worker.proofs.Preparing.{passed_on, reported_of_desk, reported_of_pipes, settled_so}
 use Rattle.cqf_worker.proofs.conducting.settle.Goals as goal
 
 -- the bridge traces are of the bridges
@@ -20,11 +20,11 @@ returns-clause-ok c =
 pub returns-in_err-bridge_traces-clause-err : goal.returns-in_err-bridge_traces-clause-err
 returns-in_err-bridge_traces-clause-err c =
     passed_on c.from_residual.result c.in_err-bridge_traces.field-0.0 (IsSettleFault c.args.desk c.args.ended) c.from_residual.ensures.1
-    (told_of_pipes c.args.desk c.args.ended c.in_err-bridge_traces.field-0.0 c.in_err-bridge_traces.ensures.err)
+    (reported_of_pipes c.args.desk c.args.ended c.in_err-bridge_traces.field-0.0 c.in_err-bridge_traces.ensures.err)
 
 -- or the desk isn't
 pub returns-in_err-history-clause-err : goal.returns-in_err-history-clause-err
 returns-in_err-history-clause-err c =
     passed_on c.from_residual-in_err-history.result c.in_err-history.field-0.0 (IsSettleFault c.args.desk c.args.ended)
     c.from_residual-in_err-history.ensures.1
-    (told_of_desk c.args.desk c.args.ended c.push.new.self.items c.in_err-history.field-0.0 c.in_ok-push.ensures.items c.in_err-history.ensures.err)
+    (reported_of_desk c.args.desk c.args.ended c.push.new.self.items c.in_err-history.field-0.0 c.in_ok-push.ensures.items c.in_err-history.ensures.err)

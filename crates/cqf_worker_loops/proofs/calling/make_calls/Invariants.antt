@@ -3,5 +3,5 @@ use Rattle.cqf_worker_loops.specs.Commands.{HasCalled}
 use Rattle.cqf_worker_loops.proofs.calling.make_calls.Given as goal
 
 -- the commands before the index were made
-abbrev pub invariant-loop-place : goal.invariant-loop-place
-invariant-loop-place g l = HasCalled (take l.place l.fn.commands.items) l.fn.seat l.seat × (l.place-end ≡ length l.fn.commands.items)
+abbrev pub invariant-loop-index : goal.invariant-loop-index
+invariant-loop-index g l = HasCalled (take l.index l.fn.commands.items) l.fn.seat l.seat × (l.index-end ≡ length l.fn.commands.items)

@@ -5,8 +5,8 @@ use Rattle.cqf_worker_loops.proofs.rounds.go_on.Goals.{then-may_send+in_ok-send,
 use Rattle.cqf_worker_loops.proofs.rounds.go_on.Goals as goal
 
 -- if a link can go on, it has gone on; else the worker has only looked
-pub tell-requires : goal.tell-requires
-tell-requires g c =
+pub report-requires : goal.report-requires
+report-requires g c =
     let first = c.args.worker.now in
     let goes : GoesFurther first c.if-may_send.worker = elim c.if-may_send.branch [
       | then-may_send+in_ok-send b ↦
@@ -25,7 +25,7 @@ returns-clause-ok g c =
           (goes_with_sends c.look.new.worker _ b.in_ok-send.ensures refl refl refl refl))
       | else-may_send b ↦ subst (GoesFurther first) (sym b.worker-is) c.in_ok-look.ensures.ok
     ] in
-    goes_further first c.if-may_send.worker _ goes c.in_ok-tell.ensures.ok
+    goes_further first c.if-may_send.worker _ goes c.in_ok-report.ensures.ok
 
 -- if it gives up, it has put only segments
 pub returns-in_err-send-clause-err : goal.returns-in_err-send-clause-err

@@ -14,10 +14,10 @@ pub loop-segment-preserved : goal.loop-segment-preserved
 loop-segment-preserved g c =
     let w = c.loop-segment.worker in
     let port = c.index_mut.result.now in
-    let inside : c.args.place < length w.ins.items = omega (arith, c.requires.place, ports_still c.args.worker.now w c.loop-segment.invariant) in
-    let there : slice_get w.ins.items c.args.place ≡ Some port = port_there w.ins.items c.args.place port inside c.index_mut.ensures.value in
-    goes_further c.args.worker.now w _ c.loop-segment.invariant (goes_with_segment c.args.place w _ port c.in-Item-Item.segment there
-    (ap (λ (end : End (Carried Segment)). set w.ins.items c.args.place (record { link = port.link; pipe = end }))
+    let inside : c.args.index < length w.ins.items = omega (arith, c.requires.index, ports_still c.args.worker.now w c.loop-segment.invariant) in
+    let there : slice_get w.ins.items c.args.index ≡ Some port = port_there w.ins.items c.args.index port inside c.index_mut.ensures.value in
+    goes_further c.args.worker.now w _ c.loop-segment.invariant (goes_with_segment c.args.index w _ port c.in-Item-Item.segment there
+    (ap (λ (end : End (Carried Segment)). set w.ins.items c.args.index (record { link = port.link; pipe = end }))
     (found_item port.pipe c.look.new.self c.look.result c.look.ensures.pipe c.look.ensures.items (Item c.in-Item-Item.segment) (cc)))
     c.in_ok-take_segment-in-Item-Item.ensures refl refl refl)
 
@@ -27,17 +27,17 @@ returns-in-Nothing-clause-ok g c =
     let w = c.loop-segment.worker in
     let port = c.index_mut.result.now in
     goes_further c.args.worker.now w _ c.loop-segment.invariant (goes_as_before w _ refl refl refl
-    (port_same w.ins.items c.args.place port c.look.new.self c.index_mut.ensures.value c.look.ensures.pipe
+    (port_same w.ins.items c.args.index port c.look.new.self c.index_mut.ensures.value c.look.ensures.pipe
     (ap (λ (end : End (Carried Segment)). end.items)
     (found_nothing port.pipe c.look.new.self c.look.result c.look.ensures.pipe c.look.ensures.items c.in-Nothing.is))) refl)
 
 -- if it gives up, it has put only segments
 pub returns-in_default-clause-err : goal.returns-in_default-clause-err
-returns-in_default-clause-err g c = gives_up c.args.worker.now c.loop-segment.worker _ c.requires.way c.loop-segment.invariant refl
+returns-in_default-clause-err g c = gives_up c.args.worker.now c.loop-segment.worker _ c.requires.under_way c.loop-segment.invariant refl
 
 pub returns-in_default-2-clause-err : goal.returns-in_default-2-clause-err
-returns-in_default-2-clause-err g c = gives_up c.args.worker.now c.loop-segment.worker _ c.requires.way c.loop-segment.invariant refl
+returns-in_default-2-clause-err g c = gives_up c.args.worker.now c.loop-segment.worker _ c.requires.under_way c.loop-segment.invariant refl
 
 pub returns-in_err-take_segment-in-Item-Item-clause-err : goal.returns-in_err-take_segment-in-Item-Item-clause-err
 returns-in_err-take_segment-in-Item-Item-clause-err g c =
-    on_fault c.from_residual.result _ (gives_up c.args.worker.now c.loop-segment.worker _ c.requires.way c.loop-segment.invariant refl)
+    on_fault c.from_residual.result _ (gives_up c.args.worker.now c.loop-segment.worker _ c.requires.under_way c.loop-segment.invariant refl)

@@ -4,5 +4,5 @@ use Rattle.cqf_worker_loops.proofs.Each.{AreGiven}
 use Rattle.cqf_worker_loops.proofs.rows.stop_each.Given as goal
 
 -- a Stop was put at each of the ports below the index, or nothing
-abbrev pub invariant-loop-place : goal.invariant-loop-place
-invariant-loop-place g l = AreGiven Stop l.fn.ports l.ports l.place × (l.place-end ≡ length l.fn.ports)
+abbrev pub invariant-loop-index : goal.invariant-loop-index
+invariant-loop-index g l = AreGiven Stop l.fn.ports l.ports l.index × (l.index-end ≡ length l.fn.ports)

@@ -7,8 +7,8 @@ use Rattle.cqf_worker_loops.proofs.sealing.hand_on.Goals.{then-not-hand, else-no
 use Rattle.cqf_worker_loops.proofs.sealing.hand_on.Goals as goal
 
 -- no end was given them yet
-pub loop-place-init : goal.loop-place-init
-loop-place-init g c = (
+pub loop-index-init : goal.loop-index-init
+loop-index-init g c = (
   hands_none (map Item (tables_handed c.args.block.now)) c.args.tables.now,
   refl,
   misses_none
@@ -16,19 +16,19 @@ loop-place-init g c = (
 )
 
 -- the next end was given them, unless its worker has ended
-pub loop-place-preserved : goal.loop-place-preserved
-loop-place-preserved g c =
+pub loop-index-preserved : goal.loop-index-preserved
+loop-index-preserved g c =
     let tables = map Item (tables_handed c.args.block.now) in (
-      hands_next tables c.args.tables.now c.loop-place.tables c.loop-place.place c.loop-place.all c.index-tables-place.result
-          c.hand.new.end c.hand.result c.if-not-hand.all c.loop-place.invariant.0 (omega arith)
-          (handed_as tables (Item c.in_ok-first.first ∷ c.in_ok-behind.behind.items) _ _ _ (search rules) c.hand.ensures.given c.hand.ensures.gone)
+      hands_next tables c.args.tables.now c.loop-index.tables c.loop-index.index c.loop-index.all c.index-tables-index.result
+          c.hand.new.end c.hand.result c.if-not-hand.all c.loop-index.invariant.0 (omega arith)
+          (handed_as tables (Item c.in_ok-first.first ∷ c.in_ok-following.following.items) _ _ _ (search rules) c.hand.ensures.given c.hand.ensures.gone)
           (λ is. elim c.if-not-hand.branch [
             | then-not-hand w ↦ absurd (false≢true (sym w.all-is ∙ is))
             | else-not-hand w ↦ (sym w.all-is ∙ is, search rules)
           ]),
-      c.loop-place.invariant.1,
-      misses_next tables c.args.tables.now c.loop-place.tables c.loop-place.place c.loop-place.all c.index-tables-place.result
-          c.hand.new.end c.hand.result c.if-not-hand.all c.loop-place.invariant.0 (omega arith) c.loop-place.invariant.2 c.hand.ensures.gone
+      c.loop-index.invariant.1,
+      misses_next tables c.args.tables.now c.loop-index.tables c.loop-index.index c.loop-index.all c.index-tables-index.result
+          c.hand.new.end c.hand.result c.if-not-hand.all c.loop-index.invariant.0 (omega arith) c.loop-index.invariant.2 c.hand.ensures.gone
           (λ is. elim c.if-not-hand.branch [
             | then-not-hand w ↦ inr (search rules)
             | else-not-hand w ↦ inl (sym w.all-is ∙ is)
@@ -38,5 +38,5 @@ loop-place-preserved g c =
 -- if one end wasn't, one of all is unchanged
 pub returns-clause-missed : goal.returns-clause-missed
 returns-clause-missed g c is =
-    let missed = c.loop-place.invariant.2 is in
-    (missed.0, omega (arith, missed.1, c.loop-place.invariant.1), missed.2)
+    let missed = c.loop-index.invariant.2 is in
+    (missed.0, omega (arith, missed.1, c.loop-index.invariant.1), missed.2)

@@ -2,7 +2,7 @@ use Rattle.std.proofs.Common.{◌-◌, ◌+◌, ◌++◌, ◌≡◌, arith, drop
 use Rattle.std.specs.Prelude.{◌&&◌}
 use Rattle.std.proofs.lemmas.Bool.{and_cases}
 use Rattle.cqf_worker_loops.specs.Handing.{HasClosed, LacksOne}
-use Rattle.cqf_worker_loops.proofs.SealedCycles.{IsSealing, closes_some, none_left, none_stopped, seals_back, seals_closed, told_stop}
+use Rattle.cqf_worker_loops.proofs.SealedCycles.{IsSealing, closes_some, none_left, none_stopped, reported_stop, seals_back, seals_closed}
 use Rattle.cqf_worker_loops.proofs.sealing.seal_cycles.Goals as goal
 
 -- count more cycles are closed
@@ -26,7 +26,7 @@ loop-left-preserved g c =
 -- some aren't, and the workers are notified
 pub returns-in-Err-clause-put : goal.returns-in-Err-clause-put
 returns-in-Err-clause-put g c =
-    told_stop c.args.conductor.now.seat c.args.conductor.now.tables.items (c.args.cycles - c.loop-left.left) c.min-count.result c.loop-left.conductor.seat
+    reported_stop c.args.conductor.now.seat c.args.conductor.now.tables.items (c.args.cycles - c.loop-left.left) c.min-count.result c.loop-left.conductor.seat
     c.loop-left.conductor.tables.items c.as_mut_slice-tables.result.now c.seal_next.new.tables c.as_mut_slice.result.now c.stop_tables.new.tables
     c.loop-left.conductor.tables.len c.loop-left.all c.loop-left.invariant.0 c.loop-left.conductor.tables.ok.0 c.as_mut_slice-tables.ensures.value
     c.seal_next.ensures.pipes c.seal_next.ensures.some c.as_mut_slice.ensures.value c.stop_tables.ensures.pipes c.stop_tables.ensures.stopped

@@ -14,7 +14,7 @@ use Rattle.cqf_admission.specs.Calling.{IsJudgedCall}
 use Rattle.cqf_admission.specs.Judging.{Judges}
 use Rattle.cqf_admission.specs.State.{Figures, IsStateOf, Leaves, entries_with, of_entries}
 use Rattle.cqf_admission.specs.Tabling.{AreTablesOf, IsNoted, Tables}
-use Rattle.cqf_admission.proofs.Entered.{Entered, entered_behind, entered_with, form_refused, judged_form}
+use Rattle.cqf_admission.proofs.Entered.{Entered, entered_after, entered_with, form_refused, judged_form}
 use Rattle.cqf_admission.proofs.Tabled.{tables_more, tables_same}
 use Rattle.cqf_admission.proofs.admission.Admission.admit_judged.Goals as goal
 use Rattle.cqf_admission.proofs.admission.Admission.admit_judged.Goals.{in-Ok+in_ok-answer-in-Ok, in-Err}
@@ -51,7 +51,7 @@ admit-requires-clause-request c =
       asked = of.asked;
       is = judged_form c.self.inside.domain of.asked c.in-Ok.judged c.of_judged-form.result
           (subst (Judges c.self.inside.domain of.asked) c.in-Ok.is of.judges) c.of_judged-form.ensures.name (c.of_judged-form.ensures.octets ∙ of.octets_asked)
-          c.of_judged-form.ensures.pace c.of_judged-form.ensures.tree;
+          c.of_judged-form.ensures.overhead c.of_judged-form.ensures.pace c.of_judged-form.ensures.tree;
     }
 
 -- what an admission controller has besides its state and its history
@@ -94,7 +94,7 @@ module _ (c : goal.After-enter) where
         subst₂ Left (sym (ap (λ (i : Inside). i.state) w.self-inside-is)) (sym w.answer-is)
         (w.in_ok-answer-in-Ok.ensures.admits entries asked c.args.seat c.self.invariant.0
         (judged_form d asked w.in-Ok.judged w.of_judged-form.result (subst (Judges d asked) w.in-Ok.is of.judges)
-        w.of_judged-form.ensures.name (w.of_judged-form.ensures.octets ∙ of.octets_asked) w.of_judged-form.ensures.pace w.of_judged-form.ensures.tree) few)
+        w.of_judged-form.ensures.name (w.of_judged-form.ensures.octets ∙ of.octets_asked) w.of_judged-form.ensures.overhead w.of_judged-form.ensures.pace w.of_judged-form.ensures.tree) few)
     | in-Err w ↦
         subst₂ Left (sym (ap (λ (i : Inside). i.state) w.self-inside-is)) (sym w.answer-is)
         (form_refused c.state_follows_history.ensures.goes_on c.state_follows_history.ensures.counted d entries c.self.inside.state c.args.seat asked
@@ -117,7 +117,7 @@ module _ (c : goal.After-enter) where
   after_is : map recorded_of c.enter.new.history.items ≡ entries_with entries c.args.seat (Admits asked) c.match-judged.answer
   unfolding asked of
   after_is =
-      entered_behind c.self.inside.history.items c.match-judged.self-inside.history.items c.enter.new.history.items
+      entered_after c.self.inside.history.items c.match-judged.self-inside.history.items c.enter.new.history.items
       (record { seat = c.args.seat; call = c.args.call; reply = c.reply_of.result }) (Admits asked) kept c.enter.ensures of.act
       ∙ ap (with_entry entries c.args.seat (Admits asked)) c.reply_of.ensures
 

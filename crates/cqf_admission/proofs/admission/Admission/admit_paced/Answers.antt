@@ -1,4 +1,4 @@
--- A copy that is shared asks for the same.
+-- A copy that is shared requests the same.
 use Rattle.std.proofs.Common.{subst}
 use Rattle.cqf_model.specs.History.{Admits, Asked}
 use Rattle.cqf_admission.specs.Admission.{Answers, HoldsOneMore}

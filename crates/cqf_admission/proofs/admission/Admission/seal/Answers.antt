@@ -10,10 +10,10 @@ use Rattle.cqf_admission.proofs.TableLemmas.{trees_go_along_links}
 use Rattle.cqf_admission.specs.declared.entries.Call.TheVariants.{Seal}
 use Rattle.cqf_admission.specs.Admission.{Administration, Closes, LetsGo, recorded_of}
 use Rattle.cqf_admission.specs.State.{IsStateOf, LeavesSealed, of_entries}
-use Rattle.cqf_admission.specs.Turns.{AreOfGoodPaces}
+use Rattle.cqf_admission.specs.ActiveCycles.{AreOfGoodPaces}
 use Rattle.cqf_admission.specs.Tables.{AreTrees}
 use Rattle.cqf_admission.specs.Tabling.{AreTablesOf}
-use Rattle.cqf_admission.proofs.Entered.{entered_behind}
+use Rattle.cqf_admission.proofs.Entered.{entered_after}
 use Rattle.cqf_admission.proofs.Paced.{good_held}
 use Rattle.cqf_admission.proofs.Tabled.{held_alike, tables_less}
 use Rattle.cqf_admission.proofs.admission.Admission.seal.Goals as goal
@@ -49,7 +49,7 @@ module _ (c : goal.After-new) where
 
   after_is : map recorded_of c.enter.new.history.items ≡ with_seal
   after_is =
-      entered_behind c.self.inside.history.items c.reserve.new.self.items c.enter.new.history.items
+      entered_after c.self.inside.history.items c.reserve.new.self.items c.enter.new.history.items
       (record { seat = c.args.seat; call = Seal; reply = Sealed }) Seals c.reserve.ensures.items c.enter.ensures refl
 
   leaves : LeavesSealed c.self.inside.domain entries c.seal-ends.new.self c.args.seat

@@ -10,7 +10,7 @@ use Rattle.cqf_admission.specs.declared.entries.Call.TheVariants.{Withdraw}
 use Rattle.cqf_admission.specs.Admission.{Administration, Answers, EndsOne, recorded_of, reply_of}
 use Rattle.cqf_admission.specs.State.{entries_with, of_entries}
 use Rattle.cqf_admission.specs.Tabling.{AreTablesOf, IsNoted, Tables}
-use Rattle.cqf_admission.proofs.Entered.{Entered, entered_behind, entered_with, few_calls}
+use Rattle.cqf_admission.proofs.Entered.{Entered, entered_after, entered_with, few_calls}
 use Rattle.cqf_admission.proofs.Tabled.{tables_ended, tables_same}
 use Rattle.cqf_admission.proofs.admission.Admission.withdraw.Goals as goal
 
@@ -39,7 +39,7 @@ module _ (c : goal.After-enter) where
   -- the call as it is entered
   after_is : map recorded_of c.enter.new.history.items ≡ entries_with entries c.args.seat (Withdraws c.args.name.now) c.in_ok-answer.answer
   after_is =
-      entered_behind c.self.inside.history.items c.reserve.new.self.items c.enter.new.history.items
+      entered_after c.self.inside.history.items c.reserve.new.self.items c.enter.new.history.items
       (record { seat = c.args.seat; call = Withdraw c.in_ok-asked.asked; reply = c.reply_of.result }) (Withdraws c.args.name.now) c.reserve.ensures.items
       c.enter.ensures (ap Withdraws c.in_ok-asked.ensures.ok)
       ∙ ap (with_entry entries c.args.seat (Withdraws c.args.name.now)) c.reply_of.ensures

@@ -19,40 +19,40 @@ wanted_many stands held are =
     length-map (filter (λ (stand : Standing). stand.held) (map standing_of stands)) (λ (stand : Standing). stand.row)
     ∙ held_many 0 (map standing_of stands) ∙ sym (ap (λ (ns : List ℕ). length ns) are)
 
-module _ (stands : List Stand) (held : List ℕ) (are : held ≡ numbers_from 0 (map standing_of stands)) (place number : ℕ) (low : place < length held)
-    (is : number ≡ get_or held place 0) where
-  is_there : number ≡ get_or held place number
-  is_there = is ∙ get_or_default held place 0 number low
+module _ (stands : List Stand) (held : List ℕ) (are : held ≡ numbers_from 0 (map standing_of stands)) (index number : ℕ) (low : index < length held)
+    (is : number ≡ get_or held index 0) where
+  is_there : number ≡ get_or held index number
+  is_there = is ∙ get_or_default held index 0 number low
 
   -- a listed number is that of a held stream
   at_number : IsHeldAt (map standing_of stands) number
   at_number =
-      let among : Contains held number = (place, low, sym is_there) in
+      let among : Contains held number = (index, low, sym is_there) in
       held_of_number (map standing_of stands) number (subst (λ (ns : List ℕ). Contains ns number) are among)
 
   inside : number < length stands
   inside = omega (arith, at_number.inside, length-map stands standing_of)
 
   -- the row of that stream is the next one
-  next_is : (stand : Stand) → stand ≡ get_or stands number stand → get_or (wanted stands) place (arc_value stand.row) ≡ arc_value stand.row
+  next_is : (stand : Stand) → stand ≡ get_or stands number stand → get_or (wanted stands) index (arc_value stand.row) ≡ arc_value stand.row
   next_is stand there =
-      mapped_there (λ (s : Standing). s.row) (filter (λ (s : Standing). s.held) (map standing_of stands)) place (standing_of stand) (arc_value stand.row)
+      mapped_there (λ (s : Standing). s.row) (filter (λ (s : Standing). s.held) (map standing_of stands)) index (standing_of stand) (arc_value stand.row)
       (omega (
         arith,
         low,
         wanted_many stands held are,
         length-map (filter (λ (s : Standing). s.held) (map standing_of stands)) (λ (s : Standing). s.row),
       ))
-      (held_in_place (map standing_of stands) place number (standing_of stand) (omega (arith, low, ap (λ (ns : List ℕ). length ns) are))
-      (is_there ∙ ap (λ (ns : List ℕ). get_or ns place number) are) (sym (mapped_there standing_of stands number stand (standing_of stand) inside there)))
+      (held_in_place (map standing_of stands) index number (standing_of stand) (omega (arith, low, ap (λ (ns : List ℕ). length ns) are))
+      (is_there ∙ ap (λ (ns : List ℕ). get_or ns index number) are) (sym (mapped_there standing_of stands number stand (standing_of stand) inside there)))
 
   next_row : {X : Type 0} (row_in : X → Row) (stand : Stand) → stand ≡ get_or stands number stand → (rows after : List X) (row : X) →
-      map row_in rows ≡ take place (wanted stands) → row_in row ≡ arc_value stand.row → after ≡ rows ++ row ∷ [] →
-      map row_in after ≡ take (place + 1) (wanted stands)
+      map row_in rows ≡ take index (wanted stands) → row_in row ≡ arc_value stand.row → after ≡ rows ++ row ∷ [] →
+      map row_in after ≡ take (index + 1) (wanted stands)
   next_row row_in stand there rows after row so_far like grown =
       mapped_more row_in rows after row (arc_value stand.row) grown like ∙ ap (λ (rs : List Row). rs ++ arc_value stand.row ∷ []) so_far
-      ∙ sym (take_more (wanted stands) place (arc_value stand.row) (omega (arith, low, wanted_many stands held are))
-      ∙ ap (λ (r : Row). take place (wanted stands) ++ r ∷ []) (next_is stand there))
+      ∙ sym (take_more (wanted stands) index (arc_value stand.row) (omega (arith, low, wanted_many stands held are))
+      ∙ ap (λ (r : Row). take index (wanted stands) ++ r ∷ []) (next_is stand there))
 
 pub index-requires : goal.index-requires
 index-requires c =

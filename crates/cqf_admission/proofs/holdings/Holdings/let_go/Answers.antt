@@ -6,12 +6,13 @@ use Rattle.std.specs.Cmp.Lexicographic.{slice_cmp}
 use Rattle.std.specs.Ordering.{nat_cmp}
 use Rattle.std.proofs.lemmas.List.{length-map}
 use Rattle.cqf_units.specs.Timing.{cost_of}
+use Rattle.cqf_units.proofs.Costs.{cost_within}
 use Rattle.cqf_model.specs.declared.topology.Hop.{Hop}
 use Rattle.cqf_model.specs.declared.topology.Pace.{Pace}
 use Rattle.cqf_model.specs.declared.topology.Row.{Row}
-use Rattle.cqf_model.specs.Limits.{most_every, most_reserved}
+use Rattle.cqf_model.specs.Limits.{most_every, most_overhead, most_reserved}
 use Rattle.cqf_model.specs.Table.{links_in}
-use Rattle.cqf_admission.specs.Turns.{AreLessIn, HasIn, Turned}
+use Rattle.cqf_admission.specs.ActiveCycles.{AreLessIn, HasIn, SumsByCycle}
 use Rattle.cqf_admission.specs.Rows.{IsSummable}
 use Rattle.cqf_admission.specs.Holdings.{HaveFigures, IsHeldAt, Standing, Stands, held_under, released, standing_of}
 use Rattle.cqf_admission.specs.declared.holdings.Stand.{Stand}
@@ -21,7 +22,7 @@ use Rattle.cqf_admission.proofs.Lists.{map_set, mapped_there, read_same}
 use Rattle.cqf_admission.proofs.holdings.Holdings.let_go.Goals as goal
 
 -- what is known of a held stream
-module _ (stands : List Stand) (under : List ℕ → Option ℕ) (held : List ℕ) (sums : Turned) (h : HaveFigures (map standing_of stands) under held sums) (number : ℕ)
+module _ (stands : List Stand) (under : List ℕ → Option ℕ) (held : List ℕ) (sums : SumsByCycle) (h : HaveFigures (map standing_of stands) under held sums) (number : ℕ)
     (at : IsHeldAt (map standing_of stands) number) (old : Stand) (is : old ≡ get_or stands number old) where
   low : number < length stands
   low = omega (arith, at.inside, length-map stands standing_of)
@@ -35,13 +36,13 @@ module _ (stands : List Stand) (under : List ℕ → Option ℕ) (held : List �
   summable : IsSummable sums.links (arc_value old.row)
   summable = own_along (map standing_of stands) under held sums h number (standing_of old) at.inside there
 
-  within : HasIn sums (arc_value old.row).tree.items (arc_value old.row).pace (cost_of (arc_value old.row).octets)
+  within : HasIn sums (arc_value old.row).tree.items (arc_value old.row).pace (cost_of (arc_value old.row).overhead (arc_value old.row).octets)
   within = goes_within (map standing_of stands) under held sums h number (standing_of old) at.inside there is_held
 
   -- the figures without it
-  without_it : (left : Stand) (next : List ℕ → Option ℕ) (numbers : List ℕ) (less : Turned) → left ≡ old → next (arc_value old.row).name ≡ None →
+  without_it : (left : Stand) (next : List ℕ → Option ℕ) (numbers : List ℕ) (less : SumsByCycle) → left ≡ old → next (arc_value old.row).name ≡ None →
       ((name : List ℕ) → name ≢ (arc_value old.row).name → next name ≡ under name) → numbers ≡ without number held →
-      AreLessIn sums (arc_value old.row).tree.items (arc_value old.row).pace (cost_of (arc_value old.row).octets) less →
+      AreLessIn sums (arc_value old.row).tree.items (arc_value old.row).pace (cost_of (arc_value old.row).overhead (arc_value old.row).octets) less →
       HaveFigures (map standing_of (set stands number (record left { held = false }))) next numbers less
   without_it left next numbers less same own others listed by =
       subst (λ (rs : List Standing). HaveFigures rs next numbers less)
@@ -49,14 +50,26 @@ module _ (stands : List Stand) (under : List ℕ → Option ℕ) (held : List �
       ∙ map_set standing_of stands number (record old { held = false })))
       (figures_less (map standing_of stands) under held sums h number (standing_of old) at.inside there is_held next own others numbers less listed by)
 
-pub cost-cost-requires : goal.cost-cost-requires
-cost-cost-requires c =
+pub cost-cost-requires-clause-less : goal.cost-cost-requires-clause-less
+cost-cost-requires-clause-less c =
     let at : IsHeldAt (map standing_of c.self.inside.rows.items) c.args.number = subst (λ (h : Stands). IsHeldAt h.rows c.args.number) (sym c.self.view_is)
     (record { inside = c.requires.inside; held = c.requires.held }) in
     let own = summable c.self.inside.rows.items (held_under c.self.inside.by_name) c.self.inside.held.items c.self.inside.sums c.self.invariant
     c.args.number at c.index.result.now c.index.ensures in
-    let few : c.deref.result.now.octets ≤ most_reserved = subst (λ (r : Row). r.octets ≤ most_reserved) (sym c.deref.ensures) own.countable.octets in
-    omega (arith, few)
+    let short : c.deref.result.now.overhead ≤ most_overhead = subst (λ (r : Row). r.overhead ≤ most_overhead) (sym c.deref.ensures) own.countable.overhead in
+    omega (arith, short)
+
+pub cost-cost-requires-clause-fits : goal.cost-cost-requires-clause-fits
+cost-cost-requires-clause-fits c =
+    let at : IsHeldAt (map standing_of c.self.inside.rows.items) c.args.number = subst (λ (h : Stands). IsHeldAt h.rows c.args.number) (sym c.self.view_is)
+    (record { inside = c.requires.inside; held = c.requires.held }) in
+    let own = summable c.self.inside.rows.items (held_under c.self.inside.by_name) c.self.inside.held.items c.self.inside.sums c.self.invariant
+    c.args.number at c.index.result.now c.index.ensures in
+    let row = arc_value c.index.result.now.row in
+    let few : row.octets ≤ most_reserved = own.countable.octets in
+    let costs : cost_of c.deref.result.now.overhead c.deref-2.result.now.octets ≡ cost_of row.overhead row.octets =
+    λ i. cost_of (c.deref.ensures i).overhead (c.deref-2.ensures i).octets in
+    omega (arith, costs, few, cost_within row.overhead row.octets own.countable.overhead)
 
 pub take-requires-clause-inside : goal.take-requires-clause-inside
 take-requires-clause-inside c =
@@ -64,7 +77,7 @@ take-requires-clause-inside c =
     (record { inside = c.requires.inside; held = c.requires.held }) in
     let own = summable c.self.inside.rows.items (held_under c.self.inside.by_name) c.self.inside.held.items c.self.inside.sums c.self.invariant
     c.args.number at c.index.result.now c.index.ensures in
-    let hops : c.as_slice.result.now ≡ (arc_value c.index.result.now.row).tree.items = c.as_slice.ensures.value ∙ ap (λ (r : Row). r.tree.items) c.deref-2.ensures in
+    let hops : c.as_slice.result.now ≡ (arc_value c.index.result.now.row).tree.items = c.as_slice.ensures.value ∙ ap (λ (r : Row). r.tree.items) c.deref-3.ensures in
     subst (λ (tree : List Hop). All (λ (l : ℕ). l < c.self.inside.sums.links) (links_in tree)) (sym hops) own.countable.inside
 
 pub take-requires-clause-apart : goal.take-requires-clause-apart
@@ -73,7 +86,7 @@ take-requires-clause-apart c =
     (record { inside = c.requires.inside; held = c.requires.held }) in
     let own = summable c.self.inside.rows.items (held_under c.self.inside.by_name) c.self.inside.held.items c.self.inside.sums c.self.invariant
     c.args.number at c.index.result.now c.index.ensures in
-    let hops : c.as_slice.result.now ≡ (arc_value c.index.result.now.row).tree.items = c.as_slice.ensures.value ∙ ap (λ (r : Row). r.tree.items) c.deref-2.ensures in
+    let hops : c.as_slice.result.now ≡ (arc_value c.index.result.now.row).tree.items = c.as_slice.ensures.value ∙ ap (λ (r : Row). r.tree.items) c.deref-3.ensures in
     subst (λ (tree : List Hop). AllPairs (λ (a b : ℕ). a ≢ b) (links_in tree)) (sym hops) own.countable.apart
 
 pub take-requires-clause-good : goal.take-requires-clause-good
@@ -82,15 +95,16 @@ take-requires-clause-good c =
     (record { inside = c.requires.inside; held = c.requires.held }) in
     let own = summable c.self.inside.rows.items (held_under c.self.inside.by_name) c.self.inside.held.items c.self.inside.sums c.self.invariant
     c.args.number at c.index.result.now c.index.ensures in
-    subst (λ (r : Row). most_every % (r.pace.pause + 1) ≡ 0) (sym c.deref-3.ensures) own.paced.divides
+    subst (λ (r : Row). most_every % (r.pace.pause + 1) ≡ 0) (sym c.deref-4.ensures) own.paced.divides
 
 pub take-requires-clause-held : goal.take-requires-clause-held
 take-requires-clause-held c =
     let at : IsHeldAt (map standing_of c.self.inside.rows.items) c.args.number = subst (λ (h : Stands). IsHeldAt h.rows c.args.number) (sym c.self.view_is)
     (record { inside = c.requires.inside; held = c.requires.held }) in
-    let hops : c.as_slice.result.now ≡ (arc_value c.index.result.now.row).tree.items = c.as_slice.ensures.value ∙ ap (λ (r : Row). r.tree.items) c.deref-2.ensures in
-    let costs : c.cost-cost.result.0 ≡ cost_of (arc_value c.index.result.now.row).octets = c.cost-cost.ensures ∙ ap (λ (r : Row). cost_of r.octets) c.deref.ensures in
-    let paced : c.deref-3.result.now.pace ≡ (arc_value c.index.result.now.row).pace = ap (λ (r : Row). r.pace) c.deref-3.ensures in
+    let hops : c.as_slice.result.now ≡ (arc_value c.index.result.now.row).tree.items = c.as_slice.ensures.value ∙ ap (λ (r : Row). r.tree.items) c.deref-3.ensures in
+    let costs : c.cost-cost.result.0 ≡ cost_of (arc_value c.index.result.now.row).overhead (arc_value c.index.result.now.row).octets =
+    c.cost-cost.ensures ∙ (λ i. cost_of (c.deref.ensures i).overhead (c.deref-2.ensures i).octets) in
+    let paced : c.deref-4.result.now.pace ≡ (arc_value c.index.result.now.row).pace = ap (λ (r : Row). r.pace) c.deref-4.ensures in
     subst (λ (pace : Pace). HasIn c.self.inside.sums c.as_slice.result.now pace c.cost-cost.result.0) (sym paced)
     (subst₂ (λ (tree : List Hop) (n : ℕ). HasIn c.self.inside.sums tree (arc_value c.index.result.now.row).pace n) (sym hops) (sym costs)
     (within c.self.inside.rows.items (held_under c.self.inside.by_name) c.self.inside.held.items c.self.inside.sums c.self.invariant c.args.number at
@@ -113,18 +127,19 @@ invariant_of-self c =
     let at : IsHeldAt (map standing_of stands) c.args.number = subst (λ (h : Stands). IsHeldAt h.rows c.args.number) (sym c.self.view_is)
     (record { inside = c.requires.inside; held = c.requires.held }) in
     let low : c.args.number < length stands = omega (arith, at.inside, length-map stands standing_of) in
-    let hops : c.as_slice.result.now ≡ (arc_value old.row).tree.items = c.as_slice.ensures.value ∙ ap (λ (r : Row). r.tree.items) c.deref-2.ensures in
-    let costs : c.cost-cost.result.0 ≡ cost_of (arc_value old.row).octets = c.cost-cost.ensures ∙ ap (λ (r : Row). cost_of r.octets) c.deref.ensures in
+    let hops : c.as_slice.result.now ≡ (arc_value old.row).tree.items = c.as_slice.ensures.value ∙ ap (λ (r : Row). r.tree.items) c.deref-3.ensures in
+    let costs : c.cost-cost.result.0 ≡ cost_of (arc_value old.row).overhead (arc_value old.row).octets =
+    c.cost-cost.ensures ∙ (λ i. cost_of (c.deref.ensures i).overhead (c.deref-2.ensures i).octets) in
     let by : UpdatesBy (slice_cmp nat_cmp) (slice_cmp nat_cmp (arc_value old.row).name) c.self.inside.by_name c.remove.new.self None =
-    subst (λ (r : Row). UpdatesBy (slice_cmp nat_cmp) (slice_cmp nat_cmp r.name) c.self.inside.by_name c.remove.new.self None) c.deref-4.ensures
+    subst (λ (r : Row). UpdatesBy (slice_cmp nat_cmp) (slice_cmp nat_cmp r.name) c.self.inside.by_name c.remove.new.self None) c.deref-5.ensures
     c.remove.ensures.updates in
-    let paced : c.deref-3.result.now.pace ≡ (arc_value old.row).pace = ap (λ (r : Row). r.pace) c.deref-3.ensures in
+    let paced : c.deref-4.result.now.pace ≡ (arc_value old.row).pace = ap (λ (r : Row). r.pace) c.deref-4.ensures in
     without_it stands (held_under c.self.inside.by_name) c.self.inside.held.items c.self.inside.sums c.self.invariant c.args.number at old c.index.ensures
     c.index_mut.result.now (held_under c.remove.new.self) c.take_out.new.held.items c.take.new.self
     (read_same stands c.args.number c.index_mut.result.now old low c.index_mut.ensures.value c.index.ensures) by.1
     (others_stay c.self.inside.by_name c.remove.new.self (arc_value old.row).name None by) c.take_out.ensures
-    (subst (λ (pace : Pace). AreLessIn c.self.inside.sums (arc_value old.row).tree.items pace (cost_of (arc_value old.row).octets) c.take.new.self) paced
-    (subst₂ (λ (tree : List Hop) (n : ℕ). AreLessIn c.self.inside.sums tree c.deref-3.result.now.pace n c.take.new.self) hops costs c.take.ensures))
+    (subst (λ (pace : Pace). AreLessIn c.self.inside.sums (arc_value old.row).tree.items pace (cost_of (arc_value old.row).overhead (arc_value old.row).octets) c.take.new.self) paced
+    (subst₂ (λ (tree : List Hop) (n : ℕ). AreLessIn c.self.inside.sums tree c.deref-4.result.now.pace n c.take.new.self) hops costs c.take.ensures))
 
 pub returns-clause-rows : goal.returns-clause-rows
 returns-clause-rows c = λ d.

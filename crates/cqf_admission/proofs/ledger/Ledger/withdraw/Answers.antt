@@ -10,7 +10,7 @@ use Rattle.cqf_admission.specs.declared.logs.Logged.{Logged}
 use Rattle.cqf_admission.specs.Ledger.{Kept, recorded_in}
 use Rattle.cqf_admission.specs.State.{entries_with, of_entries}
 use Rattle.cqf_admission.proofs.Entered.{Entered, entered_with, few_calls}
-use Rattle.cqf_admission.proofs.Logging.{logged_behind, there_behind}
+use Rattle.cqf_admission.proofs.Logging.{logged_after, there_after}
 use Rattle.cqf_admission.proofs.ledger.Ledger.withdraw.Goals as goal
 
 -- the call as it is logged
@@ -33,7 +33,7 @@ logged c =
       length-map i.log.items (recorded_in asked i.script.now),
     ) in
     let is : after ≡ entries_with entries c.args.seat (Withdraws word) answer =
-    logged_behind asked i.script.now i.log.items c.reserve.new.self.items c.enter.new.log.items e c.reserve.ensures.items c.enter.ensures
+    logged_after asked i.script.now i.log.items c.reserve.new.self.items c.enter.new.log.items e c.reserve.ensures.items c.enter.ensures
     ∙ ap (with_entry entries c.args.seat (Withdraws word)) c.reply_of.ensures in
     rw c.word_of-word.ensures at (entered_with i.domain.now entries after c.withdraw.new.self c.args.seat (Withdraws c.word_of-word.result.now) answer
     (is ∙ ap (λ (w : List ℕ). entries_with entries c.args.seat (Withdraws w) answer) (sym c.word_of-word.ensures))
@@ -46,7 +46,7 @@ invariant_of-self-2 c =
     let e : Logged = record { seat = c.args.seat; what = Withdraw c.args.from c.args.octets; reply = c.reply_of.result } in (
       (logged c).of,
       c.self.invariant.1,
-      there_behind asked i.script.now i.log.items c.reserve.new.self.items c.enter.new.log.items e c.reserve.ensures.items c.enter.ensures c.self.invariant.2
+      there_after asked i.script.now i.log.items c.reserve.new.self.items c.enter.new.log.items e c.reserve.ensures.items c.enter.ensures c.self.invariant.2
           (subst (λ (k : Kept). StandsIn k.requests k.script (Withdraw c.args.from c.args.octets)) (sym c.self.view_is) c.requires),
     )
 

@@ -6,13 +6,19 @@ use Rattle.cqf_admission.specs.Forms.{IsFormOf, IsRowOfGoodForm}
 use Rattle.cqf_admission.proofs.Entered.{judged_by_row}
 use Rattle.cqf_admission.proofs.shared.SharedRequest.judge.Goals as goal
 
-pub of_row-requires : goal.of_row-requires
-of_row-requires c =
+pub of_row-requires-clause-octets : goal.of_row-requires-clause-octets
+of_row-requires-clause-octets c =
     let d = c.args.domain.now in
     let asked = asked_paced c.args.self.now in
     let good : IsRowOfGoodForm d asked c.in-Good.row = subst (IsFormOf d asked) c.in-Good.is c.in-Some.ensures in
     let same = ap (λ (row : Row). row.octets) good.is in
     omega (arith, good.most_octets, same)
+
+pub of_row-requires-clause-overhead : goal.of_row-requires-clause-overhead
+of_row-requires-clause-overhead c =
+    let d = c.args.domain.now in
+    let good : IsRowOfGoodForm d (asked_paced c.args.self.now) c.in-Good.row = subst (IsFormOf d (asked_paced c.args.self.now)) c.in-Good.is c.in-Some.ensures in
+    omega (arith, ap (λ (row : Row). row.overhead) good.is, c.know.ensures.accepted.overhead_short)
 
 pub returns-in-Good : goal.returns-in-Good
 returns-in-Good c =

@@ -3,7 +3,7 @@ use Rattle.cqf_model.specs.Domain.{budget}
 use Rattle.cqf_admission.specs.Holdings.{Standing}
 use Rattle.cqf_admission.specs.State.{Figures, SomeHistory}
 use Rattle.cqf_admission.specs.Weighing.{left_at}
-use Rattle.cqf_admission.proofs.Told.{costs_in_turns}
+use Rattle.cqf_admission.proofs.Reported.{costs_in_active_cycles}
 use Rattle.cqf_admission.proofs.Weighed.{within}
 use Rattle.cqf_admission.proofs.state.State.left_at.Goals as goal
 
@@ -21,4 +21,4 @@ returns c entries r =
     c.left_of.ensures
     ∙ ap (λ (f : Figures). left_at d f.stands c.args.pace hop) c.self.view_is
     ∙ ap (λ (rows : List Standing). left_at d rows c.args.pace hop) r.0.are_streams
-    ∙ ap (λ (most : ℕ). budget d hop.link - most) (costs_in_turns d entries c.args.pace hop)
+    ∙ ap (λ (most : ℕ). budget d hop.link - most) (costs_in_active_cycles d entries c.args.pace hop)

@@ -3,7 +3,7 @@ use Rattle.cqf_model.specs.Domain.{budget}
 use Rattle.cqf_admission.specs.Holdings.{Standing, held_most}
 use Rattle.cqf_admission.specs.State.{Figures, SomeHistory}
 use Rattle.cqf_admission.proofs.Left.{all_within, fits_in, none_over}
-use Rattle.cqf_admission.proofs.Told.{costs_most}
+use Rattle.cqf_admission.proofs.Reported.{costs_most}
 use Rattle.cqf_admission.proofs.Weighed.{within}
 use Rattle.cqf_admission.proofs.state.State.taken_of.Goals as goal
 

@@ -1,5 +1,5 @@
 use Rattle.std.proofs.Common.{subst}
-use Rattle.cqf_admission.specs.Turns.{AreOfGoodPaces}
+use Rattle.cqf_admission.specs.ActiveCycles.{AreOfGoodPaces}
 use Rattle.cqf_admission.specs.Tables.{CycleTable}
 use Rattle.cqf_admission.proofs.table.Table.rows.Goals as goal
 

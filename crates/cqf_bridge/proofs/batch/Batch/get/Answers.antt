@@ -54,10 +54,10 @@ at-requires-4 c =
 pub returns : goal.returns
 returns c =
     let b = c.self.inside in
-    let place = c.args.place in
-    ap (λ (x : LinkBatch). slice_get x.frames place) (sym c.self.view_is)
-    ∙ across_at b.starts.items b.frames.items b.streams.items b.octets.items c.self.invariant place _
-    (ap (λ (xs : List Nanos). slice_get xs place) (sym c.as_slice.ensures.value) ∙ c.at.ensures)
-    (ap (λ (xs : List ℕ). slice_get xs place) (sym c.as_slice-2.ensures.value) ∙ c.at-2.ensures)
-    (ap (λ (xs : List ℕ). slice_get xs place) (sym c.as_slice-3.ensures.value) ∙ c.at-3.ensures)
-    (ap (λ (xs : List ℕ). slice_get xs place) (sym c.as_slice-4.ensures.value) ∙ c.at-4.ensures)
+    let index = c.args.index in
+    ap (λ (x : LinkBatch). slice_get x.frames index) (sym c.self.view_is)
+    ∙ across_at b.starts.items b.frames.items b.streams.items b.octets.items c.self.invariant index _
+    (ap (λ (xs : List Nanos). slice_get xs index) (sym c.as_slice.ensures.value) ∙ c.at.ensures)
+    (ap (λ (xs : List ℕ). slice_get xs index) (sym c.as_slice-2.ensures.value) ∙ c.at-2.ensures)
+    (ap (λ (xs : List ℕ). slice_get xs index) (sym c.as_slice-3.ensures.value) ∙ c.at-3.ensures)
+    (ap (λ (xs : List ℕ). slice_get xs index) (sym c.as_slice-4.ensures.value) ∙ c.at-4.ensures)

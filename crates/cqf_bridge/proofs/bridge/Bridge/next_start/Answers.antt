@@ -8,5 +8,5 @@ use Rattle.cqf_bridge.proofs.bridge.Bridge.next_start.Goals as goal
 pub returns : goal.returns
 returns c = λ e.
     let r = c.index.result.now in
-    let here : r ≡ get_or c.args.self.now.ports c.args.place r = c.index.ensures ∙ ap (λ (b : BridgeState). get_or b.ports c.args.place r) c.self.view_is in
-    subst (λ (x : PortRecord). IsNextStartOf x c.next_start.result) (here ∙ get_or_default c.args.self.now.ports c.args.place r e c.requires) c.next_start.ensures
+    let here : r ≡ get_or c.args.self.now.ports c.args.index r = c.index.ensures ∙ ap (λ (b : BridgeState). get_or b.ports c.args.index r) c.self.view_is in
+    subst (λ (x : PortRecord). IsNextStartOf x c.next_start.result) (here ∙ get_or_default c.args.self.now.ports c.args.index r e c.requires) c.next_start.ensures

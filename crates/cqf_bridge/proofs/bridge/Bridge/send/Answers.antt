@@ -2,7 +2,7 @@ use Rattle.std.proofs.Common.{◌≡◌, ◌+◌, ◌<◌, false, length, subst,
 use Rattle.cqf_model.specs.declared.frames.Started.{Started}
 use Rattle.cqf_bridge.specs.BridgeState.{AreBackedOf, BridgeState, IsNextToSend, SendsCycle}
 use Rattle.cqf_bridge.specs.Sending.{FirstSend}
-use Rattle.cqf_bridge.proofs.Bridges.{bridge_behind, cycle_sent, ready_to_send, state_kept}
+use Rattle.cqf_bridge.proofs.Bridges.{bridge_after, cycle_sent, ready_to_send, state_kept}
 use Rattle.cqf_bridge.proofs.bridge.Bridge.send.Goals as goal
 
 pub send_ports-sent-requires-clause-in_step : goal.send_ports-sent-requires-clause-in_step
@@ -25,7 +25,7 @@ invariant_of-self c =
     c.args.batches.now.items c.send_ports-sent.new.batches.items xs c.send_ports-sent.new.started.items) c.new-started.ensures.items c.in-Ok.ensures.sends in
     record {
       has_gates = record {
-        bridge = bridge_behind b c.self.invariant.has_gates.bridge c.if-self.false c.args.cycle.0 next c.args.background.now frames _ _ _ _ sends
+        bridge = bridge_after b c.self.invariant.has_gates.bridge c.if-self.false c.args.cycle.0 next c.args.background.now frames _ _ _ _ sends
             (subst (λ (x : BridgeState). x.spent ≡ false → IsNextToSend x c.args.cycle.0 → c.args.cycle.0 < 100000) (sym c.self.view_is)
             c.requires.early c.if-self.false next);
         gates_kept = c.self.invariant.has_gates.gates_kept;

@@ -3,7 +3,7 @@ use Rattle.indexmap.specs.IndexSet.{insert_key}
 use Rattle.cqf_bridge.specs.declared.cycle_gate.KeptGate.{KeptGate}
 use Rattle.cqf_bridge.specs.declared.gates.TheConstants.{FEW}
 use Rattle.cqf_bridge.specs.declared.gates.StreamGates.TheInside.{Inside}
-use Rattle.cqf_bridge.proofs.GatePlaces.{among_few, behind_few}
+use Rattle.cqf_bridge.proofs.GateIndices.{after_few, among_few}
 use Rattle.cqf_bridge.proofs.gates.StreamGates.keep.Goals as goal
 use Rattle.cqf_bridge.proofs.gates.StreamGates.keep.Goals.{then-len-ge-FEW+in_ok-reserve-2, else-len-ge-FEW}
 
@@ -17,7 +17,7 @@ invariant_of-self-2 c =
     elim c.if-len-ge-FEW.branch [
       | then-len-ge-FEW+in_ok-reserve-2 w ↦
           ap (λ (i : Inside). i.numbers.keys) w.self-inside-is
-          ∙ behind_few FEW gates c.args.gate numbers w.insert.new.self.keys
+          ∙ after_few FEW gates c.args.gate numbers w.insert.new.self.keys
           (omega (arith, ap length reserved, c.len.ensures, w.if-len-ge-FEW.true)) c.self.invariant
           (ap (position (λ (k : KeptGate). k.number == c.args.gate.number)) c.self.view_is ∙ c.requires)
           ((rw w.unwrap.ensures at w.insert.ensures.keys) ∙ ap (λ (ns : List ℕ). insert_key nat_eq ns c.args.gate.number) w.in_ok-reserve-2.ensures.keys)

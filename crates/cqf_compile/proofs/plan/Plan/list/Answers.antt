@@ -23,6 +23,6 @@ returns c =
     let list = c.index.result.now in
     let inside : c.args.link < length d.links = omega (arith, c.requires, ap (λ (it : Domain). length it.links) c.self.view_is) in
     c.index.ensures
-    ∙ ap₂ (λ (lists : List (List Entry)) (place : ℕ). get_or lists place list) c.self.invariant.one_each c.from.ensures
+    ∙ ap₂ (λ (lists : List (List Entry)) (index : ℕ). get_or lists index list) c.self.invariant.one_each c.from.ensures
     ∙ get_or-singles (λ (l : ℕ). compiled_lists d l) (length d.links) c.args.link list inside
     ∙ ap (λ (it : Domain). compiled_lists it c.args.link) c.self.view_is

@@ -15,5 +15,5 @@ pub unreachable-requires : goal.unreachable-requires
 unreachable-requires c =
     let entries = c.entries-entries.result.now in
     let facts : IsStreamList entries = rw c.entries-entries.ensures.value c.entries-entries.ensures.facts in
-    let whole = ap gate_round (take_all c.loop-place.place entries c.loop-place-test.false) in
+    let whole = ap gate_round (take_all c.loop-index.index entries c.loop-index-test.false) in
     omega (arith, gate_round_positive entries facts, whole)

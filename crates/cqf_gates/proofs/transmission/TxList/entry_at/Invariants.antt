@@ -3,5 +3,5 @@ use Rattle.std.proofs.Common.{◌≡◌, ◌+◌, ◌%◌, take}
 use Rattle.cqf_model.specs.GateList.{round_of}
 use Rattle.cqf_gates.proofs.transmission.TxList.entry_at.Given as goal
 
-abbrev pub invariant-loop-place : goal.invariant-loop-place
-invariant-loop-place l = round_of (take l.place l.entries) + l.offset ≡ l.fn.t.0 % round_of l.entries
+abbrev pub invariant-loop-index : goal.invariant-loop-index
+invariant-loop-index l = round_of (take l.index l.entries) + l.offset ≡ l.fn.t.0 % round_of l.entries

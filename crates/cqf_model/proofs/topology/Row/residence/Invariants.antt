@@ -4,4 +4,4 @@ use Rattle.cqf_model.specs.declared.topology.Hop.{Hop}
 use Rattle.cqf_model.proofs.topology.Row.residence.Given as goal
 
 abbrev pub invariant-loop-hop : goal.invariant-loop-hop
-invariant-loop-hop l = l.most ≡ fold (λ most (hop : Hop). max most hop.depth) 0 (take l.hop-index l.hop-items)
+invariant-loop-hop l = l.most ≡ fold (λ most (hop : Hop). max most hop.hop_number) 0 (take l.hop-index l.hop-items)

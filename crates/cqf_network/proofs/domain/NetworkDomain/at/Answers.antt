@@ -10,5 +10,5 @@ of_parts-requires c =
     let network = c.self.inside in
     let own = c.self.invariant.domains cycle (subst (λ network. IsOpenCycle network cycle) (sym c.self.view_is) c.requires) in
     subst IsDomain
-    (sym (same-domain network.limits cycle network.guard network.sync _ _ _ _ _ _ c.in_ok-bridges.ensures c.in_ok-stations.ensures c.in_ok-links.ensures))
+    (sym (same-domain network.limits cycle network.guard network.sync network.overhead _ _ _ _ _ _ c.in_ok-bridges.ensures c.in_ok-stations.ensures c.in_ok-links.ensures))
     own

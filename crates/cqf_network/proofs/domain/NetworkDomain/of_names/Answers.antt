@@ -14,7 +14,7 @@ invariant_of-result c =
     let names = c.requires in
     let checked = c.in_ok-edges.ensures.checked in
     subst IsNetwork
-    (sym (same_domain _ _ _ _ _ _ _ _ _ _ _ _ _ _ _ _ c.limits.ensures (c.in_ok-candidates.ensures.items ∙ c.candidates.ensures) c.guard.ensures c.sync.ensures names.bridges_are names.stations_are
+    (sym (same_domain _ _ _ _ _ _ _ _ _ _ _ _ _ _ _ _ _ _ c.limits.ensures (c.in_ok-candidates.ensures.items ∙ c.candidates.ensures) c.guard.ensures c.sync.ensures c.overhead.ensures names.bridges_are names.stations_are
     (c.in_ok-links.ensures ∙ c.in_ok-listed.ensures ∙ ap (λ (es : List Edge). map link_of (bridge_edges es)) c.as_slice.ensures.value)
     (c.in_ok-talkers.ensures ∙ ap (λ (es : List Edge). map talker_of (talkers_of es)) c.as_slice-2.ensures.value)))
     (passed_is_network text edges names.readable (passes_network text edges (network_with text edges) checked.passed)

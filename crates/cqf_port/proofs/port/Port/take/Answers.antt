@@ -21,10 +21,10 @@ kept_now c =
     })
     c.self.inside.newest c.args.arrival c.self.invariant.by_class c.requires.gate
     (subst (λ (p : PortState). ¬ IsOutOfOrder p c.args.arrival) (sym c.self.view_is) c.requires.in_order)) in
-    let at_end : c.len-place.result ≡ length c.self.inside.arrivals.items = search rules in
+    let at_end : c.len-index.result ≡ length c.self.inside.arrivals.items = search rules in
     kept_offer_as (rules_of c.self.inside.schedule c.self.inside.rate) c.self.inside.arrivals.items c.push.new.self.items c.self.inside.reached.0
     c.self.inside.starts.items c.self.inside.progress c.after_arrival-self-inside.result c.self.inside.newest c.args.arrival
-    c.len-place.result c.from-class.result
+    c.len-index.result c.from-class.result
     c.self.invariant c.requires.gate c.requires.early not_late appended at_end c.from-class.ensures in_order c.after_arrival-self-inside.ensures
 
 -- the fields keep what they must

@@ -8,5 +8,5 @@ use Rattle.cqf_port.proofs.spans.Schedule.left_at.Goals as goal
 pub returns : goal.returns
 returns c = subst (λ (entries : List Entry). AreSpansAt entries c.args.t.0 (2 ^ 62) c.less.result) c.self.view_is
     (spans_within c.mask_is_in_force.ensures.states c.mask_is_in_force.ensures.round c.mask_is_in_force.ensures.some c.self.inside.list
-    c.args.t.0 c.entry_at-place.result.0 c.entry_at-place.result.1 c.entry_at-place.ensures.in_force c.self.inside.spans c.less.result
+    c.args.t.0 c.entry_at-index.result.0 c.entry_at-index.result.1 c.entry_at-index.ensures.in_force c.self.inside.spans c.less.result
     c.self.invariant c.less.ensures.short c.less.ensures.left)

@@ -1,11 +1,11 @@
 use Rattle.std.proofs.Common.{◌+◌, subst, List, arith}
 use Rattle.cqf_model.specs.GateList.{Entry, IsOpenThrough}
-use Rattle.cqf_port.proofs.Fitting.{nowhere_behind, nowhere_ever}
+use Rattle.cqf_port.proofs.Fitting.{nowhere_after, nowhere_ever}
 use Rattle.cqf_port.proofs.spans.Schedule.next_fit.Goals as goal
 
 -- it doesn't fit into the rest of the entry in force, nor after that until it does
 pub returns-then-fit-ahead-clause-nowhere : goal.returns-then-fit-ahead-clause-nowhere
-returns-then-fit-ahead-clause-nowhere c = nowhere_behind c.self.inside.list c.args.self.now c.args.t.0 c.args.ahead.place c.args.ahead.begins
+returns-then-fit-ahead-clause-nowhere c = nowhere_after c.self.inside.list c.args.self.now c.args.t.0 c.args.ahead.index c.args.ahead.begins
     c.args.ahead.again c.args.class c.args.need c.fit_from-fit.result
     c.self.view_is c.requires.ahead c.requires.some c.requires.waits c.fit_from-fit.ensures.nowhere
 
@@ -13,9 +13,9 @@ returns-then-fit-ahead-clause-nowhere c = nowhere_behind c.self.inside.list c.ar
 pub returns-else-fit-ahead-clause-nowhere : goal.returns-else-fit-ahead-clause-nowhere
 returns-else-fit-ahead-clause-nowhere c =
     nowhere_ever c.mask_is_in_force.ensures.states c.mask_is_in_force.ensures.some c.args.self.now c.args.class c.args.need c.args.t.0
-    c.fit_from-fit.result _ (c.mask_is_in_force.ensures.round c.args.self.now c.args.ahead.place c.requires.ahead.force.inside
+    c.fit_from-fit.result _ (c.mask_is_in_force.ensures.round c.args.self.now c.args.ahead.index c.requires.ahead.force.inside
     c.requires.ahead.force.within) (omega (arith, c.requires.ahead.round, c.if-fit-ahead.false))
-    (nowhere_behind c.self.inside.list c.args.self.now c.args.t.0 c.args.ahead.place c.args.ahead.begins c.args.ahead.again c.args.class
+    (nowhere_after c.self.inside.list c.args.self.now c.args.t.0 c.args.ahead.index c.args.ahead.begins c.args.ahead.again c.args.class
     c.args.need c.fit_from-fit.result
     c.self.view_is c.requires.ahead c.requires.some c.requires.waits c.fit_from-fit.ensures.nowhere)
 

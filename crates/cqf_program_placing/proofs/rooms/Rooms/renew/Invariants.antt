@@ -1,4 +1,4 @@
--- Those so far are recomputed.
+-- For the values of `every` so far, what links have left is recomputed.
 use Rattle.cqf_model.specs.History.{held_in, seals}
 use Rattle.cqf_model.specs.Table.{links_in}
 use Rattle.cqf_program_placing.proofs.Known.{AreSoFar}

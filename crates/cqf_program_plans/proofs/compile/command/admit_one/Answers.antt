@@ -7,13 +7,13 @@ pub returns-in-Ok-clause-held : goal.returns-in-Ok-clause-held
 returns-in-Ok-clause-held c =
     let laws = c.state_follows_history.ensures in
     granted-held c.args.ledger.now.administration c.admit.new.self.administration
-    (request_at c.args.ledger.now.requests c.args.place) c.in-Ok.receipt c.in-Ok.ensures.answers laws.goes_on laws.counted laws.granted laws.room
+    (request_at c.args.ledger.now.requests c.args.index) c.in-Ok.receipt c.in-Ok.ensures.answers laws.goes_on laws.counted laws.granted laws.room
     c.requires.held
 
 pub returns-in-Ok-clause-ok : goal.returns-in-Ok-clause-ok
 returns-in-Ok-clause-ok c =
-    granted-goes_on c.args.ledger.now.administration c.admit.new.self.administration (request_at c.args.ledger.now.requests c.args.place)
-    c.in-Ok.receipt c.in-Ok.ensures.answers (c.args.place + 1)
+    granted-goes_on c.args.ledger.now.administration c.admit.new.self.administration (request_at c.args.ledger.now.requests c.args.index)
+    c.in-Ok.receipt c.in-Ok.ensures.answers (c.args.index + 1)
 
 pub returns-in-Err : goal.returns-in-Err
 returns-in-Err c = record {
@@ -23,6 +23,6 @@ returns-in-Err c = record {
   one_more = tt;
   ok = tt;
   err = λ more. refused-ends c.args.ledger.now.administration c.admit.new.self.administration
-      (request_at c.args.ledger.now.requests c.args.place) c.in-Err.refused (c.args.place + 1) c.stream_stop.result more c.requires.held
+      (request_at c.args.ledger.now.requests c.args.index) c.in-Err.refused (c.args.index + 1) c.stream_stop.result more c.requires.held
       c.in-Err.ensures.answers c.stream_stop.ensures.refused c.stream_stop.ensures.memory;
 }

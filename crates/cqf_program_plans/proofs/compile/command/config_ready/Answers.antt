@@ -1,7 +1,7 @@
--- With edge gates the rows are fewer hops of the same streams.
+-- With edge gates the rows are those of the same streams with fewer hops.
 use Rattle.std.proofs.Common.{List, subst, sym}
 use Rattle.cqf_admission.specs.Tables.{AreAlongLinks}
-use Rattle.cqf_admission.specs.Turns.{AreOfGoodPaces}
+use Rattle.cqf_admission.specs.ActiveCycles.{AreOfGoodPaces}
 use Rattle.cqf_model.specs.Domain.{Domain}
 use Rattle.cqf_program_plans.proofs.EdgeGates.{along_gated, paced_gated}
 use Rattle.cqf_program_plans.proofs.compile.command.config_ready.Goals as goal

@@ -7,4 +7,4 @@ use Rattle.cqf_program_plans.proofs.compile.command.line_of_stream.Goals as goal
 pub returns : goal.returns
 returns c =
     c.in_ok-line.ensures.ok
-    ∙ ap (λ rest. codes "cqf: stream " ++ rest) (sym (append_assoc (decimal c.args.place) (codes ": " ++ text_of_refusal c.args.refused) (10 ∷ [])))
+    ∙ ap (λ rest. codes "cqf: stream " ++ rest) (sym (append_assoc (decimal c.args.index) (codes ": " ++ text_of_refusal c.args.refused) (10 ∷ [])))

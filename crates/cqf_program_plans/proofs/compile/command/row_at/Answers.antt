@@ -10,6 +10,6 @@ pub returns-in-Err-clause-err : goal.returns-in-Err-clause-err
 returns-in-Err-clause-err c = λ entries more.
     let d = c.args.domain.now in
     let asked = asked_paced c.args.request.now in
-    refused_so d entries asked c.in-Err.refused (c.args.place + 1) c.stream_stop.result more
+    refused_so d entries asked c.in-Err.refused (c.args.index + 1) c.stream_stop.result more
     (λ there. refusal_form d (held_in d entries (seals entries)) asked c.in-Err.refused c.in-Err.ensures)
     c.stream_stop.ensures.refused c.stream_stop.ensures.memory

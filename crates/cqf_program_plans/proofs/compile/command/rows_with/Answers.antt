@@ -1,7 +1,7 @@
 use Rattle.std.proofs.Common.{List, subst, sym}
 use Rattle.cqf_admission.proofs.TableLemmas.{trees_go_along_links}
 use Rattle.cqf_admission.specs.Tables.{AreAlongLinks}
-use Rattle.cqf_admission.specs.Turns.{AreOfGoodPaces}
+use Rattle.cqf_admission.specs.ActiveCycles.{AreOfGoodPaces}
 use Rattle.cqf_admission.proofs.Paced.{good_held}
 use Rattle.cqf_laws_history.specs.StateLaws.{AreHeld}
 use Rattle.cqf_model.specs.declared.topology.Row.{Row}

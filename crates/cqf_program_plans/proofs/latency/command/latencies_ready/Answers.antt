@@ -1,5 +1,5 @@
 use Rattle.std.proofs.Common.{subst, sym}
-use Rattle.cqf_admission.specs.Turns.{AreOfGoodPaces}
+use Rattle.cqf_admission.specs.ActiveCycles.{AreOfGoodPaces}
 use Rattle.cqf_program_plans.proofs.latency.command.latencies_ready.Goals as goal
 
 pub latencies_from_talkers-requires-clause-good : goal.latencies_from_talkers-requires-clause-good

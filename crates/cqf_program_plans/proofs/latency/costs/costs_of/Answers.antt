@@ -1,7 +1,7 @@
 use Rattle.std.proofs.Common.{Contains, ℕ, arith, subst, sym}
 use Rattle.cqf_admission.specs.Rows.{IsCountable}
-use Rattle.cqf_admission.specs.Turns.{AreNone}
-use Rattle.cqf_program_plans.proofs.CostsByTurn.{costs_more, costs_none, costs_room, held_countable, held_little}
+use Rattle.cqf_admission.specs.ActiveCycles.{AreNone}
+use Rattle.cqf_program_plans.proofs.CostsByActiveCycle.{costs_more, costs_none, costs_room, held_countable, held_little}
 use Rattle.cqf_program_plans.proofs.latency.costs.costs_of.Goals as goal
 
 pub add_cost-requires-clause-countable : goal.add_cost-requires-clause-countable
@@ -10,7 +10,7 @@ add_cost-requires-clause-countable c =
     let row = c.row-item.result in
     let among : Contains rows row = (c.loop-row.row-index, c.loop-row-test.true, sym c.row-item.is) in
     subst (λ (n : ℕ). IsCountable n row) (sym c.loop-row.invariant.as_many)
-    (held_countable c.args.domain.now rows c.requires.held.0 0 c.requires.held.1 row among)
+    (held_countable c.args.domain.now rows c.requires.held.0 0 c.know.ensures.accepted c.requires.held.1 row among)
 
 pub add_cost-requires-clause-good : goal.add_cost-requires-clause-good
 add_cost-requires-clause-good c = c.requires.good c.row-item.result (c.loop-row.row-index, c.loop-row-test.true, sym c.row-item.is)

@@ -2,8 +2,8 @@ use Rattle.std.proofs.Common.{◌≡◌, ◌<◌, ◌++◌, ◌∷◌, [], ◌�
 use Rattle.cqf_lists.specs.Lists.{each_below}
 use Rattle.cqf_model.specs.Table.{link_cost}
 use Rattle.cqf_admission.specs.Costs.{most_cost}
-use Rattle.cqf_admission.proofs.TurnLemmas.{most_of_costs}
-use Rattle.cqf_program_plans.proofs.CostsByTurn.{held_little, most_little, none_more}
+use Rattle.cqf_admission.proofs.ActiveCycleLemmas.{most_of_costs}
+use Rattle.cqf_program_plans.proofs.CostsByActiveCycle.{held_little, most_little, none_more}
 use Rattle.cqf_program_plans.proofs.latency.costs.link_costs.Goals as goal
 
 pub prove-unreachable-requires : goal.prove-unreachable-requires

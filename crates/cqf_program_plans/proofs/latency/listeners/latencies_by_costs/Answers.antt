@@ -1,6 +1,6 @@
 use Rattle.std.proofs.Common.{List, length, subst, sym}
 use Rattle.cqf_model.specs.declared.topology.Row.{Row}
-use Rattle.cqf_admission.specs.Turns.{AreOfGoodPaces}
+use Rattle.cqf_admission.specs.ActiveCycles.{AreOfGoodPaces}
 use Rattle.cqf_program_plans.specs.Latency.Output.{AreCountable}
 use Rattle.cqf_program_plans.proofs.latency.listeners.latencies_by_costs.Goals as goal
 

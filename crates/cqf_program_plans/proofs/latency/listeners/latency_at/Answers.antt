@@ -4,7 +4,7 @@ use Rattle.cqf_model.specs.Domain.{Domain, end_of}
 use Rattle.cqf_model.specs.History.{most_beside}
 use Rattle.cqf_program_plans.specs.declared.latency.latencies.Latency.{Latency}
 use Rattle.cqf_program_plans.specs.EndNames.{name_of_end}
-use Rattle.cqf_program_plans.specs.Latency.Text.{is_station, latency_behind, latency_to}
+use Rattle.cqf_program_plans.specs.Latency.Text.{is_station, latency_from_talker, latency_to}
 use Rattle.cqf_program_plans.proofs.latency.listeners.latency_at.Goals as goal
 
 -- the value, if there is one if and only if a test passes
@@ -30,14 +30,14 @@ returns-in-Some c =
     let hop = c.args.hop.now in
     let d = c.domain-domain.result.now in
     let ends = c.args.ends in
-    let told : Latency = latency_behind ends.times
+    let reported : Latency = latency_from_talker ends.times
     (latency_to costs.domain (most_beside costs.rows row.tree.items row.pace hop.link) row ends.deadline hop) in
     let there = there_if (is_station (end_of d hop.link)) c.in-Some.listener (name_of_end d hop.link) c.in-Some.ensures in
     let station : is_station (end_of costs.domain hop.link) ≡ true =
     ap (λ (domain : Domain). is_station (end_of domain hop.link)) (sym c.domain-domain.ensures) ∙ there.0 in
-    ap Some (c.latency_behind.ensures ∙ ap (latency_behind ends.times) c.latency_to-latency.ensures.value
-    ∙ (λ i. latency_behind ends.times (latency_to (c.domain-domain.ensures i) (c.at_hop-cost.ensures i) row ends.deadline hop)))
-    ∙ ap (λ (b : Bool). if b then Some told else None) (sym station)
+    ap Some (c.latency_from_talker.ensures ∙ ap (latency_from_talker ends.times) c.latency_to-latency.ensures.value
+    ∙ (λ i. latency_from_talker ends.times (latency_to (c.domain-domain.ensures i) (c.at_hop-cost.ensures i) row ends.deadline hop)))
+    ∙ ap (λ (b : Bool). if b then Some reported else None) (sym station)
 
 pub returns-in-None : goal.returns-in-None
 returns-in-None c =
@@ -46,7 +46,7 @@ returns-in-None c =
     let hop = c.args.hop.now in
     let d = c.domain-domain.result.now in
     let ends = c.args.ends in
-    let told : Latency = latency_behind ends.times
+    let reported : Latency = latency_from_talker ends.times
     (latency_to costs.domain (most_beside costs.rows row.tree.items row.pace hop.link) row ends.deadline hop) in
-    none_if (is_station (end_of d hop.link)) (name_of_end d hop.link) told c.in-None.ensures
-    ∙ ap (λ (domain : Domain). if is_station (end_of domain hop.link) then Some told else None) c.domain-domain.ensures
+    none_if (is_station (end_of d hop.link)) (name_of_end d hop.link) reported c.in-None.ensures
+    ∙ ap (λ (domain : Domain). if is_station (end_of domain hop.link) then Some reported else None) c.domain-domain.ensures

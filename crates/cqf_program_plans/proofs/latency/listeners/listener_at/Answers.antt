@@ -18,8 +18,8 @@ station_name-requires c =
 pub returns-in-Station : goal.returns-in-Station
 returns-in-Station c =
     let d = c.args.domain.now in
-    let told : Option Node → Option (List ℕ) = λ o. if is_station o then Some (option_map_or (name_of_node d) o []) else None in
+    let reported : Option Node → Option (List ℕ) = λ o. if is_station o then Some (option_map_or (name_of_node d) o []) else None in
     let ends : end_of d c.args.link ≡ Some (Station c.in-Station.station) =
     ap (option_map (λ (link : Link). link.to)) c.link.ensures ∙ ap Some c.in-Station.is in
     ap Some (c.copied.ensures ∙ sym (get_or_from_slice_get d.stations c.in-Station.station c.station_name.result.now [] c.station_name.ensures))
-    ∙ ap told (sym ends)
+    ∙ ap reported (sym ends)

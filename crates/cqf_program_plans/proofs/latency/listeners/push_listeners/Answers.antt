@@ -6,7 +6,7 @@ use Rattle.cqf_model.specs.declared.topology.Hop.{Hop}
 use Rattle.cqf_model.specs.Domain.{end_of}
 use Rattle.cqf_model.specs.History.{most_beside}
 use Rattle.cqf_program_plans.specs.declared.latency.latencies.Latency.{Latency}
-use Rattle.cqf_program_plans.specs.Latency.Text.{is_station, latency_behind, latency_to}
+use Rattle.cqf_program_plans.specs.Latency.Text.{is_station, latency_from_talker, latency_to}
 use Rattle.cqf_program_plans.proofs.Found.{items_of, listed_more}
 use Rattle.cqf_program_plans.proofs.latency.listeners.push_listeners.Goals as goal
 use Rattle.cqf_program_plans.proofs.latency.listeners.push_listeners.Goals.{in-Some+in_ok-push, in_default}
@@ -32,7 +32,7 @@ loop-hop-preserved c =
     let row = c.args.row.now in
     let items = c.as_slice-hop-items.result.now in
     let more = listed_more (λ (hop : Hop). is_station (end_of d hop.link))
-    (λ (hop : Hop). latency_behind c.args.ends.times (latency_to d (most_beside rows row.tree.items row.pace hop.link) row c.args.ends.deadline hop)) items c.loop-hop.hop-index no_hop
+    (λ (hop : Hop). latency_from_talker c.args.ends.times (latency_to d (most_beside rows row.tree.items row.pace hop.link) row c.args.ends.deadline hop)) items c.loop-hop.hop-index no_hop
     c.latency_at.result c.args.latencies.now.items done c.loop-hop-test.true c.latency_at.ensures c.loop-hop.invariant in
     elim c.match-latency_at.branch [
       | in-Some+in_ok-push w ↦
@@ -53,5 +53,5 @@ returns c =
     let all : take c.loop-hop.hop-index items ≡ row.tree.items =
     take_all c.loop-hop.hop-index items c.loop-hop-test.false ∙ c.as_slice-hop-items.ensures.value in
     c.loop-hop.invariant
-    ∙ ap (λ (hops : List Hop). before ++ map (λ (hop : Hop). latency_behind c.args.ends.times (to hop)) (heard hops)) all
-    ∙ ap (λ (told : List Latency). before ++ told) (sym (map-map (latency_behind c.args.ends.times) to (heard row.tree.items)))
+    ∙ ap (λ (hops : List Hop). before ++ map (λ (hop : Hop). latency_from_talker c.args.ends.times (to hop)) (heard hops)) all
+    ∙ ap (λ (reported : List Latency). before ++ reported) (sym (map-map (latency_from_talker c.args.ends.times) to (heard row.tree.items)))

@@ -1,4 +1,4 @@
--- Those so far stand in the two lists, and the others are still to come.
+-- The streams so far are in the two lists, and the others are still to come.
 use Rattle.std.proofs.Common.{◌≡◌, ◌++◌, map}
 use Rattle.std.specs.Vec.Iter.{into_iter_items}
 use Rattle.cqf_admission.specs.Asking.{asked_paced}

@@ -27,7 +27,7 @@ returns-in_err-listing-clause-err c =
     let here = drop_more requests i c.request-item.result c.loop-request-test.true
     ∙ ap (λ (request : PacedRequest). request ∷ drop (i + 1) requests) (sym c.request-item.is) in
     let same = c.loop-request.invariant ∙ ap (λ (rest : List PacedRequest). listed_from d c.loop-request.listing (map asked_paced rest)) here in
-    let told = subst (λ (found : Result (List Row) (List ℕ)). IsRefused found c.in_err-listing.field-0.0) (sym same)
+    let reported = subst (λ (found : Result (List Row) (List ℕ)). IsRefused found c.in_err-listing.field-0.0) (sym same)
     (c.in_err-listing.ensures.err (map asked_paced (drop (i + 1) requests))) in
     let p = err_from_is_err_and c.from_residual.result c.from_residual.ensures.1 in
-    rw (p.1, p.2) told
+    rw (p.1, p.2) reported

@@ -5,7 +5,7 @@ use Rattle.cqf_program_plans.proofs.load.laws.plan_fits.Goals as goal
 pub returns-clause-fits : goal.returns-clause-fits
 returns-clause-fits c d streams rows h =
     let laws = c.state_follows_history.ensures in (
-      λ found l turn inside. admitted_within laws.goes_on laws.counted laws.granted laws.room laws.held d streams rows h found l turn,
+      λ found l active_cycle inside. admitted_within laws.goes_on laws.counted laws.granted laws.room laws.held d streams rows h found l active_cycle,
       within_admitted laws.goes_on laws.counted laws.granted laws.room laws.held d streams rows h,
     )
 

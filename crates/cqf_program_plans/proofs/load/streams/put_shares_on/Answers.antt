@@ -8,5 +8,5 @@ use Rattle.cqf_program_plans.proofs.load.streams.put_shares_on.Goals as goal
 pub loop-share-preserved : goal.loop-share-preserved
 loop-share-preserved g c =
     let puts = Puts-then _ _ c.loop-share.invariant c.put_share_on.ensures in
-    Puts-as _ (flat_map (share_line_on c.args.load.now c.args.place) (take (c.loop-share.share-index + 1) c.args.shares.now))
+    Puts-as _ (flat_map (share_line_on c.args.load.now c.args.index) (take (c.loop-share.share-index + 1) c.args.shares.now))
     (grind (arith, common_steps)) puts

@@ -4,7 +4,7 @@ use Rattle.cqf_program_runs.specs.Check.Checked.{counts_of}
 use Rattle.cqf_program_runs.specs.Check.Counting.{checked_over}
 use Rattle.cqf_program_runs.specs.Deliveries.Ending.{Over, deliveries_over, over_by, over_of}
 use Rattle.cqf_program_runs.specs.Deliveries.Following.{IsFollowed}
-use Rattle.cqf_program_runs.proofs.Told.{IsCheckedGiven-made, IsRefused-same, IsRefusedGiven-made}
+use Rattle.cqf_program_runs.proofs.Written.{IsCheckedGiven-made, IsRefused-same, IsRefusedGiven-made}
 use Rattle.cqf_program_runs.proofs.deliveries.command.check_noted.Goals as goal
 
 pub check_each-requires : goal.check_each-requires
@@ -23,9 +23,9 @@ returns-in-Ok-clause-ok c =
     let followed = subst (λ (x : Over). IsFollowed x 0 c.args.under_way) (sym same) noted.followed in
     let ds = deliveries_over over in
     IfOk-weaker c.check_each.result _ _
-    (λ line told. IsCheckedGiven-made c.args.cycles c.args.planned.now ds (counts_of c.args.offers ds)
+    (λ line reported. IsCheckedGiven-made c.args.cycles c.args.planned.now ds (counts_of c.args.offers ds)
     c.requires.granted noted.are c.args.offers c.requires.counted refl (Ok line.items)
-    ((λ i. checked_over (sym same i) c.args.offers) ∙ told noted.whole followed))
+    ((λ i. checked_over (sym same i) c.args.offers) ∙ reported noted.whole followed))
     c.check_each.ensures.ok
 
 pub returns-in-Ok-clause-err : goal.returns-in-Ok-clause-err

@@ -7,7 +7,7 @@ use Rattle.cqf_program_scenario.specs.Closing.{scenario_given}
 use Rattle.cqf_program_scenario.proofs.BookOf.{scenario_has_book}
 use Rattle.cqf_program_runs.specs.Check.RefusedInLog.{refused_from}
 use Rattle.cqf_program_runs.proofs.RefusedInLogs.{found_refused}
-use Rattle.cqf_program_runs.proofs.Told.{IsRefusedGiven-call, refused_is}
+use Rattle.cqf_program_runs.proofs.Written.{IsRefusedGiven-call, refused_is}
 use Rattle.cqf_program_runs.proofs.deliveries.command.check_outcome.Goals as goal
 
 pub refused_stop-requires-clause-there : goal.refused_stop-requires-clause-there

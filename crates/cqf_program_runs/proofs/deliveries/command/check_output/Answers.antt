@@ -2,7 +2,7 @@ use Rattle.std.proofs.Common.{Ok}
 use Rattle.std.proofs.lemmas.Result.{IfErr-weaker, IfOk-weaker}
 use Rattle.cqf_program_runs.specs.Check.Output.{IsCheckRefusal}
 use Rattle.cqf_program_runs.proofs.Passing.{passed-on}
-use Rattle.cqf_program_runs.proofs.Told.{IsCheckRefusal-given, IsCheckRefusal-read, IsChecked-given}
+use Rattle.cqf_program_runs.proofs.Written.{IsCheckRefusal-given, IsCheckRefusal-read, IsChecked-given}
 use Rattle.cqf_program_runs.proofs.deliveries.command.check_output.Goals as goal
 
 pub check_scenario-requires-clause-may : goal.check_scenario-requires-clause-may
@@ -11,7 +11,7 @@ check_scenario-requires-clause-may c = c.in_ok-planned.ensures.ok.may
 pub returns-clause-ok : goal.returns-clause-ok
 returns-clause-ok c =
     IfOk-weaker c.check_scenario.result _ _
-    (λ line told. IsChecked-given c.args.limits c.args.cycles c.args.input.now c.in_ok-planned.planned (Ok line.items) c.in_ok-planned.ensures.ok told)
+    (λ line reported. IsChecked-given c.args.limits c.args.cycles c.args.input.now c.in_ok-planned.planned (Ok line.items) c.in_ok-planned.ensures.ok reported)
     c.check_scenario.ensures.ok
 
 pub returns-clause-err : goal.returns-clause-err

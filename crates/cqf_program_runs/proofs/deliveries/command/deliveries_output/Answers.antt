@@ -1,6 +1,6 @@
 use Rattle.std.proofs.Common.{subst, sym}
 use Rattle.cqf_program_runs.specs.Deliveries.Output.{IsDeliveriesOutput}
-use Rattle.cqf_program_runs.proofs.Told.{IsDeliveriesOutput-made}
+use Rattle.cqf_program_runs.proofs.Written.{IsDeliveriesOutput-made}
 use Rattle.cqf_program_runs.proofs.deliveries.command.deliveries_output.Goals as goal
 
 pub output_of-requires-clause-may : goal.output_of-requires-clause-may

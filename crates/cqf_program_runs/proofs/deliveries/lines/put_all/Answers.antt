@@ -2,7 +2,7 @@ use Rattle.std.proofs.Common.{◌∙◌, ◌+◌, ◌++◌, List, ap, arith, sym
 use Rattle.std.proofs.lemmas.Grind.{flat_map-append}
 use Rattle.std.proofs.lemmas.List.{take_all}
 use Rattle.cqf_model.specs.declared.frames.Offered.{Offered}
-use Rattle.cqf_model.specs.Traffic.{numbered}
+use Rattle.cqf_model.specs.Policing.{numbered}
 use Rattle.cqf_instants_run.proofs.Offers.{numbered_all}
 use Rattle.cqf_output.proofs.WriterLemmas.{Puts-as, Puts-then}
 use Rattle.cqf_report.specs.Written.{line_of_fields}
@@ -14,20 +14,20 @@ use Rattle.cqf_program_runs.proofs.deliveries.lines.put_all.Goals as goal
 
 pub put_those_of-requires-clause-followed : goal.put_those_of-requires-clause-followed
 put_those_of-requires-clause-followed g c =
-    record { whole = c.requires.whole; is = (c.loop-place.invariant c.requires.whole c.requires.is).0 }
+    record { whole = c.requires.whole; is = (c.loop-index.invariant c.requires.whole c.requires.is).0 }
 
-pub loop-place-preserved : goal.loop-place-preserved
-loop-place-preserved g c = λ whole followed.
+pub loop-index-preserved : goal.loop-index-preserved
+loop-index-preserved g c = λ whole followed.
     let over = over_of c.args.ended.now whole in
-    let place = c.loop-place.place in
-    let so_far = c.loop-place.invariant whole followed in
-    let done = deliveries_among over (take place (numbered over.offers)) in
+    let index = c.loop-index.index in
+    let so_far = c.loop-index.invariant whole followed in
+    let done = deliveries_among over (take index (numbered over.offers)) in
     let here = c.as_slice.result.now in (
       c.put_those_of.ensures.next whole so_far.0,
-      Puts-as (lines_of_deliveries done ++ lines_of_deliveries here) (lines_of_deliveries (deliveries_among over (take (place + 1) (numbered over.offers))))
+      Puts-as (lines_of_deliveries done ++ lines_of_deliveries here) (lines_of_deliveries (deliveries_among over (take (index + 1) (numbered over.offers))))
           (sym (flat_map-append (λ (delivery : Delivery). line_of_fields (delivery_fields delivery)) done here)
           ∙ ap lines_of_deliveries (ap (λ (more : List Delivery). done ++ more) c.as_slice.ensures.value
-          ∙ among_more over place c.put_those_of.new.here (omega (arith, c.loop-place-test.true)) (c.put_those_of.ensures.here whole so_far.0)))
+          ∙ among_more over index c.put_those_of.new.here (omega (arith, c.loop-index-test.true)) (c.put_those_of.ensures.here whole so_far.0)))
           (Puts-then (lines_of_deliveries done) (lines_of_deliveries here) so_far.1 c.put_each.ensures),
     )
 
@@ -36,5 +36,5 @@ returns g c = λ whole followed.
     let over = over_of c.args.ended.now whole in
     Puts-as _ _
     (ap (λ (xs : List Offered). lines_of_deliveries (deliveries_among over xs))
-    (take_all c.loop-place.place (numbered over.offers) (omega (arith, c.loop-place-test.false, numbered_all over.offers))))
-    (c.loop-place.invariant whole followed).1
+    (take_all c.loop-index.index (numbered over.offers) (omega (arith, c.loop-index-test.false, numbered_all over.offers))))
+    (c.loop-index.invariant whole followed).1

@@ -16,10 +16,10 @@ use Rattle.cqf_program_scenario.specs.Closing.{scenario_given}
 use Rattle.cqf_program_runs.specs.Deliveries.Deadlines.{deadline_in}
 use Rattle.cqf_program_runs.specs.Deliveries.{whole_on}
 use Rattle.cqf_program_runs.specs.Deliveries.Ending.{IsOver, Over, deliveries_over}
-use Rattle.cqf_program_runs.specs.Deliveries.Following.{IsBehind, IsBookBehind}
+use Rattle.cqf_program_runs.specs.Deliveries.Following.{IsAfter, IsBookAfter}
 use Rattle.cqf_program_runs.specs.Deliveries.PlannedScenario.{run_of_scenario}
-use Rattle.cqf_program_runs.specs.Deliveries.UnderWay.{IsInTime, IsLaid, starts_told}
-use Rattle.cqf_program_runs.proofs.BehindOffers.{starts_behind}
+use Rattle.cqf_program_runs.specs.Deliveries.UnderWay.{IsInTime, IsLaid, starts_written}
+use Rattle.cqf_program_runs.proofs.AfterOffers.{starts_after}
 use Rattle.cqf_program_runs.proofs.FollowedOn.{followed_first}
 use Rattle.cqf_program_runs.proofs.Judged.{AreDeliveries-run, due_is, edge_verdicts_decide}
 use Rattle.cqf_program_runs.proofs.deliveries.noted.noted_of.Goals as goal
@@ -40,9 +40,9 @@ returns c =
     let run = run_of_scenario c.args.cycles s in
     let d = given.domain in
     let offers = given.offers.items in
-    let told = c.in_ok-pass.ensures.tells in
-    let book = told.0 in
-    let is_book = told.2 in
+    let reported = c.in_ok-pass.ensures.reports in
+    let book = reported.0 in
+    let is_book = reported.2 in
     let history = c.requires.outcome.history in
     let edge_verdicts = c.args.outcome.edge_verdicts.items in
     let pass = c.in_ok-pass.pass in
@@ -66,23 +66,23 @@ returns c =
     c.tables_are_orderly.ensures.orderly d (history_of c.args.cycles s) c.args.cycles history.legal is_book.is_book.sealed in
     let decided = edge_verdicts_decide c.offers_are_judged.ensures c.args.cycles s book over.rows edge_verdicts is_book history.judged c.requires.may.in_order in
     let short : length run.tables ≤ 100000 = omega (arith, length-singles (table_at s.domain (history_of c.args.cycles s)) c.args.cycles, c.requires.short) in
-    let starts : AreStartsOf pass.basis book.starts = told.1 in
-    let told_by : book.starts ≡ starts_told starts.given pass.basis.cycles = starts.are in
-    let behind : IsBookBehind over under_way.depth pass.basis starts.given = record {
+    let starts : AreStartsOf pass.basis book.starts = reported.1 in
+    let written_by : book.starts ≡ starts_written starts.given pass.basis.cycles = starts.are in
+    let following : IsBookAfter over under_way.hop_number pass.basis starts.given = record {
       is = starts.is;
-      whole = ap (whole_on d) told_by;
-      in_time = subst (λ (ss : List Started). All (IsInTime d) ss) told_by
+      whole = ap (whole_on d) written_by;
+      in_time = subst (λ (ss : List Started). All (IsInTime d) ss) written_by
           (starts_in_time run book is_book.promise c.know.ensures.accepted short);
-      behind = subst (λ (ss : List Started). All (IsBehind d.cycle_time under_way.depth offers) ss) told_by
-          (starts_behind run book is_book.promise.says orderly over.rows edge_verdicts decided under_way.depth laid.deep);
+      following = subst (λ (ss : List Started). All (IsAfter d.cycle_time under_way.hop_number offers) ss) written_by
+          (starts_after run book is_book.promise.says orderly over.rows edge_verdicts decided under_way.hop_number laid.hop_numbers);
     } in
     let is_over : IsOver over =
     record { offers = c.requires.may.offers; few = c.requires.may.few_offers; judged = history.judged.count; due = c.in_ok-dues.ensures } in
     record {
       whole = whole;
       followed = followed_first over under_way starts.given is_over c.requires.may.in_order
-          (ap (λ (p : Progress). p.told) is_pass ∙ c.in_ok-pass.ensures.fresh) laid
-          (subst (λ (basis : Basis). IsBookBehind over under_way.depth basis starts.given) (sym (ap (λ (p : Progress). p.basis) is_pass)) behind);
+          (ap (λ (p : Progress). p.reported) is_pass ∙ c.in_ok-pass.ensures.fresh) laid
+          (subst (λ (basis : Basis). IsBookAfter over under_way.hop_number basis starts.given) (sym (ap (λ (p : Progress). p.basis) is_pass)) following);
       are = λ texts those.
           AreDeliveries-run c.offers_are_judged.ensures c.args.cycles s texts book d (history_of c.args.cycles s) offers book.starts over.rows edge_verdicts
           (deadline_in over.due) (deliveries_over over) is_book refl refl refl refl history.judged c.requires.may.in_order

@@ -10,7 +10,7 @@ loop-start-preserved c =
     let ended = c.args.ended.now in
     let xs = c.args.starts.now in
     let k = c.loop-start.start-index in
-    subst (λ (ss : List Started). NotesAll ended.domain.now ended.rows.now ended.edge_verdicts.now c.args.place ss (slots_of c.args.slots.now.items)
+    subst (λ (ss : List Started). NotesAll ended.domain.now ended.rows.now ended.edge_verdicts.now c.args.index ss (slots_of c.args.slots.now.items)
     (slots_of c.note.new.slots.items)) (sym (take_more xs k _ c.loop-start-test.true))
-    (notes_then ended.domain.now ended.rows.now ended.edge_verdicts.now c.args.place (take k xs) (_ ∷ []) (slots_of c.args.slots.now.items)
+    (notes_then ended.domain.now ended.rows.now ended.edge_verdicts.now c.args.index (take k xs) (_ ∷ []) (slots_of c.args.slots.now.items)
     (slots_of c.loop-start.slots.items) (slots_of c.note.new.slots.items) c.loop-start.invariant c.note.ensures)

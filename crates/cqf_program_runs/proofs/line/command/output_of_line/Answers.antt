@@ -19,14 +19,14 @@ book_of_outcome-requires-clause-may c =
 -- and its book is the line's
 pub returns : goal.returns
 returns c =
-    let told = c.in_ok-book.ensures in
+    let reported = c.in_ok-book.ensures in
     let d = c.in_ok-given.given.domain in
-    let text = text_of_book d told.0 in (
+    let text = text_of_book d reported.0 in (
       text,
-      (told.0, told.1, refl),
+      (reported.0, reported.1, refl),
       record {
-        book = told.0;
-        is_book = subst (λ (s : Scenario). IsBookOfScenario c.args.cycles s told.0) c.in_ok-given.ensures.given told.2;
+        book = reported.0;
+        is_book = subst (λ (s : Scenario). IsBookOfScenario c.args.cycles s reported.0) c.in_ok-given.ensures.given reported.2;
         live = line_tables-are (record {
           goes_on = c.state_follows_history.ensures.goes_on;
           counted = c.state_follows_history.ensures.counted;
@@ -35,6 +35,6 @@ returns c =
           closes = c.state_follows_history.ensures.closes;
           stays = c.closed_tables_stay.ensures;
         }) c.args.cycles c.args.offers.items c.requires.short;
-        written = ap (λ (d : Domain). text_of_book d told.0) (ap (λ (s : Scenario). s.domain) c.in_ok-given.ensures.given);
+        written = ap (λ (d : Domain). text_of_book d reported.0) (ap (λ (s : Scenario). s.domain) c.in_ok-given.ensures.given);
       },
     )

@@ -3,11 +3,11 @@ use Rattle.cqf_program_runs.proofs.report.command.report_output.Goals as goal
 
 pub returns-in-Ok-clause-ok : goal.returns-in-Ok-clause-ok
 returns-in-Ok-clause-ok g c =
-    let told = c.in-Ok.ensures in
+    let reported = c.in-Ok.ensures in
     record {
       scenario = scenario_given c.in_ok-given.given;
       holds = c.in_ok-given.ensures.ok;
-      book = told.book;
-      is_book = told.is_book;
-      written = told.written;
+      book = reported.book;
+      is_book = reported.is_book;
+      written = reported.written;
     }

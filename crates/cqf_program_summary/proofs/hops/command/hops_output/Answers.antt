@@ -6,16 +6,16 @@ use Rattle.cqf_program_summary.proofs.hops.command.hops_output.Goals as goal
 pub returns-in-Ok-clause-ok : goal.returns-in-Ok-clause-ok
 returns-in-Ok-clause-ok c =
     let s = scenario_given c.in_ok-given.given in
-    let told = c.in-Ok.ensures in (
-      text_of_legs s.domain s.offers told.legs,
-      told.text,
+    let reported = c.in-Ok.ensures in (
+      text_of_legs s.domain s.offers reported.legs,
+      reported.text,
       record {
         scenario = s;
         holds = c.in_ok-given.ensures.ok.holds;
-        book = told.book;
-        is_book = told.is_book;
-        legs = told.legs;
-        are = told.are;
+        book = reported.book;
+        is_book = reported.is_book;
+        legs = reported.legs;
+        are = reported.are;
         written = refl;
       },
     )

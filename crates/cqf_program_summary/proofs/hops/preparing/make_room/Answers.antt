@@ -2,19 +2,19 @@ use Rattle.std.proofs.Common.{◌≡◌, ◌∙◌, ◌+◌, ap, arith, get_or, 
 use Rattle.std.specs.Prelude.{min, suc}
 use Rattle.cqf_program_summary.specs.declared.hops.rounds.Round.{Round}
 use Rattle.cqf_program_summary.specs.Hops.Rounds.{no_round, round_before, source_of}
-use Rattle.cqf_program_summary.proofs.Going.{rooms_more, round_behind}
+use Rattle.cqf_program_summary.proofs.Going.{rooms_more, round_after}
 use Rattle.cqf_program_summary.proofs.hops.preparing.make_room.Goals as goal
 
 pub loop-round-init : goal.loop-round-init
 loop-round-init c = record {
-  told = omega (arith, c.requires.fresh, ap (λ (r : Round). r.cycles) c.requires.first);
+  reported = omega (arith, c.requires.fresh, ap (λ (r : Round). r.cycles) c.requires.first);
   at = c.requires.first;
   rooms = λ starts stands. (stands, λ k below. absurd (omega (arith, below)));
 }
 
 pub go_through-requires-clause-next : goal.go_through-requires-clause-next
 go_through-requires-clause-next c =
-    round_behind c.args.domain.now c.args.depth c.args.run.now.offers.now c.args.run.now.drops.now c.args.rounds.now c.loop-round.round-index
+    round_after c.args.domain.now c.args.hop_number c.args.run.now.offers.now c.args.run.now.drops.now c.args.rounds.now c.loop-round.round-index
     c.loop-round.under_way.at c.requires.rounds c.loop-round-test.true c.loop-round.invariant.at
 
 pub go_through-requires-clause-drops_within : goal.go_through-requires-clause-drops_within
@@ -27,7 +27,7 @@ loop-round-preserved c =
     let index = c.loop-round.round-index in
     let next : suc index ≡ index + 1 = omega arith in
     record {
-      told = gone.told ∙ ap (λ (r : Round). min r.cycles c.go_through.new.self.pass.basis.cycles) (sym gone.at);
+      reported = gone.reported ∙ ap (λ (r : Round). min r.cycles c.go_through.new.self.pass.basis.cycles) (sym gone.at);
       at = gone.at ∙ ap (round_before rounds) next;
       rooms = λ starts stands.
           let so = c.loop-round.invariant.rooms starts stands in

@@ -7,7 +7,7 @@ use Rattle.cqf_program_summary.proofs.hops.preparing.make_room.Given as goal
 
 abbrev pub invariant-loop-round : goal.invariant-loop-round
 invariant-loop-round l = record {
-  told : l.under_way.pass.told ≡ min l.under_way.at.cycles l.under_way.pass.basis.cycles;
+  reported : l.under_way.pass.reported ≡ min l.under_way.at.cycles l.under_way.pass.basis.cycles;
   at : l.under_way.at ≡ round_before l.rounds l.round-index;
   rooms : (starts : List Started) → StandsAt starts (source_of l.run) l.fn.under_way → StandsAt starts (source_of l.run) l.under_way
       × ((k : ℕ) → k < l.round-index → HasRoom starts (source_of l.run) (round_before l.rounds k) (get_or l.rounds k no_round) (vec_capacity l.under_way.kept)

@@ -1,4 +1,4 @@
-use Rattle.cqf_program_summary.proofs.Told.{IsSummaryOutput-made}
+use Rattle.cqf_program_summary.proofs.Written.{IsSummaryOutput-made}
 use Rattle.cqf_program_summary.proofs.summary.command.summary_output.Goals as goal
 
 pub output_of-requires-clause-may : goal.output_of-requires-clause-may

@@ -5,9 +5,9 @@ use Rattle.std.proofs.lemmas.List.Elements.{Contains-get_or}
 use Rattle.cqf_compile.proofs.Bridges.{no_hop}
 use Rattle.cqf_program_plans.proofs.Found.{items_of}
 use Rattle.cqf_program_summary.specs.Summary.Listing.{cost_beside}
-use Rattle.cqf_program_summary.proofs.Found.{first_way, ways_more}
+use Rattle.cqf_program_summary.proofs.Found.{first_path, paths_more}
 use Rattle.cqf_program_summary.proofs.summary.fares.push_listeners.Goals as goal
-use Rattle.cqf_program_summary.proofs.summary.fares.push_listeners.Goals.{in-Some+in_ok-push_way, in_default}
+use Rattle.cqf_program_summary.proofs.summary.fares.push_listeners.Goals.{in-Some+in_ok-push_path, in_default}
 
 pub listener_to-requires-clause-of_tree : goal.listener_to-requires-clause-of_tree
 listener_to-requires-clause-of_tree c =
@@ -17,12 +17,12 @@ listener_to-requires-clause-of_tree c =
 
 pub loop-hop-preserved : goal.loop-hop-preserved
 loop-hop-preserved c =
-    let done = c.loop-hop.ways.items in
-    let more = ways_more c.args.domain.now (cost_beside c.args.costs.now (Some c.args.row.now)) c.as_slice-hop-items.result.now c.loop-hop.hop-index c.listener_to.result
-    c.args.ways.now.items done c.loop-hop-test.true c.listener_to.ensures c.loop-hop.invariant in
+    let done = c.loop-hop.paths.items in
+    let more = paths_more c.args.domain.now (cost_beside c.args.costs.now (Some c.args.row.now)) c.as_slice-hop-items.result.now c.loop-hop.hop-index c.listener_to.result
+    c.args.paths.now.items done c.loop-hop-test.true c.listener_to.ensures c.loop-hop.invariant in
     elim c.match-listener_to.branch [
-      | in-Some+in_ok-push_way w ↦
-          ap (λ v. v.items) w.ways-is ∙ w.in_ok-push_way.ensures ∙ ap (λ o. done ++ items_of (option_map first_way o)) (sym w.in-Some.is) ∙ more
+      | in-Some+in_ok-push_path w ↦
+          ap (λ v. v.items) w.paths-is ∙ w.in_ok-push_path.ensures ∙ ap (λ o. done ++ items_of (option_map first_path o)) (sym w.in-Some.is) ∙ more
       | in_default w ↦
-          ap (λ v. v.items) w.ways-is ∙ sym (append-nil done) ∙ ap (λ o. done ++ items_of (option_map first_way o)) (sym w.in_default.is) ∙ more
+          ap (λ v. v.items) w.paths-is ∙ sym (append-nil done) ∙ ap (λ o. done ++ items_of (option_map first_path o)) (sym w.in_default.is) ∙ more
     ]

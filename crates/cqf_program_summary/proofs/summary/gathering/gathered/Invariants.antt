@@ -7,9 +7,9 @@ use Rattle.cqf_program_summary.specs.Summary.Counting.{SummaryWithin}
 use Rattle.cqf_program_summary.specs.Summary.Gathering.{IsSummaryOfFirst}
 use Rattle.cqf_program_summary.proofs.summary.gathering.gathered.Given as goal
 
-abbrev pub invariant-loop-place : goal.invariant-loop-place
-invariant-loop-place l = record {
-  within : SummaryWithin (201 * l.place) l.sums;
+abbrev pub invariant-loop-index : goal.invariant-loop-index
+invariant-loop-index l = record {
+  within : SummaryWithin (201 * l.index) l.sums;
   so_far : (whole : ℕ → ℕ → Option Nanos) → IsFollowed (over_of l.ended whole) 0 l.initial.under_way →
-      IsFollowed (over_of l.ended whole) l.place l.under_way × IsSummaryOfFirst (over_of l.ended whole) l.place l.initial.sums l.sums;
+      IsFollowed (over_of l.ended whole) l.index l.under_way × IsSummaryOfFirst (over_of l.ended whole) l.index l.initial.sums l.sums;
 }

@@ -6,8 +6,8 @@ use Rattle.cqf_program_runs.specs.Deliveries.Following.{IsFollowed}
 use Rattle.cqf_program_summary.specs.Summary.Counting.{SummaryWithin}
 use Rattle.cqf_program_summary.specs.Summary.Gathering.{IsSummaryOver}
 use Rattle.cqf_program_summary.specs.Summary.{summary_by}
-use Rattle.cqf_program_summary.specs.Summary.Told.{told_streams}
-use Rattle.cqf_program_summary.proofs.Told.{IsSummaryOf-noted}
+use Rattle.cqf_program_summary.specs.Summary.Written.{written_streams}
+use Rattle.cqf_program_summary.proofs.Written.{IsSummaryOf-noted}
 use Rattle.cqf_program_summary.proofs.Within.{none_within}
 use Rattle.cqf_program_summary.proofs.summary.gathering.sums_of_scenario.Goals as goal
 
@@ -23,7 +23,7 @@ pub gathered-requires-clause-fresh : goal.gathered-requires-clause-fresh
 gathered-requires-clause-fresh c =
     let due : Due = record { requests = c.as_slice-requests.result.now; deadlines = c.as_slice.result.now } in
     subst (SummaryWithin 0) (sym c.in_ok-sums.ensures)
-    (none_within c.args.planned.now.given.domain (told_streams (map asked_paced c.as_slice-requests.result.now)) (deadline_in due))
+    (none_within c.args.planned.now.given.domain (written_streams (map asked_paced c.as_slice-requests.result.now)) (deadline_in due))
 
 pub returns : goal.returns
 returns c =
@@ -31,9 +31,9 @@ returns c =
     let d = planned.given.domain in
     let requests = planned.given.requests.items in
     let due : Due = record { requests = requests; deadlines = planned.deadlines.items } in
-    let first : c.in_ok-sums.sums ≡ summary_by d (told_streams (map asked_paced requests)) (deadline_in due) [] [] =
+    let first : c.in_ok-sums.sums ≡ summary_by d (written_streams (map asked_paced requests)) (deadline_in due) [] [] =
     c.in_ok-sums.ensures
-    ∙ (λ i. summary_by d (told_streams (map asked_paced (c.as_slice-requests.ensures.value i)))
+    ∙ (λ i. summary_by d (written_streams (map asked_paced (c.as_slice-requests.ensures.value i)))
     (deadline_in (record { requests = c.as_slice-requests.ensures.value i; deadlines = c.as_slice.ensures.value i })) [] []) in
     let noted = c.in_ok-noted.ensures in
     let same = c.over.ensures noted.whole in

@@ -11,4 +11,4 @@ add_cost-requires-clause-good c = c.requires.summable.paced
 
 pub add_cost-requires-clause-room : goal.add_cost-requires-clause-room
 add_cost-requires-clause-room c =
-    room_bounded c.args.costs.now c.args.row.now c.requires.all c.requires.bounded c.requires.summable.countable.octets
+    room_bounded c.args.costs.now c.args.row.now c.requires.all c.requires.bounded c.requires.summable.countable.octets c.requires.summable.countable.overhead

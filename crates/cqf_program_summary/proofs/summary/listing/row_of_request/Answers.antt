@@ -13,4 +13,4 @@ returns-in_ok-into_row-in-Ok-clause-summable c =
     let is = c.in-Ok.ensures in
     let effect : Cycle = record { 0 = 0 } in
     granted_summed d asked _ c.know.ensures.accepted
-    (c.in_ok-into_row-in-Ok.ensures ∙ row_granted d 0 effect asked judged.name judged.pace judged.tree.items is.named is.paced is.linked) is.none
+    (c.in_ok-into_row-in-Ok.ensures ∙ row_granted d 0 effect asked judged.name judged.overhead judged.pace judged.tree.items is.named is.overhead is.paced is.linked) is.none

@@ -1,6 +1,7 @@
-use Rattle.std.proofs.Common.{◌≡◌, ◌∙◌, ◌++◌, ◌∷◌, [], Option, Some, None, ap, refl, subst, sym}
+use Rattle.std.proofs.Common.{◌≡◌, ◌∙◌, ◌++◌, ◌∷◌, [], Option, Some, None, ap, refl, subst, subst₂, sym}
 use Rattle.std.proofs.lemmas.List.{append-nil}
 use Rattle.std.proofs.lemmas.Result.{on_ok_weaker}
+use Rattle.cqf_units.specs.Timing.{counted_of}
 use Rattle.cqf_model.specs.declared.frames.Reason.{Reason}
 use Rattle.cqf_model.specs.Table.{row_named}
 use Rattle.cqf_relay.specs.declared.edge.Edge.{Edge}
@@ -18,8 +19,10 @@ returns-in-Some-2 c =
     let reason = c.in-Some-2.reason in
     let row = c.in-Some.row.now in
     let named : row_named c.args.table.now.rows x.offer.stream ≡ Some row = sym c.in-Some.ensures.found in
-    let judged : JudgesRow d before.number row c.args.cycle.0 x.offer.octets before.used.items counted.used.items (Some reason) =
-    subst (λ (r : Option Reason). JudgesRow d before.number row c.args.cycle.0 x.offer.octets before.used.items counted.used.items r) c.in-Some-2.is
+    let octets : c.counted-octets.result.0 ≡ counted_of d.overhead x.offer.octets =
+    c.counted-octets.ensures ∙ ap (λ o. counted_of o x.offer.octets) c.overhead.ensures.value in
+    let judged : JudgesRow d before.number row c.args.cycle.0 (counted_of d.overhead x.offer.octets) before.used.items counted.used.items (Some reason) =
+    subst₂ (λ n (r : Option Reason). JudgesRow d before.number row c.args.cycle.0 n before.used.items counted.used.items r) octets c.in-Some-2.is
     c.in_ok-reason.ensures in
     on_ok_weaker c.drop_for-in-Some-2.result
     (λ (dropped : DropsOf c.args.cycle.0 x reason counted c.drop_for-in-Some-2.new.self).
@@ -35,8 +38,10 @@ returns-in-None c =
     let after : Edge = record before { used = c.judge_row.new.used; log = c.keep.new.self } in
     let row = c.in-Some.row.now in
     let named : row_named c.args.table.now.rows x.offer.stream ≡ Some row = sym c.in-Some.ensures.found in
-    let judged : JudgesRow d before.number row c.args.cycle.0 x.offer.octets before.used.items after.used.items None =
-    subst (λ (r : Option Reason). JudgesRow d before.number row c.args.cycle.0 x.offer.octets before.used.items after.used.items r) c.in-None.is
+    let octets : c.counted-octets.result.0 ≡ counted_of d.overhead x.offer.octets =
+    c.counted-octets.ensures ∙ ap (λ o. counted_of o x.offer.octets) c.overhead.ensures.value in
+    let judged : JudgesRow d before.number row c.args.cycle.0 (counted_of d.overhead x.offer.octets) before.used.items after.used.items None =
+    subst₂ (λ n (r : Option Reason). JudgesRow d before.number row c.args.cycle.0 n before.used.items after.used.items r) octets c.in-None.is
     c.in_ok-reason.ensures in
     on_ok_weaker c.keep.result
     (λ (kept : c.keep.new.self.frames.items ≡ before.log.frames.items ++ c.came.result ∷ []).

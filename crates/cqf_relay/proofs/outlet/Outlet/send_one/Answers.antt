@@ -17,7 +17,7 @@ returns c =
     elim c.if-self.branch [
       | then-self+in_ok-hand w ↦
           sends_one c.args.cycle c.args.offset c.args.came before after
-          (ap (λ (o : Outlet). o.wire) w.self-is) (ap (λ (o : Outlet). o.leads) w.self-is) (ap (λ (o : Outlet). o.sent) w.self-is) (ap (λ (o : Outlet). o.told) w.self-is)
+          (ap (λ (o : Outlet). o.wire) w.self-is) (ap (λ (o : Outlet). o.leads) w.self-is) (ap (λ (o : Outlet). o.sent) w.self-is) (ap (λ (o : Outlet). o.reported) w.self-is)
           (c.from.result * c.from-2.result) w.time_of.result c.taken_by.result begins w.time_of.ensures
           (c.taken_by.ensures.value ∙ ap (λ (o : Outlet). slot_of c.args.came.octets o.wire.octet_time) w.self-is)
           room (omega arith) (subst (λ (o : Outlet). o.wire.octet_time < 2 ^ 32) w.self-is c.taken_by.ensures.ticks)
@@ -30,7 +30,7 @@ returns c =
           (λ ends. absurd (true≢false (sym w.if-self.true ∙ ends)))
       | else-self w ↦
           sends_one c.args.cycle c.args.offset c.args.came before after
-          (ap (λ (o : Outlet). o.wire) w.self-is) (ap (λ (o : Outlet). o.leads) w.self-is) (ap (λ (o : Outlet). o.sent) w.self-is) (ap (λ (o : Outlet). o.told) w.self-is)
+          (ap (λ (o : Outlet). o.wire) w.self-is) (ap (λ (o : Outlet). o.leads) w.self-is) (ap (λ (o : Outlet). o.sent) w.self-is) (ap (λ (o : Outlet). o.reported) w.self-is)
           (c.from.result * c.from-2.result) (time_on before.wire c.args.came.octets) c.taken_by.result begins refl
           (c.taken_by.ensures.value ∙ ap (λ (o : Outlet). slot_of c.args.came.octets o.wire.octet_time) w.self-is)
           room (omega arith) (subst (λ (o : Outlet). o.wire.octet_time < 2 ^ 32) w.self-is c.taken_by.ensures.ticks)

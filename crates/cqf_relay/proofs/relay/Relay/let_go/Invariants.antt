@@ -8,5 +8,5 @@ abbrev pub invariant-loop-outlet : goal.invariant-loop-outlet
 invariant-loop-outlet l = All (λ (outlet : Outlet). l.least ≤ outlet.sent - 1) (take l.outlet-index l.outlet-items)
 
 -- the inlets so far have let go
-abbrev pub invariant-loop-place : goal.invariant-loop-place
-invariant-loop-place l = IsLettingGo l.least l.place l.fn.self l.self
+abbrev pub invariant-loop-index : goal.invariant-loop-index
+invariant-loop-index l = IsLettingGo l.least l.index l.fn.self l.self

@@ -12,7 +12,7 @@ returns c = record {
   tables = omega (arith, c.has_come.ensures.tables);
   cycles = omega arith;
   most = λ outlet at.
-      let same = ap most_of (link_read c.args.self.now.outlets.items c.args.place c.index.result.now outlet c.index.ensures at) in
+      let same = ap most_of (link_read c.args.self.now.outlets.items c.args.index c.index.result.now outlet c.index.ensures at) in
       omega (arith, c.most-most.ensures, same);
   needed = λ outlet at.
       let needs = λ (it : Inlet). list_any (λ m. m == it.link) outlet.leads.needs.items ≡ true in

@@ -8,8 +8,8 @@ pub returns : goal.returns
 returns c =
     let old = c.index_mut.result.now in
     let new = c.take.new.self in
-    let was = slice_get_read c.args.self.now.inlets.items _ c.args.place old refl c.requires c.index_mut.ensures.value in
-    segment_taken c.take.result c.args.place c.args.segment.now c.args.self.now _ old new
+    let was = slice_get_read c.args.self.now.inlets.items _ c.args.index old refl c.requires c.index_mut.ensures.value in
+    segment_taken c.take.result c.args.index c.args.segment.now c.args.self.now _ old new
     (λ upto log. record {
       domain = refl;
       number = refl;

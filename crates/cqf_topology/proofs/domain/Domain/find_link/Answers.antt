@@ -1,6 +1,6 @@
 use Rattle.std.proofs.Common.{subst, sym, rules}
 use Rattle.cqf_topology.specs.DomainText.{IsDomain, IsOnlyLink}
-use Rattle.cqf_topology.proofs.Told.{only-link}
+use Rattle.cqf_topology.proofs.Written.{only-link}
 use Rattle.cqf_topology.proofs.domain.Domain.find_link.Goals as goal
 
 pub returns-in_err-link-clause-number : goal.returns-in_err-link-clause-number

@@ -5,7 +5,7 @@ use Rattle.cqf_topology.specs.DomainText.{IsDomain, domain_with, with_these}
 use Rattle.cqf_topology.proofs.Accepted.{checked-accepted, checked-numbered}
 use Rattle.cqf_topology.proofs.Passed.{passes}
 use Rattle.cqf_topology.proofs.Refusals.{Gives-residual}
-use Rattle.cqf_topology.proofs.Told.{no-link-twice}
+use Rattle.cqf_topology.proofs.Written.{no-link-twice}
 use Rattle.cqf_topology.proofs.domain.Domain.of_names.Goals as goal
 
 pub returns-in_err-listed : goal.returns-in_err-listed
@@ -30,12 +30,13 @@ invariant_of-result c =
     let n = c.in_ok-listed.ensures.numbered in
     let p = passes t links (with_these t links) (sym (checked-numbered t bridges stations links n) ∙ c.in_ok-listed.ensures.given) in
     let made : Domain =
-    domain_with c.limits.result c.cycle_time.result c.guard.result c.sync.result bridges stations c.in_ok-links.links.items in
+    domain_with c.limits.result c.cycle_time.result c.guard.result c.sync.result c.overhead.result bridges stations c.in_ok-links.links.items in
     let same : with_these t links ≡ made = λ i. record {
       limits = sym c.limits.ensures i;
       cycle_time = sym c.cycle_time.ensures i;
       guard = sym c.guard.ensures i;
       sync = sym c.sync.ensures i;
+      overhead = sym c.overhead.ensures i;
       bridges = sym n.bridges_are i;
       stations = sym n.stations_are i;
       links = sym c.in_ok-links.ensures i;

@@ -26,12 +26,12 @@ try_recv_as-requires-clause-rule g c = (receives _ _ (ap (λ v. v.takes) c.self.
 -- nothing waited; the item arrived with the items that wait now
 pub invariant_of-self-in-Ok : goal.invariant_of-self-in-Ok
 invariant_of-self-in-Ok g c =
-    let next = comes _ _ _ c.in-Ok.bundle.behind.items c.in-Ok.bundle.first _ (ap (λ v. v.taken) c.in-Ok.ensures.rule.0) c.self.invariant.3
+    let next = comes _ _ _ c.in-Ok.bundle.following.items c.in-Ok.bundle.first _ (ap (λ v. v.taken) c.in-Ok.ensures.rule.0) c.self.invariant.3
     (search rules) c.self.invariant.4 in
     (search rules, search rules, c.in-Ok.ensures.rule.1, next.1, next.2)
 
 pub returns-in-Ok-clause-items : goal.returns-in-Ok-clause-items
 returns-in-Ok-clause-items g c =
-    let next = comes _ _ _ c.in-Ok.bundle.behind.items c.in-Ok.bundle.first _ (ap (λ v. v.taken) c.in-Ok.ensures.rule.0) c.self.invariant.3
+    let next = comes _ _ _ c.in-Ok.bundle.following.items c.in-Ok.bundle.first _ (ap (λ v. v.taken) c.in-Ok.ensures.rule.0) c.self.invariant.3
     (search rules) c.self.invariant.4 in
     next.0 ∙ ap (λ e. e.items ++ c.in-Ok.bundle.first ∷ []) c.self.view_is

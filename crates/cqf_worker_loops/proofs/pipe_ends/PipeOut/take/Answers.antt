@@ -21,12 +21,12 @@ returns-in-Some-clause-some g c =
 -- nothing waited; the item arrived with the items that wait now
 pub invariant_of-self-2 : goal.invariant_of-self-2
 invariant_of-self-2 g c =
-    let next = comes _ _ _ c.in_ok-first.field-0.behind.items c.in_ok-first.field-0.first _ (ap (λ v. v.taken) c.in_ok-first.ensures.some.0) c.self.invariant.3
+    let next = comes _ _ _ c.in_ok-first.field-0.following.items c.in_ok-first.field-0.first _ (ap (λ v. v.taken) c.in_ok-first.ensures.some.0) c.self.invariant.3
     (search rules) c.self.invariant.4 in
     (search rules, search rules, c.in_ok-first.ensures.some.1, next.1, next.2)
 
 pub returns-clause-some : goal.returns-clause-some
 returns-clause-some g c =
-    let next = comes _ _ _ c.in_ok-first.field-0.behind.items c.in_ok-first.field-0.first _ (ap (λ v. v.taken) c.in_ok-first.ensures.some.0) c.self.invariant.3
+    let next = comes _ _ _ c.in_ok-first.field-0.following.items c.in_ok-first.field-0.first _ (ap (λ v. v.taken) c.in_ok-first.ensures.some.0) c.self.invariant.3
     (search rules) c.self.invariant.4 in
     next.0 ∙ ap (λ e. e.items ++ c.in_ok-first.field-0.first ∷ []) c.self.view_is

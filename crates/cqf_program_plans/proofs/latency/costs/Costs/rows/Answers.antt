@@ -1,5 +1,5 @@
 use Rattle.std.proofs.Common.{length, subst}
-use Rattle.cqf_admission.specs.Turns.{AreOfGoodPaces}
+use Rattle.cqf_admission.specs.ActiveCycles.{AreOfGoodPaces}
 use Rattle.cqf_program_plans.specs.Latency.Output.{AreCountable, DomainTable}
 use Rattle.cqf_program_plans.proofs.latency.costs.Costs.rows.Goals as goal
 

@@ -19,5 +19,5 @@ returns c =
     ap (λ (n : List ℕ). list_any (λ (other : Row). is_text other.name n) rows) (sym form.named) ∙ sym c.has_name.ensures ∙ c.if-has_name.false in
     let few : length rows < streams_within d.limits =
     omega (arith, c.if-len-streams_within.false, c.len.ensures, c.streams_within.ensures, ap streams_within c.limits.ensures) in
-    is_listed d rows asked _ form.none form.most_octets free few
-    (row_granted d (length rows) (record { 0 = 0 }) asked judged.name judged.pace judged.tree.items form.named form.paced form.linked)
+    is_listed d rows asked _ c.know.ensures.accepted.overhead_short form.none form.most_octets free few
+    (row_granted d (length rows) (record { 0 = 0 }) asked judged.name judged.overhead judged.pace judged.tree.items form.named form.overhead form.paced form.linked)

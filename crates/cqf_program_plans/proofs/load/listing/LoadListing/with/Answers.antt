@@ -19,10 +19,11 @@ add_cost-requires-clause-room c =
     let rows : List Row = c.self.inside.rows.items in
     let few : length rows < 16384 = omega (arith, c.requires.few, ap (λ (rs : List Row). length rs) c.self.view_is) in
     room_for c.self.inside.names.keys rows c.self.inside.held c.self.inside.crossing.items c.args.row c.self.invariant few c.requires.countable.octets
+    c.requires.countable.overhead
 
 pub invariant_of-result : goal.invariant_of-result
 invariant_of-result c =
     let rows : List Row = c.self.inside.rows.items in
     let few : length rows < 16384 = omega (arith, c.requires.few, ap (λ (rs : List Row). length rs) c.self.view_is) in
     one_listed c.self.inside.names.keys rows c.self.inside.held c.self.inside.crossing.items c.args.row c.self.invariant few
-    c.requires.countable.octets _ _ _ _ c.in_ok-add.ensures.more c.in_ok-push.ensures.items c.add_cost.ensures c.add_where.ensures
+    c.requires.countable.octets c.requires.countable.overhead _ _ _ _ c.in_ok-add.ensures.more c.in_ok-push.ensures.items c.add_cost.ensures c.add_where.ensures

@@ -13,8 +13,8 @@ returns c =
     let own : Vec (Option Nanos) Global = c.empty.new.slot in
     record {
       pass = refl;
-      told = refl;
-      depth = refl;
+      reported = refl;
+      hop_number = refl;
       as_many = ap (λ (xs : List (Vec (Option Nanos) Global)). length xs) c.rotate_left.ensures.items ∙ turned_many slots own c.requires;
       emptied = own.items;
       as_wide = c.empty.ensures.as_many

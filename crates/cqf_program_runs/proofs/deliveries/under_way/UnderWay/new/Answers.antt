@@ -21,10 +21,10 @@ returns c =
       record {
         width = width;
         fresh = refl;
-        deep = λ row among. omega (arith, none_greater residence rows 0 row among, c.deepest-depth.ensures);
+        hop_numbers = λ row among. omega (arith, none_greater residence rows 0 row among, c.greatest_hop_number-hop_number.ensures);
         room = λ row among. omega (arith, none_greater (λ (r : Row). length (listeners_of d r)) rows 0 row among, c.most_listeners-width.ensures);
         some = omega (arith, many, c.most_at_once-many.ensures.some);
-        enough = subst (λ (n : ℕ). IsWideFor d.cycle_time c.deepest-depth.result c.args.offers.now n) (sym many) c.most_at_once-many.ensures.enough;
+        enough = subst (λ (n : ℕ). IsWideFor d.cycle_time c.greatest_hop_number-hop_number.result c.args.offers.now n) (sym many) c.most_at_once-many.ensures.enough;
         empty = subst (λ (n : ℕ). AreEmptySlots width n (slots_of slots)) (sym many) c.in_ok-slots.ensures;
       },
     )

@@ -1,6 +1,6 @@
 use Rattle.std.proofs.Common.{◌≡◌, ◌+◌, ℕ, arith, subst, sym}
 use Rattle.cqf_program_summary.specs.Summary.Counting.{FareWithin}
-use Rattle.cqf_program_summary.proofs.Within.{ways_later}
+use Rattle.cqf_program_summary.proofs.Within.{paths_later}
 use Rattle.cqf_program_summary.proofs.summary.fares.Fares.add_offer.Goals as goal
 
 pub returns-clause-more : goal.returns-clause-more
@@ -10,5 +10,5 @@ returns-clause-more c = λ many is.
     subst (λ (n : ℕ). FareWithin n c.add_each.new.self) more (c.add_each.ensures.more (many + 1) (record {
       offered = omega (arith, before.offered);
       dropped = omega (arith, before.dropped);
-      ways = ways_later many 1 c.self.inside.ways.items before.ways;
+      paths = paths_later many 1 c.self.inside.paths.items before.paths;
     }))

@@ -6,7 +6,7 @@ use Rattle.cqf_program_runs.specs.Deliveries.Deadlines.{Due, deadline_in}
 use Rattle.cqf_program_summary.specs.declared.summary.listing.ListedStream.{ListedStream}
 use Rattle.cqf_program_summary.specs.Summary.Listing.{IsOfStream, fare_named}
 use Rattle.cqf_program_summary.specs.Summary.{Fare, Summary, fare_of, summary_by}
-use Rattle.cqf_program_summary.specs.Summary.Told.{told_cost, told_streams}
+use Rattle.cqf_program_summary.specs.Summary.Written.{written_cost, written_streams}
 use Rattle.cqf_program_summary.proofs.Listed.{bounded_listing, first_fares, listed_are}
 use Rattle.cqf_program_summary.proofs.summary.sums.StreamSums.new.Goals as goal
 
@@ -34,12 +34,12 @@ invariant_of-result c =
     let d = c.args.domain.now in
     let streams = map asked_paced c.args.requests.now in
     let due = deadline_in c.in_ok-due.due in
-    let first : c.in_ok-fares.fares.items ≡ (summary_by d (told_streams streams) due [] []).fares =
+    let first : c.in_ok-fares.fares.items ≡ (summary_by d (written_streams streams) due [] []).fares =
     c.in_ok-fares.ensures
     ∙ ap (map (fare_named d c.in_ok-listing.listing.costs due)) c.as_slice.ensures.value
     ∙ first_fares d streams due c.in_ok-listing.listing c.know.ensures.accepted c.in_ok-listing.ensures in
     c.in_ok-listing.ensures.names
-    ∙ names_of d (told_cost d (told_streams streams)) due (told_streams streams)
+    ∙ names_of d (written_cost d (written_streams streams)) due (written_streams streams)
     ∙ ap (map (λ (f : Fare). f.name)) (sym first)
 
 pub returns : goal.returns
@@ -47,9 +47,9 @@ returns c =
     let d = c.args.domain.now in
     let streams = map asked_paced c.args.requests.now in
     let due = deadline_in c.in_ok-due.due in
-    let first : c.in_ok-fares.fares.items ≡ (summary_by d (told_streams streams) due [] []).fares =
+    let first : c.in_ok-fares.fares.items ≡ (summary_by d (written_streams streams) due [] []).fares =
     c.in_ok-fares.ensures
     ∙ ap (map (fare_named d c.in_ok-listing.listing.costs due)) c.as_slice.ensures.value
     ∙ first_fares d streams due c.in_ok-listing.listing c.know.ensures.accepted c.in_ok-listing.ensures in
     ap {B = Summary} (λ (fs : List Fare). record { fares = fs; others = record { offered = 0; dropped = 0 } }) first
-    ∙ ap (λ (k : Due). summary_by d (told_streams streams) (deadline_in k) [] []) c.in_ok-due.ensures
+    ∙ ap (λ (k : Due). summary_by d (written_streams streams) (deadline_in k) [] []) c.in_ok-due.ensures

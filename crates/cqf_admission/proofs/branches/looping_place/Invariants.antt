@@ -1,8 +1,0 @@
--- The nodes so far didn't occur earlier.
-use Rattle.std.proofs.Common.{◌≡◌, ℕ, ◌<◌, false}
-use Rattle.std.specs.Prelude.{map, string_bytes}
-use Rattle.cqf_model.specs.History.{is_loop_at}
-use Rattle.cqf_admission.proofs.branches.looping_place.Given as goal
-
-abbrev pub invariant-loop-place : goal.invariant-loop-place
-invariant-loop-place l = (k : ℕ) → k < l.place → is_loop_at l.domain (map string_bytes l.branch) k ≡ false

@@ -1,7 +1,0 @@
-use Rattle.cqf_edge.proofs.streams.stream_behind.Goals as goal
-
-pub times-requires : goal.times-requires
-times-requires c = c.requires.passage c.in-Some-passage.passage c.in-Some-passage.is
-
-pub word_at-stream-requires : goal.word_at-stream-requires
-word_at-stream-requires c = c.requires.passage c.in-Some-passage.passage c.in-Some-passage.is

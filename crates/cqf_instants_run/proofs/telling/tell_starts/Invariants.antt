@@ -1,7 +1,0 @@
--- The entries of the background frames among the first starts are appended.
-use Rattle.std.specs.Prelude.{◌≡◌, ◌++◌, filter, map, take}
-use Rattle.cqf_instants_run.specs.Sending.{is_low, told}
-use Rattle.cqf_instants_run.proofs.telling.tell_starts.Given as goal
-
-abbrev pub invariant-loop-start : goal.invariant-loop-start
-invariant-loop-start l = l.starts.items ≡ l.fn.starts.items ++ map (told l.cycle_time.0 l.link) (filter is_low (take l.start-index l.made))

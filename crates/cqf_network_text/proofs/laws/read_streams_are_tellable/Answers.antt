@@ -1,5 +1,0 @@
-use Rattle.cqf_network_text.proofs.Ranges.{read_is_tellable}
-use Rattle.cqf_network_text.proofs.laws.read_streams_are_tellable.Goals as goal
-
-pub returns : goal.returns
-returns c = read_is_tellable

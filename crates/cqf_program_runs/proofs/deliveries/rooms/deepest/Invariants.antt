@@ -1,8 +1,0 @@
--- The depth of the deepest row so far.
-use Rattle.std.proofs.Common.{◌≡◌, fold, max, take}
-use Rattle.cqf_model.specs.declared.topology.Row.{Row}
-use Rattle.cqf_model.specs.Table.{residence}
-use Rattle.cqf_program_runs.proofs.deliveries.rooms.deepest.Given as goal
-
-abbrev pub invariant-loop-row : goal.invariant-loop-row
-invariant-loop-row l = l.most ≡ fold (λ most (row : Row). max most (residence row)) 0 (take l.row-index l.rows)

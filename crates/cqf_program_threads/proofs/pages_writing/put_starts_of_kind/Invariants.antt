@@ -1,0 +1,13 @@
+use Rattle.cqf_output.specs.Writer.{Puts}
+use Rattle.cqf_report.specs.Books.{lines_of_starts}
+use Rattle.cqf_trace.specs.Traces.{reported_in_cycles}
+use Rattle.cqf_trace.specs.Reporting.{AreIndices}
+use Rattle.cqf_program_threads.proofs.pages_writing.put_starts_of_kind.Given as goal
+
+-- the lines of the cycles so far are put, and the indexes are those at which these end
+abbrev pub invariant-loop-cycle : goal.invariant-loop-cycle
+invariant-loop-cycle g l = record {
+  indices : AreIndices l.book.domain l.fn.kind l.book.traces l.cycle l.indices;
+  puts : Puts g.W.Write.contents l.initial.writer l.writer
+      (lines_of_starts l.what l.book.domain (reported_in_cycles l.book.domain l.fn.kind l.book.traces l.cycle));
+}

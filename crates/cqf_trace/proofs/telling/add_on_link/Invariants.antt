@@ -1,7 +1,0 @@
-use Rattle.std.proofs.Common.{◌≡◌, ◌++◌, map, take}
-use Rattle.cqf_trace.specs.Traces.{started_in}
-use Rattle.cqf_trace.proofs.telling.add_on_link.Given as goal
-
--- the entries of the cycle's first marks are appended
-abbrev pub invariant-loop-mark : goal.invariant-loop-mark
-invariant-loop-mark l = l.told.items ≡ l.fn.told.items ++ map (started_in l.cycle.0 l.link) (take l.mark-index l.own)
