@@ -230,6 +230,46 @@ def draw_crowded(rng):
     return network
 
 
+def draw_pairs(rng):
+    """Draws a network file with streams that are the paths of redundant pairs: each two or three have one talker, and one listener at two bridges."""
+    bridges = [f"b{it}" for it in range(rng.randint(4, 7))]
+    stations = [f"s{it}" for it in range(rng.randint(1, 3))]
+    pairs = {frozenset(it): it for it in zip(bridges, bridges[1:] + bridges[:1])}
+    pairs |= {frozenset(it): tuple(it) for it in (rng.sample(bridges, 2) for _ in range(rng.randint(0, 4)))}
+    links = [{"from": start, "to": end, "rate": rng.choice((100, 1000)), "delay": 500, "duplex": True} for start, end in pairs.values()]
+    for station in stations:
+        ends = rng.sample(bridges, rng.choice((2, 2, 2, 3)))
+        links += [{"from": end, "to": station, "rate": rng.choice((100, 1000)), "delay": 500, "duplex": rng.random() < 0.5} for end in ends]
+    rng.shuffle(links)
+    network = {"cycle": [100_000], "guard": 5000, "bridges": bridges, "stations": stations, "links": links, "streams": []}
+    for number in range(rng.randint(1, 4)):
+        talker = rng.choice(bridges + access_ends(links, stations))
+        ends = {"from": talker if isinstance(talker, str) else "@".join(talker), "to": rng.choice(stations)}
+        names = [f"x{number}{it}" for it in "abc"[: rng.choice((1, 2, 2, 2, 3))]]
+        for place, name in enumerate(names):
+            stream = {"name": name, "octets": rng.choice((64, 300, 700, 1000, 3000, 7000))} | ends
+            if rng.random() < 0.2:
+                stream |= {"every": rng.choice((2, 4)), "phase": rng.choice((0, 1))}
+            if place:
+                stream["apart"] = names[:place]
+            network["streams"].append(stream)
+    return network
+
+
+def draw_apart(rng, network):
+    """Lets streams be apart from earlier ones. Some of these get the ends of the first stream that they name, as the paths of a redundant pair."""
+    streams = network["streams"]
+    for place, stream in enumerate(streams):
+        if not place or rng.random() < 0.5:
+            continue
+        others = rng.sample(streams[:place], min(place, rng.choice((1, 1, 1, 2, 3))))
+        stream["apart"] = [it["name"] for it in others]
+        if "from" in stream and "from" in others[0] and rng.random() < 0.7:
+            stream |= {key: others[0][key] for key in ("from", "to") if key in others[0]}
+        if rng.random() < 0.02:
+            stream["apart"] = rng.choice(([], ["a b"], others[0]["name"], [3], [stream["name"]], ["x9"], [streams[-1]["name"]]))
+
+
 def input_of(network):
     """Returns the two parts of a network file, as the program reads them from standard input."""
     lines = [f"{key} = {toml_of(value)}" for key, value in network.items() if key != "streams"]
@@ -272,3 +312,7 @@ def draw_fitting(rng, network):
     rng.shuffle(order)
     placed = Run(domain, settled, domain.cycles[0], order).placed
     network["streams"] = [it for number, it in enumerate(network["streams"]) if number in placed]
+    names = [it["name"] for it in network["streams"]]
+    for stream in network["streams"]:
+        apart = [it for it in stream.pop("apart", []) if it in names]
+        stream |= {"apart": apart} if apart else {}

@@ -20,7 +20,7 @@ sys.path.insert(0, str(Path(__file__).resolve().parent.parent))
 from common.counting import Counts
 from common.running import call, ending
 from common.words import draws_of, read_draws
-from drawing import draw, draw_closed, draw_crowded, draw_fitting, draw_out, draw_own, draw_parted, input_of
+from drawing import draw, draw_apart, draw_closed, draw_crowded, draw_fitting, draw_out, draw_own, draw_pairs, draw_parted, input_of
 from reference import Held, Refused, latency_of, load_of, offers_of, plan, seeded_fault, stream_load_of, text_of, without
 
 COMMANDS = (("load", load_of), ("load --streams", stream_load_of), ("latency", latency_of), ("offers --cycles 7", lambda network: offers_of(network, 7)))
@@ -111,9 +111,12 @@ class Trial:
         if number % 4 == 3:
             network = draw_closed(rng)
             return self.fault_of_commands(network, input_of(network), [])
-        network = (draw_parted if number % 16 == 6 else draw_crowded if number % 4 == 2 else draw)(rng)
-        if number % 8 == 2:
+        kinds = {6: draw_parted, 2: draw_crowded, 10: draw_crowded, 14: draw_pairs, 4: draw_pairs}
+        network = kinds.get(number % 16, draw)(rng)
+        if number % 8 == 2 or number % 16 == 4:
             draw_fitting(rng, network)
+        if number % 16 not in (4, 14) and rng.random() < 0.4 or rng.random() < 0.1:
+            draw_apart(rng, network)
         if rng.random() < 0.3:
             draw_own(rng, network)
         is_table, out = rng.random() < 0.3, draw_out(rng, network) if rng.random() < 0.2 else ()

@@ -2,6 +2,7 @@
 import collections
 import dataclasses
 import fractions
+import itertools
 import math
 import re
 
@@ -371,6 +372,79 @@ def reserve(stream, cycle, overhead):
     return stream.get("octets", max(octets, LEAST_RESERVED))
 
 
+def check_apart(streams):
+    """Refuses a bad value at `apart`, and then a stream that names one that isn't before it."""
+    for stream in streams:
+        names = stream.get("apart", ["x"])
+        if not isinstance(names, list) or not names or not all(isinstance(it, str) and is_name(it) for it in names):
+            raise Refused("cqf: streams: BadValue apart")
+    before = []
+    for stream in streams:
+        for name in stream.get("apart", []):
+            if name not in before:
+                raise Refused(f"cqf: plan: {stream['name']}: NotBefore {name}")
+        before.append(stream["name"])
+
+
+def is_apart(later, earlier):
+    """Returns whether paths share no link with those of an earlier stream, and none of its bridges but as their first and last."""
+    for one, other in itertools.product(later, earlier):
+        if set(itertools.pairwise(one)) & set(itertools.pairwise(other)) or set(one[1:-2]) & set(other[:-1]):
+            return False
+    return True
+
+
+class Neighbors:
+    """The paths from which those of a stream have to be apart, each with the stream's name and whether that is the later stream."""
+
+    def __init__(self, settled, number, placed):
+        own = settled[number][0]
+        streams = [it[0] for it in settled]
+        numbers = {it["name"]: place for place, it in enumerate(streams)}
+        earlier = [(numbers[it], False) for it in own.get("apart", [])]
+        later = [(place, True) for place, it in enumerate(streams) if own["name"] in it.get("apart", [])]
+        self.paths = []
+        for place, is_later in earlier + later:
+            paths = settled[place][1] or (placed[place][2] if place in placed else [])
+            self.paths.append((streams[place]["name"], is_later, paths))
+
+    def fit(self, path, count):
+        """Returns whether a path is apart from the paths of the first of these streams."""
+        return all(is_apart(it, [path]) if is_later else is_apart([path], it) for _, is_later, it in self.paths[:count])
+
+    def bar(self, domain, first, link, count):
+        """Returns whether a link can't be on such a path from this bridge: the other stream passes it; or one of both would have a bridge of the
+        other between its ends."""
+        start, end = domain.links[link][:2]
+        for _, is_later, paths in self.paths[:count]:
+            if any((start, end) in itertools.pairwise(it) for it in paths):
+                return True
+            inner = {node for it in paths for node in it[1:-2]}
+            bridges = {node for it in paths for node in it[:-1]}
+            if start in inner if is_later else start in bridges and start != first and end in domain.bridges:
+                return True
+        return False
+
+    def has_way(self, domain, first, listener, count):
+        """Returns whether there is such a path, by trying all paths that pass no bridge twice."""
+        paths = [[first]]
+        for path in paths:
+            for start, end, *_ in domain.links:
+                if start == path[-1] and end == listener and self.fit([*path, end], count):
+                    return True
+                if start == path[-1] and end in domain.bridges and end not in path and len(path) < MOST_LINKS:
+                    paths.append([*path, end])
+        return False
+
+    def shut(self, domain, ends):
+        """Returns which links are barred. Refuses a stream for which no path is left past the first of these streams, or the first two, and so on."""
+        first, listeners = ends
+        for count, (name, *_) in enumerate(self.paths, 1):
+            if not all(self.has_way(domain, first, it, count) for it in listeners):
+                raise Refused(f"NotApart {name}")
+        return {it for it in range(len(domain.links)) if self.bar(domain, first, it, len(self.paths))}
+
+
 def pace_on(stream, cycle, sync):
     """Returns a stream's pace: it is offered once in this number of cycles. Also returns its phase, or None if that is still to be chosen."""
     if not stream.get("in-step") or "every" in stream:
@@ -408,14 +482,14 @@ def rooms(left, every, phase):
     return lambda hop, link: least(left, link, every, phase, hop + 1)
 
 
-def find_paths(domain, ends, room, cost):
-    """Returns the first shortest path with room to each listener."""
+def find_paths(domain, ends, room, cost, barred):
+    """Returns the first shortest path with room to each listener, over links that aren't barred."""
     bridge, listeners = ends
     paths = []
     for listener in listeners:
-        found = domain.first_path(bridge, listener, lambda hop, link: room(hop, link) >= cost)
+        found = domain.first_path(bridge, listener, lambda hop, link: link not in barred and room(hop, link) >= cost)
         if found is None:
-            anyhow = domain.first_path(bridge, listener, lambda hop, link: True)
+            anyhow = domain.first_path(bridge, listener, lambda hop, link: link not in barred)
             hop, full = next((hop, it) for hop, it in enumerate(anyhow) if room(hop, it) < cost)
             start, end = domain.links[full][:2]
             raise Refused(f"Full {listener} {cost} {start}>{end} {room(hop, full)}")
@@ -423,10 +497,10 @@ def find_paths(domain, ends, room, cost):
     return paths
 
 
-def with_room(domain, paths, ends, left, budgets, cost, every, phase):
+def with_room(domain, paths, ends, left, budgets, cost, every, phase, barred):
     """Returns a stream's phase and paths, each given or found, on which each link has room."""
     if paths is None:
-        paths = find_paths(domain, ends, rooms(left, every, phase), cost)
+        paths = find_paths(domain, ends, rooms(left, every, phase), cost, barred)
     if phase is None:
         phase = min(range(every), key=lambda it: loads(domain, left, budgets, cost, every, it, paths))
     for link, hop_number in domain.hop_numbers(paths).items():
@@ -437,28 +511,31 @@ def with_room(domain, paths, ends, left, budgets, cost, every, phase):
     return phase, paths
 
 
-def with_any_room(domain, paths, ends, left, budgets, cost, every, phase):
+def with_any_room(domain, paths, ends, left, budgets, cost, every, phase, barred):
     """The same. If the phase is to be chosen and the best links have none in common, each phase is tried as if it were given."""
     try:
-        return with_room(domain, paths, ends, left, budgets, cost, every, phase)
+        return with_room(domain, paths, ends, left, budgets, cost, every, phase, barred)
     except Refused as refused:
         if phase is None and paths is None:
             for given in range(every):
                 try:
-                    return with_room(domain, None, ends, left, budgets, cost, every, given)
+                    return with_room(domain, None, ends, left, budgets, cost, every, given, barred)
                 except Refused:
                     pass
         raise refused
 
 
-def place(domain, settled, left, cycle):
+def place(domain, settled, left, cycle, neighbors):
     """Places a stream, and subtracts its cost from what earlier streams left of the links' budgets, by link and cycle."""
     stream, paths, ends, deadline = settled
     every, phase = pace_on(stream, cycle, domain.sync)
     octets, budgets = reserve(stream, cycle, domain.overhead), domain.budgets(cycle)
     cost = cost_of(octets, domain.overhead)
     is_chosen = phase is None
-    phase, paths = with_any_room(domain, paths, ends, left, budgets, cost, every, phase)
+    barred = neighbors.shut(domain, ends) if paths is None else ()
+    is_found = paths is None
+    phase, paths = with_any_room(domain, paths, ends, left, budgets, cost, every, phase, barred)
+    assert not is_found or all(neighbors.fit(it, len(neighbors.paths)) for it in paths)
     for link, hop_number in domain.hop_numbers(paths).items():
         for it in active_cycles(every, phase, hop_number):
             left[link][it] -= cost
@@ -473,15 +550,25 @@ class Run:
         self.placed, self.refused = {}, {}
         for number in order:
             try:
-                self.placed[number] = place(domain, settled[number], self.left, cycle)
+                neighbors = Neighbors(settled, number, self.placed)
+                self.placed[number] = place(domain, settled[number], self.left, cycle, neighbors)
             except Refused as fault:
                 self.refused[number] = str(fault)
+        self.touched = next(self.those_touched(settled), None)
+
+    def those_touched(self, settled):
+        """Gives the fault of each stream whose path isn't apart from that of one that it names."""
+        names = {placed[0]["name"]: placed for placed in self.placed.values()}
+        for stream, *_ in settled:
+            for other in stream.get("apart", []):
+                if stream["name"] in names and other in names and not is_apart(names[stream["name"]][2], names[other][2]):
+                    yield f"{stream['name']}: NotApart {other}"
 
 
 def order_after(settled, order, run):
     """Returns the next order: among streams whose paths are open, the first without room comes first. Returns None if that can't help."""
     movable = [it for it in order if settled[it][2]]
-    if any(it not in movable or not fault.startswith(("Full ", "BudgetShort ")) for it, fault in run.refused.items()):
+    if any(it not in movable or not fault.startswith(("Full ", "BudgetShort ", "NotApart ")) for it, fault in run.refused.items()):
         return None
     first = next(it for it in order if it in run.refused)
     if movable[0] == first:
@@ -516,7 +603,7 @@ class Candidate:
     def take(self, domain, settled, run):
         """Judges what was placed."""
         self.placed = [placed for _, placed in sorted(run.placed.items())]
-        self.fault = next((f"{settled[it][0]['name']}: {run.refused[it]}" for it in sorted(run.refused)), None)
+        self.fault = next((f"{settled[it][0]['name']}: {run.refused[it]}" for it in sorted(run.refused)), run.touched)
         self.late, self.slack, self.tightest = 0, "", ""
         budgets = domain.budgets(self.cycle)
         held = [[budget - it for it in by_cycle] for budget, by_cycle in zip(budgets, run.left)]
@@ -661,6 +748,7 @@ def plan(network, is_table, tries=50, is_best=False):
     settled = settle(domain, edges)
     if edges.full:
         raise Refused(f"cqf: network: AccessFull {edges.full}")
+    check_apart(network["streams"])
     candidates = [Candidate(domain, settled, cycle, tries) for cycle in domain.cycles]
     if is_table:
         header = "cycle,placed,streams,used,late,tightest,slack,fault\n"

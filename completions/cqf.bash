@@ -12,28 +12,28 @@ _cqf() {
         before=${COMP_WORDS[COMP_CWORD - 2]}
     fi
     if ((COMP_CWORD == 1)); then
-        mapfile -t COMPREPLY < <(compgen -W 'port line compile load latency run report deliveries check summary hops offers plan diff help --help --version' -- "$word")
+        mapfile -t COMPREPLY < <(compgen -W 'plan load latency compile diff offers check run summary report hops deliveries port line help --help --version' -- "$word")
         return
     fi
     case ${COMP_WORDS[1]} in
     help)
-        ((COMP_CWORD > 2)) || mapfile -t COMPREPLY < <(compgen -W 'port line compile load latency run report deliveries check summary hops offers plan diff' -- "$word")
+        ((COMP_CWORD > 2)) || mapfile -t COMPREPLY < <(compgen -W 'plan load latency compile diff offers check run summary report hops deliveries port line' -- "$word")
         return
         ;;
-    port) own='--until --rate --help' ;;
-    line) own='--cycles --help' ;;
-    compile) own='--format --bridge --software --edge-gates --large --help' ;;
+    plan) own='--table --cycle --tries --best --without --verbose --large --help' ;;
     load) own='--streams --large --help' ;;
     latency) own='--strict --large --help' ;;
-    run) own='--cycles --threads --large --help' ;;
-    report) own='--cycles --large --help' ;;
-    deliveries) own='--cycles --large --help' ;;
-    check) own='--cycles --large --help' ;;
-    summary) own='--cycles --large --help' ;;
-    hops) own='--cycles --stream --frame --large --help' ;;
-    offers) own='--cycles --seed --large --help' ;;
-    plan) own='--table --cycle --tries --best --without --verbose --large --help' ;;
+    compile) own='--format --bridge --software --edge-gates --large --help' ;;
     diff) own='-q --quiet --large --help' ;;
+    offers) own='--cycles --seed --large --help' ;;
+    check) own='--cycles --large --help' ;;
+    run) own='--cycles --threads --large --help' ;;
+    summary) own='--cycles --large --help' ;;
+    report) own='--cycles --large --help' ;;
+    hops) own='--cycles --stream --frame --large --help' ;;
+    deliveries) own='--cycles --large --help' ;;
+    port) own='--until --rate --help' ;;
+    line) own='--cycles --help' ;;
     *) return ;;
     esac
     for ((index = 2; index < COMP_CWORD; index++)); do
@@ -44,9 +44,9 @@ _cqf() {
         fi
     done
     case $before in
-    --rate) choices='10 100 1000 2500 5000 10000 25000 40000 100000' ;;
     --format) choices='list tc env json' ;;
-    --until|--cycles|--bridge|--stream|--frame|--seed|--cycle|--tries|--without) return ;;
+    --rate) choices='10 100 1000 2500 5000 10000 25000 40000 100000' ;;
+    --cycle|--tries|--without|--bridge|--cycles|--seed|--stream|--frame|--until) return ;;
     esac
     if [[ $choices ]]; then
         mapfile -t COMPREPLY < <(compgen -W "$choices" -- "$word")

@@ -111,11 +111,11 @@ while IFS= read -r line; do
     echo "${COMPREPLY[*]}"
 done
 """
-ALL_COMMANDS = "port line compile load latency run report deliveries check summary hops offers plan diff"
+ALL_COMMANDS = "plan load latency compile diff offers check run summary report hops deliveries port line"
 COMPLETED = {
     "cqf ": f"{ALL_COMMANDS} help --help --version",
     "cqf de": "deliveries",
-    "cqf help l": "line load latency",
+    "cqf help l": "load latency line",
     "cqf help run ": "",
     "cqf compile -": "--format --bridge --software --edge-gates --large --help",
     "cqf compile --format tc --": "--bridge --software --edge-gates --large --help",

@@ -6,7 +6,7 @@ use crate::terminal::hint;
 use cqf_model::Limits;
 use cqf_output::{CheckedSink, DONE, FAULT, REFUSED, Sink, Stop, write_out, written_text};
 use cqf_program_engine::{Heard, Texts, engine, most_bytes, write};
-use cqf_program_explanations::{NamedFile, explanation, notes, plan_notes};
+use cqf_program_explanations::{NamedFile, explanation, notes, plan_notes, standard_explanation};
 use cqf_program_files::{Front, cycles_of, front_of, renumbered};
 use cqf_program_offers::made_input;
 use cqf_program_words::{
@@ -167,29 +167,21 @@ fn explain(rt: &HostRuntime, given: &FilesInput<'_>, line: &[u8]) {
     }
 }
 
-/// Writes the explanation of the line `cqf: parts`, for words that name no files if standard input is empty.
-pub(crate) fn explain_nothing<F: Sink>(alloc: Global, words: &[&str], faults: &mut CheckedSink<F>) {
+/// Writes the explanation of the line `cqf: parts`, for words that name no files; nothing if standard input has the right number of parts, or
+/// is too long, and so refused for another reason.
+pub(crate) fn explain_parts<F: Sink>(
+    alloc: Global,
+    words: &[&str],
+    input: &[u8],
+    faults: &mut CheckedSink<F>,
+) {
     let Some(command) = words.first() else {
         return;
     };
-    // its input has one part, which may be empty
-    if *command == "line" {
+    if input.len() > most_bytes(words) {
         return;
     }
-    let source = NamedFile {
-        name: STANDARD,
-        text: b"",
-    };
-    let limits = limits_of(words);
-    if let Ok(text) = explanation(
-        alloc,
-        command,
-        None,
-        &[],
-        limits,
-        &[source],
-        b"cqf: parts\n",
-    ) {
+    if let Ok(text) = standard_explanation(alloc, command, input) {
         write_out(faults, text.as_slice());
     }
 }

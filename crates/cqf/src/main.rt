@@ -30,7 +30,7 @@ mod terminal;
 use cqf_output::{REFUSED, Stop};
 use cqf_program_engine::{CheckedSink, Heard, engine};
 use cqf_program_words::operands_of;
-use files::{end, explain_nothing, run_files};
+use files::{end, explain_parts, run_files};
 use std::alloc::Global;
 use std::env::{Env, FillError};
 use std::io;
@@ -84,8 +84,8 @@ fn run(
     hint_of_words(alloc, words, &rt.stdin(), &mut faults);
     let (mut input, mut output) = (Heard::new(alloc, rt.stdin()), CheckedSink::new(rt.stdout()));
     let status = engine(threads, alloc, words, &mut input, &mut output, &mut faults);
-    if status == REFUSED && input.bytes().is_empty() {
-        explain_nothing(alloc, words, &mut faults);
+    if status == REFUSED {
+        explain_parts(alloc, words, input.bytes(), &mut faults);
     }
     ExitCode::from(status)
 }

@@ -2,9 +2,9 @@
 
 use crate::given::CommandInput;
 use crate::places::Grouped;
-use crate::reading::{domain_at, edge_traffic, read_network, request_of};
+use crate::reading::{domain_at, edge_traffic, read_domain, read_network, request_of};
 use crate::reported::ReportedLines;
-use crate::written::{KeyOwner, WrittenItem};
+use crate::written::{KeyOwner, WrittenItem, number_of};
 use cqf_admission::{Admission, budget_on, guard_on};
 use cqf_model::{LEAST_OCTETS, LONGEST_CYCLE, Link, MOST_OCTETS, Node, Refused};
 use cqf_network::NetworkDomain;
@@ -56,6 +56,36 @@ fn answer_to(admission: &mut Admission, request: &PacedRequest) -> Result<Answer
 /// Returns what a reservation costs on a link of a domain, in octets.
 fn cost_of(domain: &Domain, octets: u32) -> u32 {
     cost(Octets(domain.overhead()), Octets(octets.min(MOST_OCTETS))).0
+}
+
+/// Returns what a stream reserves in a cycle of this length, in ns, given the gate overhead: its octets, or what its traffic needs.
+fn octets_at(item: &WrittenItem<'_>, traffic: Option<Traffic>, overhead: u32, cycle: u64) -> u32 {
+    if let Some(octets) = item.get("octets") {
+        return u32::try_from(number_of(octets)).unwrap_or(MOST_OCTETS);
+    }
+    let Some(traffic) = traffic else {
+        return LEAST_OCTETS;
+    };
+    let needed = traffic.needed(overhead, Nanos(cycle));
+    if needed > u128::from(MOST_OCTETS) {
+        MOST_OCTETS
+    } else {
+        (needed as u32).max(LEAST_OCTETS)
+    }
+}
+
+/// Returns what a stream costs on a link at a cycle time, in ns, in octets a cycle; `None` if the network isn't accepted.
+pub(crate) fn cost_at(
+    given: &CommandInput<'_>,
+    item: &WrittenItem<'_>,
+    traffic: Option<Traffic>,
+    cycle: u64,
+) -> Result<Option<u64>, AllocError> {
+    let Some(domain) = read_domain(given)? else {
+        return Ok(None);
+    };
+    let octets = octets_at(item, traffic, domain.overhead(), cycle);
+    Ok(Some(u64::from(cost_of(&domain, octets))))
 }
 
 /// Returns the greatest reservation that costs no more than this in a domain, in octets; `None` if there is none.

@@ -95,6 +95,51 @@ fn report_no_frame(
     }
 }
 
+/// Reports why `check` has no frame to check: none is offered, or, by the number of cycles that would do, none has arrived.
+pub(crate) fn report_no_frames(
+    given: &CommandInput<'_>,
+    reported: &mut ReportedLines,
+    refusal: Refusal<'_>,
+) -> Result<(), AllocError> {
+    if refusal.value == "frame is offered" {
+        return report_no_offers(given, reported);
+    }
+    let Some(rest) = refusal.value.strip_prefix("frame; ") else {
+        return Ok(());
+    };
+    let (enough, _) = rest.split_once(' ').unwrap_or((rest, ""));
+    let run = u64::from(given.cycles.unwrap_or(0));
+    let noun = if run == 1 { "cycle" } else { "cycles" };
+    let run = Grouped(run);
+    reported.report(format!(in given.alloc;
+        "no frame has arrived in {run} {noun}: run {enough} or more"
+    )?)
+}
+
+/// Reports that no frame is offered: the table is empty, or the program makes no offers.
+fn report_no_offers(
+    given: &CommandInput<'_>,
+    reported: &mut ReportedLines,
+) -> Result<(), AllocError> {
+    if let Some((place, _)) = count_of_offers(given)? {
+        return reported.report(format!(in given.alloc; "{place}: the table has no offers")?);
+    }
+    let streams = given.written.items(KeyOwner::Stream)?;
+    let line = if streams
+        .iter()
+        .any(|stream| stream.get("interval").is_some())
+    {
+        let cycles = Grouped(u64::from(given.cycles.unwrap_or(0)));
+        format!(in given.alloc; "the program makes no offers with --cycles {cycles}: give more")?
+    } else {
+        String::from_str(
+            given.alloc,
+            "offers are made from traffic, and no stream has any: give interval and size, or a table of offers",
+        )?
+    };
+    reported.report(line)
+}
+
 /// Reports the stream or the frame that `hops` doesn't find.
 pub(crate) fn report_hops(
     given: &CommandInput<'_>,

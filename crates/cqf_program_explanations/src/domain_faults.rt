@@ -5,6 +5,7 @@ use crate::network::{Network, WrittenLink};
 use crate::places::{Grouped, Place};
 use crate::planning::{candidates_of, is_duplex, is_of_domain, talker_of};
 use crate::reported::ReportedLines;
+use crate::units::guard_question;
 use crate::words::shortened;
 use crate::written::FoundKey;
 use cqf_model::{LARGE, Limits};
@@ -327,15 +328,16 @@ pub(crate) fn report_link_guards_at(
 
 /// Returns the words about a delay that is too long for a guard band, if clocks may differ by `sync`, all in ns.
 fn delay_words(alloc: Global, delay: u64, sync: u64, guard: u64) -> Result<String, AllocError> {
+    let question = guard_question(alloc, guard)?;
     let (delay, guard) = (Grouped(delay), Grouped(guard));
     if sync == 0 {
         return format!(in alloc;
-            "a delay of {delay} ns isn't shorter than the guard band, {guard} ns: lengthen guard"
+            "a delay of {delay} ns isn't shorter than the guard band, {guard} ns: lengthen guard{question}"
         );
     }
     let sync = Grouped(sync);
     format!(in alloc;
-        "a delay of {delay} ns and a sync of {sync} ns together aren't shorter than the guard band, {guard} ns: lengthen guard"
+        "a delay of {delay} ns and a sync of {sync} ns together aren't shorter than the guard band, {guard} ns: lengthen guard{question}"
     )
 }
 
@@ -373,13 +375,15 @@ pub(crate) fn report_gaps(
             continue;
         };
         if times.has_long_gap(guard) && !reported.is_counted() {
+            let own = u64::from(times.guard_within(guard));
+            let question = guard_question(given.alloc, own)?;
             let (rate, gap, own) = (
                 link.item.number("rate"),
                 Grouped(time_of(GAP_OCTETS, times.rate)),
-                Grouped(u64::from(times.guard_within(guard))),
+                Grouped(own),
             );
             let words = format!(in given.alloc;
-                "the gap of 12 octets takes {gap} ns at {rate} Mb/s, more than the guard band, {own} ns: lengthen guard"
+                "the gap of 12 octets takes {gap} ns at {rate} Mb/s, more than the guard band, {own} ns: lengthen guard{question}"
             )?;
             report_of_link(given, reported, link, "rate", words.as_str())?;
         }

@@ -3,7 +3,7 @@ ghost use Rattle.std.specs.Prelude.{IfOk};
 ghost use Rattle.cqf_program_explanations.specs.Explanations.{IsExplanation};
 
 use crate::budgets::report_short_streams;
-use crate::command_faults::{report_hops, report_unknown_bridge};
+use crate::command_faults::{report_hops, report_no_frames, report_unknown_bridge};
 use crate::domain_faults::{
     report_delays, report_gaps, report_guard, report_link_guards, report_links_twice,
     report_misplaced_others, report_name_taken, report_syncs, report_too_many,
@@ -13,7 +13,7 @@ use crate::file_faults::{report_key_twice, report_long_lines, report_unknown_key
 use crate::given::{CommandInput, given_of};
 use crate::network_faults::report_network;
 use crate::pairs::{FileLine, command_about, file_line};
-use crate::part_faults::report_parts;
+use crate::part_faults::{report_parts, report_standard};
 use crate::plan_faults::{report_below_traffic, report_plan};
 use crate::refusal::{Refusal, refusal_of};
 use crate::reported::ReportedLines;
@@ -103,12 +103,16 @@ fn report_stream(
     }
 }
 
-/// Reports the stream of a frame that is dropped because no stream has its name, as in `frame 1 of x, offered to a at 0: dropped, unknown`.
+/// Reports why `check` has no frame to check; or the stream of a frame that is dropped because no stream has its name, as in
+/// `frame 1 of x, offered to a at 0: dropped, unknown`.
 fn report_check(
     given: &CommandInput<'_>,
     reported: &mut ReportedLines,
     refusal: Refusal<'_>,
 ) -> Result<(), AllocError> {
+    if refusal.fault == "no" {
+        return report_no_frames(given, reported, refusal);
+    }
     if !refusal.value.ends_with(": dropped, unknown") {
         return Ok(());
     }
@@ -220,4 +224,21 @@ pub fn explanation(
             line,
         ),
     }
+}
+
+/// Returns the text that follows the line `cqf: parts` if the words name no file, of the form of [`explanation`]. The text is empty if the
+/// standard input, `input`, has as many parts as the command takes.
+///
+/// # Errors
+/// If an allocation fails.
+pub fn standard_explanation(
+    alloc: Global,
+    command: &str,
+    input: &[u8],
+) -> Result<Vec<u8>, AllocError>
+    ensures { IfOk result (λ text. IsExplanation text.items) }
+{
+    let mut reported = ReportedLines::new(alloc);
+    report_standard(alloc, &mut reported, command, input)?;
+    reported.text("  ")
 }

@@ -6,6 +6,7 @@ use crate::outline::KeyLine;
 use crate::parts::is_toml;
 use crate::places::{Grouped, Place};
 use crate::reported::ReportedLines;
+use crate::synonyms::meant_key;
 use crate::toml_faults::known_keys;
 use crate::words::{nearest, shortened};
 use crate::written::{KeyOwner, NetworkFile, WrittenItem};
@@ -40,6 +41,9 @@ fn unknown_words(alloc: Global, kind: KeyOwner, key: &str) -> Result<String, All
     let shown = shortened(alloc, key)?;
     if kind != KeyOwner::Top && TOP.contains(&key) {
         return format!(in alloc; "{shown}: keys of the network come before the first [[..]]");
+    }
+    if let Some(meant) = meant_key(kind, key) {
+        return format!(in alloc; "{shown}: did you mean {meant}?");
     }
     if let Some(meant) = nearest(alloc, key, known_keys(kind))? {
         return format!(in alloc; "{shown}: did you mean {meant}?");

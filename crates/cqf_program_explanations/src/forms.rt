@@ -91,6 +91,7 @@ fn form_of_stream(key: &str) -> Option<&'static str> {
         "from" => TALKER_FORM,
         "to" => "to is a name, or an array of 1 to 64 names, all different",
         "least-size" => "least-size is a whole number of octets, 64 to the stream's size",
+        "apart" => "apart is an array of the names of streams above it, at least one",
         "mac" => MAC_FORM,
         "vlan" => "a vlan is a whole number, 1 to 4,094",
         "interval" => "an interval is a whole number, 1 to 1,000,000,000 ns",
@@ -134,6 +135,14 @@ pub(crate) fn form_within(
 pub(crate) fn is_name(value: &Value) -> bool {
     match value.as_str() {
         Some(text) => Name::new(text.as_bytes()).is_some(),
+        None => false,
+    }
+}
+
+/// Returns whether the value is an array of names, at least one.
+pub(crate) fn are_names(value: &Value) -> bool {
+    match value.as_array() {
+        Some(values) => !values.is_empty() && values.iter().all(is_name),
         None => false,
     }
 }

@@ -1,6 +1,7 @@
 //! Explanations: the lines that follow the line of a refusal. They say where the input is wrong, what it has there, and what it may have.
 //!
 //! - [`explanation`] makes these lines from the refusal's line and the files that the words name, which are a [`NamedFile`] each.
+//!   [`standard_explanation`] makes that of a wrong number of parts, if no file is named.
 //! - [`notes`] returns hints about an input that isn't refused. [`plan_notes`] returns which streams of a plan reserve much more than they
 //!   send.
 //!
@@ -14,6 +15,7 @@
 //! result of a command depends on it.
 #![tactic(auto)]
 
+mod addresses;
 mod budgets;
 mod command_faults;
 mod domain_faults;
@@ -22,6 +24,7 @@ mod file_faults;
 mod forms;
 mod given;
 mod hints;
+mod inline;
 mod lexer;
 mod lines;
 mod link_faults;
@@ -37,15 +40,19 @@ mod plan_faults;
 mod planning;
 mod reading;
 mod refusal;
+mod remedies;
 mod reported;
 mod script_faults;
 mod stream_faults;
+mod synonyms;
 mod table_faults;
 mod toml_faults;
+mod toml_hints;
+mod units;
 mod waste;
 mod words;
 mod written;
 
-pub use explaining::{NamedFile, explanation};
+pub use explaining::{NamedFile, explanation, standard_explanation};
 pub use noting::notes;
 pub use waste::plan_notes;

@@ -7,7 +7,7 @@ use crate::plan_faults::report_no_talkers;
 use crate::planning::{nanos_question, talker_of};
 use crate::refusal::Refusal;
 use crate::reported::ReportedLines;
-use crate::words::shortened;
+use crate::words::{shortened, some_of};
 use crate::written::{KeyOwner, WrittenItem};
 use cqf_program_files::{lacks_active_cycles, lacks_octets, lacks_path};
 use std::alloc::{AllocError, Global};
@@ -136,6 +136,42 @@ fn other_edge_words(
     )
 }
 
+/// Returns the words about a stream whose `to` isn't the listeners of its paths, and the key that they are about: its paths, if one ends at a
+/// bridge.
+fn other_listeners_words(
+    alloc: Global,
+    network: &Network<'_>,
+    item: &WrittenItem<'_>,
+) -> Result<(&'static str, String), AllocError> {
+    let branches = branches_of(alloc, item)?;
+    let mut ends = Vec::new(alloc);
+    for branch in &branches {
+        let end = branch.last().and_then(Value::as_str).unwrap_or("");
+        if network.is_bridge(end) {
+            let shown = shortened(alloc, end)?;
+            let words = format!(in alloc;
+                "the path ends at the bridge {shown}: a path ends at a station"
+            )?;
+            let key = if item.get("path").is_some() {
+                "path"
+            } else {
+                "paths"
+            };
+            return Ok((key, words));
+        }
+        ends.push(end)?;
+    }
+    let names = some_of(alloc, ends.as_slice())?;
+    let words = if ends.len() == 1 {
+        format!(in alloc; "to: its path ends at {names}: name this listener, or leave out to")?
+    } else {
+        format!(in alloc;
+            "to: its paths end at {names}: name these listeners in this order, or leave out to"
+        )?
+    };
+    Ok(("to", words))
+}
+
 /// Reports the stream of a name that can't enter the network as its `from`, `to` and paths say.
 pub(crate) fn report_entering(
     given: &CommandInput<'_>,
@@ -152,11 +188,7 @@ pub(crate) fn report_entering(
         let (key, words) = match fault {
             "TwoAccessLinks" => ("from", several_words(alloc, &network, talker)?),
             "OtherEdge" => ("from", other_edge_words(alloc, &network, item, talker)?),
-            _ => {
-                let words =
-                    "to: name the listeners of its paths in the order of the paths, or leave out to";
-                ("to", String::from_str(alloc, words)?)
-            }
+            _ => other_listeners_words(alloc, &network, item)?,
         };
         let (place, label) = (item.place_of(key), item.label(alloc)?);
         return reported.report(format!(in alloc; "{place}: {label}: {words}")?);
@@ -277,14 +309,14 @@ fn report_full(
         let Some((all, words)) = use_words(given, &network, link)? else {
             continue;
         };
-        let (place, number) = (link.item.place(), link.item.number);
+        let place = link.item.place();
         let (edge, rate, all) = (
             network.edge_of(link),
             link.item.number("rate"),
             in_tenths(alloc, all)?,
         );
         reported.report(format!(in alloc;
-            "{place}: link {number}, {station}>{edge}: its streams take {all} Mb/s of {rate}: {words}"
+            "{place}: {station}>{edge}: its streams take {all} Mb/s of {rate}: {words}"
         )?)?;
     }
     Ok(())

@@ -2,6 +2,7 @@
 ghost use Rattle.std.specs.Prelude.{IfOk};
 ghost use Rattle.cqf_program_explanations.specs.Explanations.{AreNotes};
 
+use crate::addresses::note_addresses;
 use crate::explaining::NamedFile;
 use crate::given::{CommandInput, given_of};
 use crate::parts::takes_domain;
@@ -180,6 +181,7 @@ pub fn notes(
         let given = given_of(alloc, command, None, &[], limits, sources, "note")?;
         note_bridges(&given, &mut reported)?;
         note_talkers(&given, &mut reported)?;
+        note_addresses(&given, &mut reported)?;
         for nanos in &NANOS_KEYS {
             note_nanos(&given, &mut reported, *nanos)?;
         }

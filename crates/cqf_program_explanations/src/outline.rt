@@ -12,10 +12,11 @@ pub(crate) struct KeyLine<'a> {
     pub text: &'a [u8],
 }
 
-/// A link or a stream: the line on which it begins, and its keys' lines.
+/// A link or a stream: the line on which it begins, with its text, and its keys' lines.
 #[derive(Drop)]
 pub(crate) struct Element<'a> {
     pub line: u64,
+    pub text: &'a [u8],
     pub keys: Vec<KeyLine<'a>>,
 }
 
@@ -53,6 +54,8 @@ enum TopArray {
 struct Scan<'a> {
     alloc: Global,
     outline: Outline<'a>,
+    /// The text of the line that is read.
+    text: &'a [u8],
     lexer: Lexer,
     section: Section,
     listed: TopArray,
@@ -93,6 +96,7 @@ impl<'a> Scan<'a> {
                 bridges: Vec::new(alloc),
                 stations: Vec::new(alloc),
             },
+            text: &[],
             lexer: Lexer::new(),
             section: Section::Top,
             listed: TopArray::Other,
@@ -103,6 +107,7 @@ impl<'a> Scan<'a> {
     fn element(&self, line: u64) -> Element<'a> {
         Element {
             line,
+            text: self.text,
             keys: Vec::new(self.alloc),
         }
     }
@@ -214,6 +219,7 @@ impl<'a> Scan<'a> {
 
     /// Takes a line.
     fn take_line(&mut self, line: u64, text: &'a [u8]) -> Result<(), AllocError> {
+        self.text = text;
         if self.lexer.is_at_rest() {
             self.begin(line, text.trim_ascii())?;
         }

@@ -1,10 +1,11 @@
 //! A number of parts that the command doesn't take.
 
 use crate::given::CommandInput;
-use crate::parts::put_parts;
+use crate::parts::{put_parts, takes_domain};
 use crate::places::called;
 use crate::reported::ReportedLines;
-use std::alloc::AllocError;
+use cqf_text::parts;
+use std::alloc::{AllocError, Global};
 
 /// How many files are named.
 const MOST_NAMED: usize = 8;
@@ -59,4 +60,68 @@ pub(crate) fn report_parts(
     reported.report(format!(in given.alloc;
         "{command} takes {takes}; {count} {noun} given: {names}"
     )?)
+}
+
+/// Returns the least and the greatest number of parts that a command reads from standard input if no file is named.
+fn counts_of(command: &str) -> (usize, usize) {
+    match command {
+        "line" => (1, 1),
+        "run" | "report" | "deliveries" | "check" | "summary" | "hops" => (4, 5),
+        _ => (2, 2),
+    }
+}
+
+/// Returns these parts, in words.
+fn parts_taken_by(command: &str) -> &'static str {
+    match command {
+        "line" => "one part: offers",
+        "port" => "two parts, divided by a line %%: a gate list and arrivals",
+        "diff" => "two parts, divided by a line %%: an old and a new plan",
+        "run" | "report" | "deliveries" | "check" | "summary" | "hops" => {
+            "four or five parts, divided by lines %%: a domain, its streams, calls, offers and background frames"
+        }
+        _ => "two parts, divided by a line %%: a domain and its streams",
+    }
+}
+
+/// Returns how a command is called for a network in one file on standard input, in words; an empty text if it takes no network.
+fn whole_words(alloc: Global, command: &str) -> Result<String, AllocError> {
+    if !takes_domain(command) {
+        return Ok(String::new(alloc));
+    }
+    let file = if command == "plan" {
+        "network file"
+    } else {
+        "plan in one file"
+    };
+    let cycles = if command == "offers" || counts_of(command).0 == 4 {
+        " --cycles N"
+    } else {
+        ""
+    };
+    format!(in alloc; "; for a {file} write: cqf {command}{cycles} -")
+}
+
+/// Reports what the command takes from standard input if no file is named; nothing if standard input has this number of parts.
+pub(crate) fn report_standard(
+    alloc: Global,
+    reported: &mut ReportedLines,
+    command: &str,
+    input: &[u8],
+) -> Result<(), AllocError> {
+    let texts = parts(alloc, input)?;
+    let count = texts.len();
+    let (least, most) = counts_of(command);
+    if (least..=most).contains(&count) {
+        return Ok(());
+    }
+    let has = if input.is_empty() {
+        String::from_str(alloc, "is empty")?
+    } else if count == 1 {
+        String::from_str(alloc, "is one part")?
+    } else {
+        format!(in alloc; "has {count} parts")?
+    };
+    let (takes, whole) = (parts_taken_by(command), whole_words(alloc, command)?);
+    reported.report(format!(in alloc; "standard input {has}; {command} takes {takes}{whole}")?)
 }

@@ -1,5 +1,6 @@
 //! Streams of a network file that aren't placed, or may be late.
 
+use crate::budgets::cost_at;
 use crate::domain_faults::{report_guard_at, report_link_guards_at};
 use crate::given::CommandInput;
 use crate::link_faults::report_no_link;
@@ -13,6 +14,7 @@ use crate::planning::{
 };
 use crate::reading::{edge_traffic, read_network};
 use crate::refusal::Refusal;
+use crate::remedies::{room_words, sooner_words};
 use crate::reported::ReportedLines;
 use crate::stream_faults::{is_of_form, report_beyond, report_form_faults, report_names_twice};
 use crate::words::{question, shortened};
@@ -246,12 +248,13 @@ pub(crate) fn report_below_traffic(
     Ok(())
 }
 
-/// Reports a stream for which a link has too little left, by the words of its line: `LISTENER COST LINK LEFT`.
+/// Reports a stream for which a link has too little left at a cycle time, in ns, by the words of its line: `LISTENER COST LINK LEFT`.
 fn report_full(
     given: &CommandInput<'_>,
     reported: &mut ReportedLines,
     item: &WrittenItem<'_>,
     value: &str,
+    cycle: u64,
 ) -> Result<(), AllocError> {
     let mut words = value.split(' ');
     let listener = words.next().unwrap_or("");
@@ -259,30 +262,36 @@ fn report_full(
     let link = words.next().unwrap_or("");
     let left = Grouped(number_in(words.next()));
     let (place, label) = (item.place_of("to"), item.label(given.alloc)?);
-    let question = nanos_question(given.alloc, item, "interval")?;
+    let traffic = traffic_of(given, item)?;
+    let remedy = room_words(given.alloc, item, traffic, cycle, link)?;
     reported.report(format!(in given.alloc;
-        "{place}: {label} needs {cost} octets a cycle on a path to {listener}, but {link} on the shortest path has only {left} left{question}"
+        "{place}: {label} needs {cost} octets a cycle on a path to {listener}, but {link} on the shortest path has only {left} left{remedy}"
     )?)
 }
 
-/// Reports a stream for which a link of its branches has too little left, by the words of its line: `LINK LEFT`.
+/// Reports a stream for which a link of its branches has too little left at a cycle time, in ns, by the words of its line: `LINK LEFT`.
 fn report_short(
     given: &CommandInput<'_>,
     reported: &mut ReportedLines,
     item: &WrittenItem<'_>,
     value: &str,
+    cycle: u64,
 ) -> Result<(), AllocError> {
     let (link, left) = value.split_once(' ').unwrap_or((value, ""));
-    let left = Grouped(number_in(Some(left)));
+    let traffic = traffic_of(given, item)?;
+    let Some(cost) = cost_at(given, item, traffic, cycle)? else {
+        return Ok(());
+    };
+    let (cost, left) = (Grouped(cost), Grouped(number_in(Some(left))));
     let (place, label) = (item.place(), item.label(given.alloc)?);
-    let question = nanos_question(given.alloc, item, "interval")?;
+    let remedy = room_words(given.alloc, item, traffic, cycle, link)?;
     if is_in_step(item) && item.get("every").is_none() {
         return reported.report(format!(in given.alloc;
-            "{place}: {label} has no phase in which each of its links has room; in the best phase {link} has {left} octets a cycle left{question}"
+            "{place}: {label} needs {cost} octets in each of its cycles, but has no phase in which each of its links has room; in the best phase {link} has {left} left{remedy}"
         )?);
     }
     reported.report(format!(in given.alloc;
-        "{place}: {label} needs more octets a cycle than the {left} left on {link} of its path{question}"
+        "{place}: {label} needs {cost} octets a cycle on {link} of its path, where only {left} are left{remedy}"
     )?)
 }
 
@@ -299,9 +308,9 @@ fn report_late(
     let over = Grouped(most.saturating_sub(deadline));
     let (most, deadline) = (Grouped(most), Grouped(deadline));
     let (place, label) = (item.place_of("deadline"), item.label(given.alloc)?);
-    let question = nanos_question(given.alloc, item, "deadline")?;
+    let remedy = sooner_words(given.alloc, item)?;
     reported.report(format!(in given.alloc;
-        "{place}: {label}: a frame takes up to {most} ns from its edge bridge to {listener}; its deadline leaves {deadline} ns for that, {over} ns too few{question}"
+        "{place}: {label}: a frame takes up to {most} ns from its edge bridge to {listener}; its deadline leaves {deadline} ns for that, {over} ns too few{remedy}"
     )?)
 }
 
@@ -315,6 +324,37 @@ fn report_no_way(
     let (place, label) = (item.place_of("to"), item.label(given.alloc)?);
     reported.report(format!(in given.alloc;
         "{place}: {label}: no path of at most 16 links leads from its edge bridge to {listener}: add links (a link goes one way, unless duplex = true)"
+    )?)
+}
+
+/// Reports a stream whose path isn't apart from that of another one.
+fn report_not_apart(
+    given: &CommandInput<'_>,
+    reported: &mut ReportedLines,
+    item: &WrittenItem<'_>,
+    other: &str,
+) -> Result<(), AllocError> {
+    let (place, label) = (item.place_of("apart"), item.label(given.alloc)?);
+    if item.get("path").is_some() || item.get("paths").is_some() {
+        return reported.report(format!(in given.alloc;
+            "{place}: {label}: its path has a link or an inner bridge of {other}'s: give it another, or give from and to alone"
+        )?);
+    }
+    reported.report(format!(in given.alloc;
+        "{place}: {label}: no path is apart from {other}'s: give {other} a path that leaves one, or add links"
+    )?)
+}
+
+/// Reports a stream that is to be apart from one that isn't before it.
+fn report_not_before(
+    given: &CommandInput<'_>,
+    reported: &mut ReportedLines,
+    item: &WrittenItem<'_>,
+    other: &str,
+) -> Result<(), AllocError> {
+    let (place, label) = (item.place_of("apart"), item.label(given.alloc)?);
+    reported.report(format!(in given.alloc;
+        "{place}: {label}: no stream {other} is above it: put {other} first, and leave apart to the later one"
     )?)
 }
 
@@ -458,11 +498,13 @@ fn report_unplaced(
 ) -> Result<(), AllocError> {
     match unplaced.fault {
         "NoWay" => report_no_way(given, reported, item, unplaced.value),
+        "NotApart" => report_not_apart(given, reported, item, unplaced.value),
+        "NotBefore" => report_not_before(given, reported, item, unplaced.value),
         "TooSoon" => report_too_soon(given, reported, item),
         "TooMuch" | "TooLittle" => report_needs(given, reported, item, unplaced),
         "BadInStep" => report_out_of_step(given, reported, item, cycle),
-        "BudgetShort" => report_short(given, reported, item, unplaced.value),
-        "Full" => report_full(given, reported, item, unplaced.value),
+        "BudgetShort" => report_short(given, reported, item, unplaced.value, cycle),
+        "Full" => report_full(given, reported, item, unplaced.value, cycle),
         "Late" => report_late(given, reported, item, unplaced.value),
         "TooManyStreams" => report_beyond(given, reported, item),
         _ => Ok(()),

@@ -3,6 +3,7 @@ ghost use Rattle.std.specs.Prelude.{All, IfOk, map};
 ghost use Rattle.cqf_edge.specs.EdgeStreams.{IsWrittenStream};
 ghost use Rattle.cqf_network.specs.StreamsText.{stream_text};
 
+use crate::forms::are_names;
 use crate::given::CommandInput;
 use crate::planning::is_planning;
 use crate::written::{KeyOwner, WrittenItem, number_of};
@@ -293,8 +294,12 @@ pub(crate) fn has_bad_value(
     item: &WrittenItem<'_>,
     key: &str,
 ) -> Result<bool, AllocError> {
-    if item.get(key).is_none() {
+    let Some(value) = item.get(key) else {
         return Ok(false);
+    };
+    // only `plan` reads this key, and no reader of these crates does
+    if key == "apart" {
+        return Ok(!are_names(value));
     }
     let element = element_with(given.alloc, item, key)?;
     let line = line_of_element(given, item.kind, key, element)?;

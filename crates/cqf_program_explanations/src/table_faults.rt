@@ -290,11 +290,21 @@ fn wrong_row<'r>(
     }
 }
 
-/// Returns why a field doesn't name a bridge, in words.
-fn bridge_words(alloc: Global, network: &Network<'_>, field: &[u8]) -> Result<String, AllocError> {
+/// Returns why a field of a table doesn't name a bridge, in words.
+fn bridge_words(
+    alloc: Global,
+    network: &Network<'_>,
+    table: InputTable,
+    field: &[u8],
+) -> Result<String, AllocError> {
     let name = shown(alloc, field)?;
     if network.is_node(name_of(field)) {
-        return format!(in alloc; "{name} is a station: frames are offered to bridges");
+        let rule = if table == InputTable::Background {
+            "a background frame's link leaves a bridge"
+        } else {
+            "frames are offered to bridges"
+        };
+        return format!(in alloc; "{name} is a station: {rule}");
     }
     let question = network.bridge_question(alloc, name.as_str())?;
     format!(in alloc; "no bridge {name}{question}")
@@ -327,7 +337,7 @@ fn wrong_words(
             let value = shown(alloc, field)?;
             format!(in alloc; "{name} = {value}: {words}")
         }
-        Wrong::Bridge(field) => bridge_words(alloc, network, field),
+        Wrong::Bridge(field) => bridge_words(alloc, network, table, field),
         Wrong::Node(field) => {
             let name = shown(alloc, field)?;
             let question = network.node_question(alloc, name.as_str())?;

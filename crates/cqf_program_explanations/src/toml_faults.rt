@@ -5,11 +5,12 @@ use crate::forms::{
 };
 use crate::given::CommandInput;
 use crate::hints::{is_open, plan_hint};
-use crate::outline::{Element, KeyLine, Outline};
 use crate::places::Place;
 use crate::planning::is_planning;
 use crate::reading::{has_bad_value, is_bad_at_top, lacks};
 use crate::reported::ReportedLines;
+use crate::toml_hints::{duplicate_words, toml_hint};
+use crate::units::meant_value;
 use crate::words::{nearest, shown};
 use crate::written::{KeyOwner, NetworkFile, WrittenItem};
 use cqf_program_files::{LINK, STREAM, TOP};
@@ -74,35 +75,6 @@ fn position_of(text: &[u8], place: usize) -> (u64, u64) {
     (line, column)
 }
 
-/// Returns the key on a line of some keys that occurred before, and the line on which it did.
-fn twice_among<'p>(keys: &'p [KeyLine<'p>], line: u64) -> Option<(&'p [u8], u64)> {
-    let second = keys.iter().find(|key| key.line == line)?;
-    let first = keys.iter().find(|key| key.key == second.key)?;
-    if first.line < line {
-        Some((second.key, first.line))
-    } else {
-        None
-    }
-}
-
-/// Returns the same for the keys of elements.
-fn twice_within<'p>(elements: &'p [Element<'p>], line: u64) -> Option<(&'p [u8], u64)> {
-    for element in elements {
-        let found = twice_among(element.keys.as_slice(), line);
-        if found.is_some() {
-            return found;
-        }
-    }
-    None
-}
-
-/// Returns the key on a line that occurred before, and the line on which it did.
-fn twice_in<'p>(outline: &'p Outline<'p>, line: u64) -> Option<(&'p [u8], u64)> {
-    twice_among(outline.top.as_slice(), line)
-        .or(twice_within(outline.links.as_slice(), line))
-        .or(twice_within(outline.streams.as_slice(), line))
-}
-
 /// Reports why a file's text isn't TOML.
 fn report_no_toml(
     given: &CommandInput<'_>,
@@ -123,16 +95,13 @@ fn report_no_toml(
     let (line, column) = position_of(file.part.text, start);
     let line = line.saturating_add(file.part.before);
     let (place, message) = (file.at(Some(line)), error.message());
-    let line = match twice_in(&file.outline, line) {
-        Some((key, first)) if message.starts_with("duplicate") => {
-            let key = shown(given.alloc, key)?;
-            format!(in given.alloc;
-                "{place}:{column}: {message}: {key} is already in line {first}"
-            )?
-        }
-        _ => format!(in given.alloc; "{place}:{column}: {message}")?,
+    let hint = if message.starts_with("duplicate") {
+        let rest = file.part.text.get(start..).unwrap_or(&[]);
+        duplicate_words(given.alloc, &file.outline, rest, line)?
+    } else {
+        String::from_str(given.alloc, toml_hint(file.part.text, start, message))?
     };
-    reported.report(line)
+    reported.report(format!(in given.alloc; "{place}:{column}: {message}{hint}")?)
 }
 
 /// Reports each file of the plan that isn't TOML.
@@ -314,7 +283,7 @@ fn is_bad(given: &CommandInput<'_>, key: &str, value: &Value) -> Result<bool, Al
     }
 }
 
-/// Returns the words about several cycle times, or the question whether one is meant in microseconds.
+/// Returns the words about several cycle times, or what may be meant by a value: a cycle time in microseconds, or a number in quotes.
 fn unit_question(given: &CommandInput<'_>, key: &str, value: &Value) -> Result<String, AllocError> {
     if key == "cycle" && value.is_array() {
         return plan_hint(given);
@@ -323,7 +292,7 @@ fn unit_question(given: &CommandInput<'_>, key: &str, value: &Value) -> Result<S
         Some(number) if key == "cycle" && (10..=10_000).contains(&number) => {
             format!(in given.alloc; "; is {number} in microseconds?")
         }
-        _ => Ok(String::new(given.alloc)),
+        _ => meant_value(given.alloc, key, value),
     }
 }
 
@@ -410,8 +379,9 @@ fn report_bad_within(
         if let Some(found) = item.found(key) {
             let (place, label): (Place<'_>, String) = (found.place, item.label(given.alloc)?);
             let written = written(given.alloc, &found)?;
+            let meant = meant_value(given.alloc, key, found.value)?;
             reported.report(format!(in given.alloc;
-                "{place}: {label}: {key} = {written}: {words}"
+                "{place}: {label}: {key} = {written}: {words}{meant}"
             )?)?;
         }
     }

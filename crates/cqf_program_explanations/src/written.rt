@@ -1,5 +1,6 @@
 //! A plan as its files have it: what is written, and where.
 
+use crate::inline::inline_value;
 use crate::outline::{Element, KeyLine, Outline, outline_of};
 use crate::parts::InputPart;
 use crate::places::Place;
@@ -43,6 +44,8 @@ pub(crate) struct WrittenItem<'p> {
     pub file_number: usize,
     pub file: &'p str,
     pub line: Option<u64>,
+    /// The text of the line on which it begins, if that is known.
+    pub first_line: &'p [u8],
     pub keys: &'p [KeyLine<'p>],
     pub value: &'p Value,
 }
@@ -159,6 +162,7 @@ fn put_items<'p>(
             file_number,
             file: file.part.file,
             line: element.map(|element| element.line),
+            first_line: element.map_or(&[], |element| element.text),
             keys: element.map_or(&[], |element| element.keys.as_slice()),
             value,
         })?;
@@ -336,10 +340,14 @@ impl<'p> WrittenItem<'p> {
     /// Returns the value at a key, with its place.
     pub(crate) fn found(&self, key: &str) -> Option<FoundKey<'p>> {
         let value = self.get(key)?;
+        let text = match line_of_key(self.keys, key) {
+            Some(line) => line.text,
+            None => inline_value(self.first_line, key),
+        };
         Some(FoundKey {
             place: self.place_of(key),
             value,
-            text: text_after(line_of_key(self.keys, key)),
+            text,
         })
     }
 

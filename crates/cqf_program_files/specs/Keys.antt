@@ -17,7 +17,7 @@ abbrev pub stream_keys : List (List ℕ)
 stream_keys =
     codes "name" ∷ codes "octets" ∷ codes "every" ∷ codes "phase" ∷ codes "in-step" ∷ codes "path" ∷ codes "paths" ∷ codes "deadline"
     ∷ codes "from" ∷ codes "to" ∷ codes "interval" ∷ codes "frames" ∷ codes "size" ∷ codes "least-size" ∷ codes "jitter" ∷ codes "offset"
-    ∷ codes "mac" ∷ codes "vlan" ∷ []
+    ∷ codes "mac" ∷ codes "vlan" ∷ codes "apart" ∷ []
 
 -- the user's own keys begin so, and are ignored
 abbrev pub is_own : List ℕ → Bool

@@ -34,7 +34,7 @@ pub const LINK: [&str; 9] = [
 ];
 
 /// Those of a stream.
-pub const STREAM: [&str; 18] = [
+pub const STREAM: [&str; 19] = [
     "name",
     "octets",
     "every",
@@ -53,6 +53,7 @@ pub const STREAM: [&str; 18] = [
     "offset",
     "mac",
     "vlan",
+    "apart",
 ];
 
 /// The beginning of a key that is the user's own, which no command reads.

@@ -13,9 +13,10 @@ use Rattle.cqf_program_scenario.specs.Networks.{domain_of, network_of_part}
 use Rattle.cqf_program_scenario.specs.Parts.{two_parts}
 use Rattle.cqf_program_plans.specs.Reserving.{flows_line}
 use Rattle.cqf_program_plans.proofs.CompileLemmas.{same_ok}
+use Rattle.cqf_program_placing.specs.Neighbors.{kept_apart}
 use Rattle.cqf_program_placing.specs.Settled.{SettledStream}
 use Rattle.cqf_program_planning.specs.declared.choosing.Search.{Search}
-use Rattle.cqf_program_planning.specs.PlanOutput.{IsPlanText, IsPlannedOf, PlanSource, settled_edges, planning_input, network_line, unentered_line}
+use Rattle.cqf_program_planning.specs.PlanOutput.{apart_line, IsPlanText, IsPlannedOf, PlanSource, settled_edges, planning_input, network_line, unentered_line}
 use Rattle.cqf_program_planning.specs.ReadPlans.{WrittenPlansReadBack}
 use Rattle.cqf_program_laws.specs.PlanLaws.{IsKeptPlan}
 use Rattle.cqf_program_laws.specs.WrittenPlans.{AreShallow, HasKeptPlan, WrittenPlansRun}
@@ -23,9 +24,12 @@ use Rattle.cqf_program_laws.proofs.ReadNetworks.{domain_is_read, network_is_read
 use Rattle.cqf_program_laws.proofs.Scripts.{stepped}
 
 -- the texts of a network that is to be planned are the parts of its input
+abbrev with_apart : List ℕ × List ℕ → NetworkDomain → EdgeStreamsText → List SettledStream → Result PlanSource (List ℕ)
+with_apart parts network edge streams =
+    Ok (record { domain = network; streams = streams; times = edge.times; domain_text = parts.0; streams_text = parts.1 })
+
 abbrev with_settled : List ℕ × List ℕ → NetworkDomain → EdgeStreamsText → List SettledStream → Result PlanSource (List ℕ)
-with_settled parts network edge settled =
-    Ok (record { domain = network; streams = settled; times = edge.times; domain_text = parts.0; streams_text = parts.1 })
+with_settled parts network edge settled = and_then (or_line apart_line (kept_apart parts.1 settled)) (with_apart parts network edge)
 
 abbrev with_edges : List ℕ × List ℕ → NetworkDomain → EdgeStreamsText → Result PlanSource (List ℕ)
 with_edges parts network edge = and_then (settled_edges network edge) (with_settled parts network edge)
@@ -47,8 +51,9 @@ are_texts limits given input source h =
     let b = stepped {B = PlanSource} (or_line flows_line (network_streams_of_text p.0.1)) (with_streams p.0 a.0) source a.2 in
     let c = stepped {B = PlanSource} (or_line unentered_line (edge_streams a.0 b.0)) (with_edges p.0 a.0) source b.2 in
     let e = stepped {B = PlanSource} (settled_edges a.0 c.0) (with_settled p.0 a.0 c.0) source c.2 in
-    let made : PlanSource = record { domain = a.0; streams = e.0; times = c.0.times; domain_text = p.0.0; streams_text = p.0.1 } in
-    let same = same_ok made source e.2 in
+    let f = stepped {B = PlanSource} (or_line apart_line (kept_apart p.0.1 e.0)) (with_apart p.0 a.0 c.0) source e.2 in
+    let made : PlanSource = record { domain = a.0; streams = f.0; times = c.0.times; domain_text = p.0.0; streams_text = p.0.1 } in
+    let same = same_ok made source f.2 in
     p.1 ∙ ap (λ (s : PlanSource). Ok (s.domain_text, s.streams_text)) same
 
 -- the text of a plan

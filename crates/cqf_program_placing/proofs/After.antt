@@ -1,5 +1,5 @@
 -- The history after streams are placed: their names are held, and no others.
-use Rattle.std.proofs.Common.{◌≡◌, ◌∙◌, ◌+◌, ◌<◌, ◌≤◌, ◌++◌, ℕ, List, [], ◌∷◌, Option, Some, None, Result, Ok, Err, Contains}
+use Rattle.std.proofs.Common.{◌≡◌, ◌∙◌, ◌+◌, ◌<◌, ◌≤◌, ◌++◌, ℕ, Bool, List, [], ◌∷◌, Option, Some, None, Result, Ok, Err, Contains}
 use Rattle.std.proofs.Common.{length, length-append, ap, arith, inl, inr, refl, subst, sym}
 use Rattle.std.proofs.lemmas.List.Elements.{Contains-append_cases, Contains-append_left, Contains-append_right}
 use Rattle.std.proofs.lemmas.Option.{slice_get_within}
@@ -13,7 +13,7 @@ use Rattle.cqf_program_plans.specs.Compile.Output.{with_asked}
 use Rattle.cqf_program_placing.specs.declared.faults.PlanFault.{PlanFault}
 use Rattle.cqf_admission.specs.Asking.{asked_with}
 use Rattle.cqf_program_placing.specs.declared.active_cycles.ActiveCycles.{ActiveCycles}
-use Rattle.cqf_program_placing.specs.Placing.{IsAnswered, IsPlacedBy, IsPlacing, PlacedOr, reserved_on}
+use Rattle.cqf_program_placing.specs.Placing.{IsAnswered, IsPlacedBy, IsPlacedPast, IsPlacing, PlacedOr, reserved_on}
 use Rattle.cqf_program_placing.specs.ActiveCycles.{every_in}
 use Rattle.cqf_program_placing.specs.Settled.{SettledStream}
 
@@ -116,6 +116,11 @@ module _ (goes_on : HistoryGoesOn) (counted : SealsAreCounted) (grants : Granted
       by_routed octets active_cycles (Ok paths) is =
           asked_after names entries after (asked_with stream.name octets (every_in active_cycles) is.phase paths) following few is.entered
 
+      by_shut : (octets : ℕ) (found : Result (List Bool) PlanFault) → IsPlacedPast d entries stream octets found become after →
+          IsAfter d (names ++ stream.name ∷ []) after
+      by_shut octets (Err found) is = unchanged is.1
+      by_shut octets (Ok shut) is = by_routed octets is.taken is.is_placed.routed is.is_placed.is_answered
+
       by_reserved : (reserved : Result ℕ PlanFault) → IsPlacedBy d entries stream reserved become after → IsAfter d (names ++ stream.name ∷ []) after
       by_reserved (Err found) is = unchanged is.1
-      by_reserved (Ok octets) is = by_routed octets is.taken is.is_placed.routed is.is_placed.is_answered
+      by_reserved (Ok octets) is = by_shut octets is.found is.is_placed

@@ -1,6 +1,6 @@
 -- Streams find room in some cycles, or none, and take the first phase in which they find it.
 use Rattle.std.proofs.Common.{◌≡◌, ◌∙◌, ◌+◌, ◌<◌, ◌≤◌, ◌&&◌, ℕ, Bool, true, false, List, [], ◌∷◌, Option, Some, None, Result, Ok, Err, Contains, ap, arith, drop, get_or, inl, inr, length, position, refl, subst, subst₂, sym}
-use Rattle.std.specs.Prelude.{IfErr, IfOk, IsSome, String, Vec, is_none, nat_le, nat_lt, unwrap_or}
+use Rattle.std.specs.Prelude.{IfErr, IfOk, IsSome, String, Vec, is_none, nat_lt, unwrap_or}
 use Rattle.std.specs.declared.alloc.Global.{Global}
 use Rattle.std.specs.List.{flat_map, list_all}
 use Rattle.std.proofs.lemmas.Bool.{and_from, and_parts, cases_lt, le-leb, leb-true, ltb-false}
@@ -194,9 +194,9 @@ no_route d rows every cost path k None none here before other low = elim (cases_
 ]
 no_route d rows every cost path k (Some route) none here before other low = absurd (none route refl)
 
-module _ (d : Domain) (rows : List Row) (every cost bridge : ℕ) (stations : List ℕ) where
+module _ (d : Domain) (rows : List Row) (every cost bridge : ℕ) (stations : List ℕ) (shut : List Bool) where
   abbrev own_path : SettledPath
-  own_path = Between bridge stations
+  own_path = Between bridge stations shut
 
   abbrev are_roomy_on : Route → Bool → Type 0
   are_roomy_on route roomy = AreRoomy d rows (Chosen every) cost (Ok (branches_of route.branched.paths.items)) roomy
@@ -239,18 +239,18 @@ module _ (d : Domain) (rows : List Row) (every cost bridge : ℕ) (stations : Li
 
 -- a route in the given cycles is the one that is taken
 module _ (d : Domain) (rows : List Row) (cost : ℕ) where
-  pub takes_given : (every phase bridge : ℕ) (stations : List ℕ) (found : Result Route Unrouted) →
-      IfOk found (IsRoute d rows (Given every phase) cost (Between bridge stations)) →
-      IfOk found (IsTakenRoute d rows (Given every phase) cost (Between bridge stations))
-  takes_given every phase bridge stations (Ok route) is = record { taken = Given every phase; are_taken = refl; is_route = is }
-  takes_given every phase bridge stations (Err why) is = tt
+  pub takes_given : (every phase bridge : ℕ) (stations : List ℕ) (shut : List Bool) (found : Result Route Unrouted) →
+      IfOk found (IsRoute d rows (Given every phase) cost (Between bridge stations shut)) →
+      IfOk found (IsTakenRoute d rows (Given every phase) cost (Between bridge stations shut))
+  takes_given every phase bridge stations shut (Ok route) is = record { taken = Given every phase; are_taken = refl; is_route = is }
+  takes_given every phase bridge stations shut (Err why) is = tt
 
-  pub fails_given : (every phase bridge : ℕ) (stations : List ℕ) (found : Result Route Unrouted) →
-      IfErr found (IsUnrouted d rows (Given every phase) cost (Between bridge stations)) →
-      IfErr found (IsUntaken d rows (Given every phase) cost (Between bridge stations))
-  fails_given every phase bridge stations (Ok route) is = tt
-  fails_given every phase bridge stations (Err (unrouted.Fault found)) is = (Given every phase, refl, is)
-  fails_given every phase bridge stations (Err unrouted.Memory) is = tt
+  pub fails_given : (every phase bridge : ℕ) (stations : List ℕ) (shut : List Bool) (found : Result Route Unrouted) →
+      IfErr found (IsUnrouted d rows (Given every phase) cost (Between bridge stations shut)) →
+      IfErr found (IsUntaken d rows (Given every phase) cost (Between bridge stations shut))
+  fails_given every phase bridge stations shut (Ok route) is = tt
+  fails_given every phase bridge stations shut (Err (unrouted.Fault found)) is = (Given every phase, refl, is)
+  fails_given every phase bridge stations shut (Err unrouted.Memory) is = tt
 
   -- for equal cycles and paths
   pub takes_as : (active_cycles others : ActiveCycles) (path other : SettledPath) (found : Result Route Unrouted) → active_cycles ≡ others → path ≡ other →
@@ -274,18 +274,18 @@ module _ (d : Domain) (rows : List Row) (cost : ℕ) where
 pub taken_every : (d : Domain) (rows : List Row) (active_cycles : ActiveCycles) (cost : ℕ) (path : SettledPath) (taken : ActiveCycles) → AreTaken d rows active_cycles cost path taken →
     every_in taken ≡ every_in active_cycles
 taken_every d rows active_cycles cost (Along given) taken are = ap every_in are
-taken_every d rows (Given every phase) cost (Between bridge stations) taken are = ap every_in are
-taken_every d rows (Chosen every) cost (Between bridge stations) taken are = by_routed are.routed are.are_taken
+taken_every d rows (Given every phase) cost (Between bridge stations shut) taken are = ap every_in are
+taken_every d rows (Chosen every) cost (Between bridge stations shut) taken are = by_routed are.routed are.are_taken
   where
     by_first : (first : Option ℕ) → taken ≡ given_or_chosen every first → every_in taken ≡ every
     by_first None is = ap every_in is
     by_first (Some phase) is = ap every_in is
 
-    by : (roomy : Bool) → AreTakenBy d rows every cost (Between bridge stations) roomy taken → every_in taken ≡ every
+    by : (roomy : Bool) → AreTakenBy d rows every cost (Between bridge stations shut) roomy taken → every_in taken ≡ every
     by true is = ap every_in is
     by false is = by_first is.0 is.2
 
-    by_routed : (routed : Result (List Branch) PlanFault) → AreTakenFor d rows every cost (Between bridge stations) routed taken → every_in taken ≡ every
+    by_routed : (routed : Result (List Branch) PlanFault) → AreTakenFor d rows every cost (Between bridge stations shut) routed taken → every_in taken ≡ every
     by_routed (Err found) is = ap every_in is
     by_routed (Ok paths) is = by is.0 is.2
 
@@ -294,22 +294,22 @@ pub taken_first : (d : Domain) (rows : List Row) (active_cycles : ActiveCycles) 
     AreTaken d rows active_cycles cost path taken → (IsPhaseAlong d rows own paths active_cycles first → MayBeFirst active_cycles first) →
     IsPhaseAlong d rows own paths taken first → MayBeFirst active_cycles first
 taken_first d rows active_cycles cost own (Along given) taken paths first are may is = may (subst (λ (t : ActiveCycles). IsPhaseAlong d rows own paths t first) are is)
-taken_first d rows (Given every phase) cost own (Between bridge stations) taken paths first are may is =
+taken_first d rows (Given every phase) cost own (Between bridge stations shut) taken paths first are may is =
     may (subst (λ (t : ActiveCycles). IsPhaseAlong d rows own paths t first) are is)
-taken_first d rows (Chosen every) cost own (Between bridge stations) taken paths first are may is = by_routed are.routed are.are_taken
+taken_first d rows (Chosen every) cost own (Between bridge stations shut) taken paths first are may is = by_routed are.routed are.are_taken
   where
     chosen : taken ≡ Chosen every → first < every
     chosen same = may (subst (λ (t : ActiveCycles). IsPhaseAlong d rows own paths t first) same is)
 
-    by_first : (o : Option ℕ) → IsFirstRoomy d rows every cost (Between bridge stations) o → taken ≡ given_or_chosen every o → first < every
+    by_first : (o : Option ℕ) → IsFirstRoomy d rows every cost (Between bridge stations shut) o → taken ≡ given_or_chosen every o → first < every
     by_first None none same = chosen same
     by_first (Some phase) found same =
         let here : first ≡ phase = subst (λ (t : ActiveCycles). IsPhaseAlong d rows own paths t first) same is in omega (arith, here, found.within)
 
-    by : (roomy : Bool) → AreTakenBy d rows every cost (Between bridge stations) roomy taken → first < every
+    by : (roomy : Bool) → AreTakenBy d rows every cost (Between bridge stations shut) roomy taken → first < every
     by true same = chosen same
     by false some = by_first some.0 some.1 some.2
 
-    by_routed : (routed : Result (List Branch) PlanFault) → AreTakenFor d rows every cost (Between bridge stations) routed taken → first < every
+    by_routed : (routed : Result (List Branch) PlanFault) → AreTakenFor d rows every cost (Between bridge stations shut) routed taken → first < every
     by_routed (Err found) same = chosen same
     by_routed (Ok along) some = by some.0 some.2

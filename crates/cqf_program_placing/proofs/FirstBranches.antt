@@ -38,10 +38,12 @@ use Rattle.cqf_admission.proofs.CostLemmas.{beside_is_most}
 use Rattle.cqf_program_placing.specs.Placing.{names_along}
 use Rattle.cqf_program_placing.specs.Room.{HasRoomIn, HaveRoom, MayBePaths}
 use Rattle.cqf_program_placing.specs.ActiveCycles.{left_emptiest, lefts_on}
-use Rattle.cqf_program_placing.specs.Hops.{AreLeftAfter, left_after}
+use Rattle.cqf_program_placing.specs.Apart.{lefts_past}
+use Rattle.cqf_program_placing.specs.Hops.{AreLeftAfter, hop_after, left_after}
+use Rattle.cqf_program_placing.proofs.ApartLemmas.{after_within, past_many, past_within}
 use Rattle.cqf_program_placing.proofs.Emptiest.{emptiest_of_each, left_of_hop}
 use Rattle.cqf_program_placing.proofs.HopPaths.{room_on_path}
-use Rattle.cqf_program_placing.proofs.RouteLemmas.{left_there, lefts_many}
+use Rattle.cqf_program_placing.proofs.RouteLemmas.{left_there}
 use Rattle.cqf_program_placing.proofs.PathNames.{branch_from, known_there, link_there, named_end, simple_there, whole_there}
 
 -- branches that are those of a tree, of any number of hops
@@ -186,17 +188,19 @@ left_of_tree d rows paths l among =
     (beside_is_most rows (tree_of d paths) l (member_any (λ k. k == l) (links_in (tree_of d paths)) l among (eq-eqb l l refl)))
 
 -- a link with room has left what a stream costs
-has_left : (d : Domain) (rows : List Row) (every cost l : ℕ) → has_room (lefts_on d rows every) cost l ≡ true → cost ≤ left_emptiest d rows every l
-has_left d rows every cost l h = by (slice_get (lefts_on d rows every) l) refl h
+has_left : (d : Domain) (rows : List Row) (shut : List Bool) (every cost l : ℕ) → has_room (lefts_past d shut (lefts_on d rows every)) cost l ≡ true →
+    cost ≤ left_emptiest d rows every l
+has_left d rows shut every cost l h = by (slice_get left l) refl h
   where
-    by : (o : Option ℕ) → slice_get (lefts_on d rows every) l ≡ o → option_map_or (λ octets. nat_le cost octets) o false ≡ true →
-        cost ≤ left_emptiest d rows every l
+    left : List ℕ
+    left = lefts_past d shut (lefts_on d rows every)
+
+    by : (o : Option ℕ) → slice_get left l ≡ o → option_map_or (λ octets. nat_le cost octets) o false ≡ true → cost ≤ left_emptiest d rows every l
     by None at e = absurd cc
     by (Some octets) at e =
-        let inside : l < length d.links = omega (arith, slice_get_within (lefts_on d rows every) l octets at, lefts_many d rows every) in
-        let same : octets ≡ left_emptiest d rows every l =
-        sym (get_or_from_slice_get (lefts_on d rows every) l octets 0 at) ∙ left_there d rows every l inside in
-        omega (arith, leb-true cost octets e, same)
+        let inside : l < length d.links = omega (arith, slice_get_within left l octets at, past_many d shut (lefts_on d rows every)) in
+        let within : get_or left l 0 ≤ get_or (lefts_on d rows every) l 0 = past_within d shut (lefts_on d rows every) l inside in
+        omega (arith, leb-true cost octets e, get_or_from_slice_get left l octets 0 at, within, left_there d rows every l inside)
 
 -- each link of a path with room has that left
 room_there : (room : ℕ → Bool) (path : List ℕ) (k l : ℕ) → list_all room path ≡ true → slice_get path k ≡ Some l → room l ≡ true
@@ -332,33 +336,35 @@ module _ (d : Domain) (good : IsDomain d) where
         ∙ ap (λ (b : Branch). link_at d b index) same ∙ stands
 
     -- and, if the stream is offered in each cycle, each link of that tree has left what it costs
-    pub first_enough : (rows : List Row) (every : ℕ) → left ≡ lefts_on d rows every → every ≡ 1 →
+    pub first_enough : (rows : List Row) (shut : List Bool) (every : ℕ) → left ≡ lefts_past d shut (lefts_on d rows every) → every ≡ 1 →
         HasRoomIn d rows cost (tree_of d (map (names_along d bridge) link_paths)) each_cycle
-    first_enough rows every are each l c =
+    first_enough rows shut every are each l c =
         let stands = tree_link d (map (names_along d bridge) link_paths) l c in
         let (k, path, at, same) = path_of stands.branch stands.among in
         let w = path_there k path at in
         let here : slice_get path stands.index ≡ Some l = link_on_path k path stands.branch stands.index l at same stands.stands in
-        let there : has_room (lefts_on d rows every) cost l ≡ true =
+        let there : has_room (lefts_past d shut (lefts_on d rows every)) cost l ≡ true =
         subst (λ (xs : List ℕ). has_room xs cost l ≡ true) are (room_there (has_room left cost) path stands.index l w.is_path.roomy here) in
-        let enough : cost ≤ left_emptiest d rows every l = has_left d rows every cost l there in
+        let enough : cost ≤ left_emptiest d rows every l = has_left d rows shut every cost l there in
         let beside : left_emptiest d rows every l ≡ left_beside d rows l = ap (λ n. left_emptiest d rows n l) each ∙ emptiest_of_each d rows l in
         omega (arith, enough, beside, left_of_tree d rows (map (names_along d bridge) link_paths) l c)
 
     -- and, if its cycles are given, each link has that left in these
-    pub first_given : (rows : List Row) (pace : Pace) → AreLeftAfter d rows pace cost bridge left →
+    pub first_given : (rows : List Row) (shut : List Bool) (pace : Pace) → AreLeftAfter d rows shut pace cost bridge left →
         HasRoomIn d rows cost (tree_of d (map (names_along d bridge) link_paths)) pace
-    first_given rows pace are l c =
+    first_given rows shut pace are l c =
         let paths = map (names_along d bridge) link_paths in
         let (hop, among, is_link) = contains_from_map (λ (h : Hop). h.link) (tree_of d paths) l c in
         let stands = tree_hop d paths hop among in
         let (k, path, at, same) = path_of stands.branch stands.among in
         let here : slice_get path stands.index ≡ Some hop.link = link_on_path k path stands.branch stands.index hop.link at same stands.stands in
         let w = subst (λ (xs : List ℕ). IsFirstPath d.links (has_room xs cost) (Bridge bridge) (Station (get_or stations k 0)) path) are.left_is (path_there k path at) in
-        let enough : cost ≤ left_after d rows pace stands.index hop.link =
-        room_on_path d rows pace cost bridge are.hops are.are (Station (get_or stations k 0)) path stands.index hop.link w here in
-        let hop_number_is : left_in_active_cycles d rows pace hop ≡ left_after d rows pace stands.index hop.link =
+        let enough : cost ≤ left_after d rows shut pace stands.index hop.link =
+        room_on_path d rows shut pace cost bridge are.hops are.are (Station (get_or stations k 0)) path stands.index hop.link w here in
+        let hop_number_is : left_in_active_cycles d rows pace hop ≡ left_in_active_cycles d rows pace (hop_after stands.index hop.link) =
         ap (λ (n : ℕ). left_in_active_cycles d rows pace (record { link = hop.link; hop_number = n; from = None })) stands.hop_number_is in
+        let within : left_after d rows shut pace stands.index hop.link ≤ left_in_active_cycles d rows pace (hop_after stands.index hop.link) =
+        after_within d rows shut pace stands.index hop.link in
         let on_tree : left_on d rows (tree_of d paths) pace hop.link ≡ left_in_active_cycles d rows pace hop = left_of_hop d rows paths pace hop among in
-        let there : cost ≤ left_on d rows (tree_of d paths) pace hop.link = omega (arith, enough, hop_number_is, on_tree) in
+        let there : cost ≤ left_on d rows (tree_of d paths) pace hop.link = omega (arith, enough, within, hop_number_is, on_tree) in
         subst (λ (n : ℕ). cost ≤ left_on d rows (tree_of d paths) pace n) is_link there

@@ -17,7 +17,7 @@ use Rattle.cqf_model.specs.Domain.{Domain, bridge_of, same_node}
 use Rattle.cqf_model.proofs.Links.{same_node_itself}
 use Rattle.cqf_network.specs.Steps.{led_along}
 use Rattle.cqf_network.specs.Paths.{IsFirstPath, IsPath, has_room, led_by, led_to}
-use Rattle.cqf_network.proofs.PartLemmas.{first_begins, leads_on}
+use Rattle.cqf_network.proofs.PartLemmas.{first_begins}
 use Rattle.cqf_network.proofs.StepLemmas.{along-append, along-push}
 use Rattle.cqf_program_placing.specs.Hops.{AreHops, LeadsAfter, has_room_after, hop_of, left_after, left_where, lefts_where}
 use Rattle.cqf_program_placing.proofs.RouteLemmas.{bridge_of_link}
@@ -63,37 +63,37 @@ last_room room front l back all =
 room_pushed : (room : ℕ → Bool) (front : List ℕ) (l : ℕ) → list_all room front ≡ true → room l ≡ true → list_all room (front ++ l ∷ []) ≡ true
 room_pushed room front l all one = list_all-append room front (l ∷ []) ∙ (λ i. all i && (one i && true))
 
-module _ (d : Domain) (rows : List Row) (pace : Pace) (cost bridge : ℕ) (hops : List (Option ℕ))
-    (are : AreHops d.links (has_room_after d rows pace cost) bridge hops) where
+module _ (d : Domain) (rows : List Row) (shut : List Bool) (pace : Pace) (cost bridge : ℕ) (hops : List (Option ℕ))
+    (are : AreHops d.links (has_room_after d rows shut pace cost) bridge hops) where
   abbrev left : List ℕ
-  left = lefts_where d rows pace hops
+  left = lefts_where d rows shut pace hops
 
   abbrev room : ℕ → Bool
   room = has_room left cost
 
   -- what a link has left is at its number
   many_left : length left ≡ length d.links
-  many_left = length-singles (left_where d rows pace hops) (length d.links)
+  many_left = length-singles (left_where d rows shut pace hops) (length d.links)
 
-  left_there : (k l : ℕ) → l < length d.links → hop_of hops (bridge_of d l) ≡ Some k → get_or left l 0 ≡ left_after d rows pace k l
+  left_there : (k l : ℕ) → l < length d.links → hop_of hops (bridge_of d l) ≡ Some k → get_or left l 0 ≡ left_after d rows shut pace k l
   left_there k l inside at =
-      get_or-singles (left_where d rows pace hops) (length d.links) l 0 inside
-      ∙ ap (λ (o : Option ℕ). option_map_or (λ n. left_after d rows pace n l) o 0) at
+      get_or-singles (left_where d rows shut pace hops) (length d.links) l 0 inside
+      ∙ ap (λ (o : Option ℕ). option_map_or (λ n. left_after d rows shut pace n l) o 0) at
 
   -- a link has room if it has room after as many links as frames leave its bridge
-  has_there : (k l : ℕ) → l < length d.links → hop_of hops (bridge_of d l) ≡ Some k → cost ≤ left_after d rows pace k l → room l ≡ true
+  has_there : (k l : ℕ) → l < length d.links → hop_of hops (bridge_of d l) ≡ Some k → cost ≤ left_after d rows shut pace k l → room l ≡ true
   has_there k l inside at enough =
       ap (λ (o : Option ℕ). option_map_or (λ octets. nat_le cost octets) o false) (slice_get-get_or left l 0 (omega (arith, inside, many_left)))
       ∙ le-leb cost (get_or left l 0) (omega (arith, enough, left_there k l inside at))
 
-  there_has : (k l : ℕ) → hop_of hops (bridge_of d l) ≡ Some k → room l ≡ true → cost ≤ left_after d rows pace k l
+  there_has : (k l : ℕ) → hop_of hops (bridge_of d l) ≡ Some k → room l ≡ true → cost ≤ left_after d rows shut pace k l
   there_has k l at has = by (slice_get left l) refl has
     where
-      by : (o : Option ℕ) → slice_get left l ≡ o → option_map_or (λ octets. nat_le cost octets) o false ≡ true → cost ≤ left_after d rows pace k l
+      by : (o : Option ℕ) → slice_get left l ≡ o → option_map_or (λ octets. nat_le cost octets) o false ≡ true → cost ≤ left_after d rows shut pace k l
       by None is e = absurd cc
       by (Some octets) is e =
           let inside : l < length d.links = omega (arith, slice_get_within left l octets is, many_left) in
-          let same : octets ≡ left_after d rows pace k l = sym (get_or_from_slice_get left l octets 0 is) ∙ left_there k l inside at in
+          let same : octets ≡ left_after d rows shut pace k l = sym (get_or_from_slice_get left l octets 0 is) ∙ left_there k l inside at in
           omega (arith, leb-true cost octets e, same)
 
   -- a bridge that frames leave after a number of links is reached by a path of as many
@@ -107,7 +107,7 @@ module _ (d : Domain) (rows : List Row) (pace : Pace) (cost bridge : ℕ) (hops 
       let from : bridge_of d l ≡ leads.link.from = bridge_of_link d l leads.link leads.stands in
       let here : hop_of hops (bridge_of d l) ≡ Some j = ap (hop_of hops) from ∙ leads.leaves in
       let roomy : room l ≡ true =
-      has_there j l (slice_get_within d.links l leads.link leads.stands) here (leb-true cost (left_after d rows pace j l) leads.roomy) in
+      has_there j l (slice_get_within d.links l leads.link leads.stands) here (leb-true cost (left_after d rows shut pace j l) leads.roomy) in
       let step : led_to d.links (Bridge leads.link.from) l ≡ Some (Bridge other) =
       ap (option_and_then (led_by (Bridge leads.link.from))) leads.stands
       ∙ cond-true (same_node (Bridge leads.link.from) (Bridge leads.link.from)) (Some leads.link.to) None (same_node_itself (Bridge leads.link.from))
@@ -144,12 +144,12 @@ module _ (d : Domain) (rows : List Row) (pace : Pace) (cost bridge : ℕ) (hops 
       let before : hop_of hops on.link.from ≡ Some n = hop_by_path n on.link.from p.front long (omega (arith, low))
       (subst (λ (node : Node). IsFirstPath d.links room (Bridge bridge) node p.front) on.from_is begins) in
       let here : hop_of hops (bridge_of d p.last) ≡ Some n = ap (hop_of hops) (bridge_of_link d p.last on.link on.stands) ∙ before in
-      let enough : cost ≤ left_after d rows pace n p.last = there_has n p.last here (last_room room p.front p.last [] whole.is_path.roomy) in
-      let leads : LeadsAfter d.links (has_room_after d rows pace cost) hops n p.last other = record {
+      let enough : cost ≤ left_after d rows shut pace n p.last = there_has n p.last here (last_room room p.front p.last [] whole.is_path.roomy) in
+      let leads : LeadsAfter d.links (has_room_after d rows shut pace cost) hops n p.last other = record {
         link = on.link;
         stands = on.stands;
         leaves = before;
-        roomy = le-leb cost (left_after d rows pace n p.last) enough;
+        roomy = le-leb cost (left_after d rows shut pace n p.last) enough;
         ends = on.to_is;
       } in
       let (j, at, no_more) = are.goes_on n p.last other (omega (arith, low)) leads in
@@ -159,7 +159,7 @@ module _ (d : Domain) (rows : List Row) (pace : Pace) (cost bridge : ℕ) (hops 
 
   -- so each link of a first path has room at its index on the path
   pub room_on_path : (to : Node) (path : List ℕ) (k l : ℕ) → IsFirstPath d.links room (Bridge bridge) to path → slice_get path k ≡ Some l →
-      cost ≤ left_after d rows pace k l
+      cost ≤ left_after d rows shut pace k l
   room_on_path to path k l first at =
       let u = up_to path k l at in
       let whole : IsFirstPath d.links room (Bridge bridge) to (u.front ++ (l ∷ u.back)) =

@@ -1,5 +1,5 @@
 -- Streams placed one after the other.
-use Rattle.std.proofs.Common.{◌≡◌, ◌∙◌, ◌+◌, ◌-◌, ◌*◌, ◌<◌, ◌≤◌, ◌^◌, ℕ, All, Bool, true, false, List, [], ◌∷◌, ◌++◌, Option, Some, None, Result, Ok, Err, length, cond, get_or, map, max, nat_le, nat_lt, take, length-append, ap, arith, refl, subst, subst₂, sym, div-le_self}
+use Rattle.std.proofs.Common.{◌≡◌, ◌∙◌, ◌+◌, ◌-◌, ◌*◌, ◌<◌, ◌≤◌, ◌^◌, ℕ, All, Bool, true, false, List, [], ◌∷◌, ◌++◌, Option, Some, None, Result, Ok, Err, length, cond, get_or, map, max, nat_le, nat_lt, take, length-append, ap, arith, refl, subst, sym, div-le_self}
 use Rattle.std.proofs.Math.Nat.{le-max_left, mul-le-mul_right}
 use Rattle.std.proofs.lemmas.Nat.{le-div}
 use Rattle.std.specs.Prelude.{IfOk, option_map}
@@ -21,7 +21,7 @@ use Rattle.cqf_laws_timing.specs.Traffic.{intervals_in, needed}
 use Rattle.cqf_traffic.specs.TrafficText.{IsTrafficText, TrafficText, promise_of}
 use Rattle.cqf_program_placing.specs.declared.faults.PlanFault.{PlanFault}
 use Rattle.cqf_program_placing.specs.declared.faults.PlanFault.TheVariants as fault
-use Rattle.cqf_program_placing.specs.Placing.{ArePlacedFrom, AreTaken, IsAnswered, IsAskedFor, IsPlacedBy, IsPlacedInActiveCycles, IsPlacing, IsRouted, PlacedOr, Unplaced, answered, if_enough, outcome_value}
+use Rattle.cqf_program_placing.specs.Placing.{ArePlacedFrom, AreTaken, IsAnswered, IsAskedFor, IsPlacedBy, IsPlacedInActiveCycles, IsPlacedPast, IsPlacing, IsRouted, IsShutFor, PlacedOr, Unplaced, answered, if_enough, outcome_value, past_links}
 use Rattle.cqf_program_placing.specs.Placing.{active_cycles_on, reserved_by, reserved_on}
 use Rattle.cqf_program_placing.specs.Settled.{IsPlaceable, SettledStream, are_reservable, settled_value}
 use Rattle.cqf_program_placing.specs.declared.choosing.Route.{Route}
@@ -148,9 +148,13 @@ few_placed d entries stream become after counted none placed = by_reserved (rese
     by_routed octets active_cycles (Err found) is = few_same entries after none is.1
     by_routed octets active_cycles (Ok paths) is = few_asked d entries after (asked_with stream.name octets (every_in active_cycles) is.phase paths) counted none is.entered
 
+    by_shut : (octets : ℕ) (found : Result (List Bool) PlanFault) → IsPlacedPast d entries stream octets found become after → AreFew entries after
+    by_shut octets (Err found) is = few_same entries after none is.1
+    by_shut octets (Ok shut) is = by_routed octets is.taken is.is_placed.routed is.is_placed.is_answered
+
     by_reserved : (reserved : Result ℕ PlanFault) → IsPlacedBy d entries stream reserved become after → AreFew entries after
     by_reserved (Err found) is = few_same entries after none is.1
-    by_reserved (Ok octets) is = by_routed octets is.taken is.is_placed.routed is.is_placed.is_answered
+    by_reserved (Ok octets) is = by_shut octets is.found is.is_placed
 
 -- the streams so far are placed, and no call but theirs was made
 pub record ArePlacedSoFar (d : Domain) (streams : List Settled) (k : ℕ) (a : Administration) (outcomes : List PlacingOutcome) : Type 0 where
@@ -188,13 +192,37 @@ pub unreserved : (d : Domain) (entries : List Recorded) (stream : SettledStream)
 unreserved d entries stream found is =
     let P : Result ℕ PlanFault → Type 0 = λ reserved. IsPlacedBy d entries stream reserved (Unplaced found) entries in subst P is (refl, refl)
 
--- the outcome with this reservation is the outcome of the stream
-pub reserved_so : (d : Domain) (entries : List Recorded) (stream : SettledStream) (octets : ℕ) (active_cycles : ActiveCycles) (become : PlacedOr) (after : List Recorded) →
-    Ok octets ≡ reserved_on d.overhead d.cycle_time d.sync stream → active_cycles ≡ active_cycles_on d.cycle_time stream → IsPlacedInActiveCycles d entries stream octets active_cycles become after →
+-- the outcome with this reservation, past the links that are shut, is the outcome of the stream
+pub reserved_so : (d : Domain) (entries : List Recorded) (stream : SettledStream) (octets : ℕ) (shut : List Bool) (active_cycles : ActiveCycles) (become : PlacedOr)
+    (after : List Recorded) → Ok octets ≡ reserved_on d.overhead d.cycle_time d.sync stream → active_cycles ≡ active_cycles_on d.cycle_time stream →
+    IsShutFor d entries stream.apart stream.path (Ok shut) → IsPlacedInActiveCycles d entries (past_links shut stream) octets active_cycles become after →
     IsPlacing d entries stream become after
-reserved_so d entries stream octets active_cycles become after is same placed =
+reserved_so d entries stream octets shut active_cycles become after is same is_shut placed =
     let P : Result ℕ PlanFault → Type 0 = λ reserved. IsPlacedBy d entries stream reserved become after in
-    subst P is (subst (λ (t : ActiveCycles). IsPlacedInActiveCycles d entries stream octets t become after) same placed)
+    subst P is (record {
+      found = Ok shut;
+      is_shut = is_shut;
+      is_placed = subst (λ (t : ActiveCycles). IsPlacedInActiveCycles d entries (past_links shut stream) octets t become after) same placed;
+    })
+
+-- the same for a result, and for links that are shut as a slice has them
+pub reserved_if : {E : Type 0} (d : Domain) (entries : List Recorded) (stream : SettledStream) (octets : ℕ) (shut slice : List Bool) (active_cycles : ActiveCycles)
+    (found : Result PlacingOutcome E) (after : List Recorded) → Ok octets ≡ reserved_on d.overhead d.cycle_time d.sync stream →
+    active_cycles ≡ active_cycles_on d.cycle_time stream → slice ≡ shut → IsShutFor d entries stream.apart stream.path (Ok shut) →
+    IfOk found (λ become. IsPlacedInActiveCycles d entries (past_links slice stream) octets active_cycles (outcome_value become) after) →
+    IfOk found (λ become. IsPlacing d entries stream (outcome_value become) after)
+reserved_if d entries stream octets shut slice active_cycles (Ok become) after is same slice_is is_shut placed =
+    reserved_so d entries stream octets shut active_cycles (outcome_value become) after is same is_shut
+    (subst (λ (s : List Bool). IsPlacedInActiveCycles d entries (past_links s stream) octets active_cycles (outcome_value become) after) slice_is placed)
+reserved_if d entries stream octets shut slice active_cycles (Err e) after is same slice_is is_shut placed = tt
+
+-- a stream for which there is no path past these links isn't placed
+pub cut_off_so : (d : Domain) (entries : List Recorded) (stream : SettledStream) (octets : ℕ) (found : PlanFault) →
+    Ok octets ≡ reserved_on d.overhead d.cycle_time d.sync stream → IsShutFor d entries stream.apart stream.path (Err found) →
+    IsPlacing d entries stream (Unplaced found) entries
+cut_off_so d entries stream octets found is is_shut =
+    let P : Result ℕ PlanFault → Type 0 = λ reserved. IsPlacedBy d entries stream reserved (Unplaced found) entries in
+    subst P is (record { found = Err found; is_shut = is_shut; is_placed = (refl, refl) })
 
 -- a stream without branches isn't placed
 pub unrouted_so : (d : Domain) (entries : List Recorded) (stream : SettledStream) (octets cost : ℕ) (active_cycles : ActiveCycles) (found : PlanFault) →

@@ -5,6 +5,12 @@ pub mod Stepping
 pub mod Emptiest
 pub mod Loads
 pub mod HopLemmas
+pub mod ApartLemmas
+pub mod PartLemmas
+pub mod Sought
+pub mod ApartTexts
+pub mod NeighborLemmas
+pub mod ShutLemmas
 pub mod AskLemmas
 pub mod IndexLemmas
 pub mod Chosen

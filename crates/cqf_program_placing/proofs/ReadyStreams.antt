@@ -30,7 +30,7 @@ use Rattle.cqf_network.proofs.StreamParts.{and_first-Ok}
 use Rattle.cqf_program_placing.specs.declared.faults.PlanFault.TheVariants as fault
 use Rattle.cqf_program_placing.specs.Placing.{if_enough, reserved_by, reserved_on}
 use Rattle.cqf_program_placing.specs.Room.{AreListeners, IsReadStream}
-use Rattle.cqf_program_placing.specs.Settled.{Along, Between, SettledPath, SettledStream, are_reservable, entrance_at, first_apart, is_paced, settled_next, settled_path}
+use Rattle.cqf_program_placing.specs.Settled.{Along, Between, SettledPath, SettledStream, are_reservable, entrance_at, first_apart, is_paced, past, settled_next, settled_path}
 use Rattle.cqf_program_placing.specs.Settled.{station_by_name, stations_by_name}
 use Rattle.cqf_program_placing.proofs.FirstBranches.{AreBranches, AreFew}
 use Rattle.cqf_program_placing.proofs.IndexLemmas.{reserved_there}
@@ -45,7 +45,12 @@ pub record IsToStations (d : Domain) (bridge : ℕ) (stations : List ℕ) : Type
 -- or along the branches of a tree
 abbrev pub IsGoodPath : Domain → SettledPath → Type 0
 IsGoodPath d (Along paths) = AreBranches d paths × AreFew d paths
-IsGoodPath d (Between bridge stations) = IsToStations d bridge stations
+IsGoodPath d (Between bridge stations shut) = IsToStations d bridge stations
+
+-- the same past links that are shut
+pub good_past : (d : Domain) (shut : List Bool) (path : SettledPath) → IsGoodPath d path → IsGoodPath d (past shut path)
+good_past d shut (Along paths) good = good
+good_past d shut (Between bridge stations before) good = good
 
 -- what a settled stream has of this
 pub record IsReady (d : Domain) (stream : SettledStream) : Type 0 where
@@ -207,8 +212,8 @@ module _ (network : NetworkDomain) (cycle other : ℕ) where
       let d : Domain = domain_at network cycle in
       let (entrance, entered, rest) = and_then-Ok (ok_or (entrance_at network (node_named d from)) fault.NoTalker) _ path e in
       let (stations, named, more) = and_then-Ok (stations_by_name d to) _ path rest in
-      let parts = refuse-Ok (first_apart d entrance.bridge to) fault.NoWay (Ok (Between entrance.bridge stations)) path more in
-      let is : Between entrance.bridge stations ≡ path = let h = parts.1 in cc in
+      let parts = refuse-Ok (first_apart d entrance.bridge to) fault.NoWay (Ok (Between entrance.bridge stations [])) path more in
+      let is : Between entrance.bridge stations [] ≡ path = let h = parts.1 in cc in
       let many : length stations ≡ length to = so_many d to stations named in
       let good : IsToStations (domain_at network other) entrance.bridge stations = record {
         inside = entrance_there network d from entrance talkers refl (ok_or-Ok _ fault.NoTalker entrance entered);

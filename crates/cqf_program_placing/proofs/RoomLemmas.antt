@@ -41,19 +41,20 @@ use Rattle.cqf_program_placing.specs.declared.faults.PlanFault.TheVariants as fa
 use Rattle.cqf_program_placing.specs.declared.active_cycles.ActiveCycles.{ActiveCycles}
 use Rattle.cqf_program_placing.specs.declared.active_cycles.ActiveCycles.TheVariants.{Given, Chosen}
 use Rattle.cqf_program_placing.specs.Placing.{AreChosenFor, AreFound, ArePlacedFrom, AreRoomy, AreTaken, AreTakenBetween, AreTakenBy, AreTakenFor, FindsRoom, IsAnswered, IsAskedFor, IsFirstPhase}
-use Rattle.cqf_program_placing.specs.Placing.{IsFirstRoomy, IsFull, IsPlacedBy, IsPlacing, IsRouted, Placed, PlacedOr, Unplaced, answered, given_or_chosen, is_roomy, names_along, reserved_on}
+use Rattle.cqf_program_placing.specs.Placing.{IsFirstRoomy, IsFull, IsPlacedBy, IsPlacedPast, IsPlacing, IsRouted, Placed, PlacedOr, Unplaced, answered, given_or_chosen, is_roomy, names_along, reserved_on}
 use Rattle.cqf_program_placing.specs.Placing.{active_cycles_on}
 use Rattle.cqf_program_placing.specs.Hops.{AreLeftAfter}
+use Rattle.cqf_program_placing.specs.Apart.{lefts_past}
 use Rattle.cqf_program_placing.specs.ActiveCycles.{AreGoodActiveCycles, IsChosenBy, IsGoodEvery, IsLeastLoaded, IsPhaseAlong, IsPhaseOnTree, MayBeFirst, every_in, lefts_on, loads_with, pace_by, shares_with}
 use Rattle.cqf_program_placing.specs.Room.{ArePlacedByRoomFrom, HasEmptiestRoom, HasNoRoom, HasRoomIn, HasRoomInPhase, HaveRoom, IsEmptiestFault, IsPlacedAlong, IsPlacedBetween, IsPlacedByRoom}
-use Rattle.cqf_program_placing.specs.Room.{IsPlacedInPhase, IsPlacedInSomePhase, IsPlacedOnPath, IsPlacedWith, IsReadStream, MayBePaths, PlacedWhereThereIsRoom, hops_on_paths}
-use Rattle.cqf_program_placing.specs.Settled.{Along, Between, SettledPath, SettledStream, settled_after, settled_next}
+use Rattle.cqf_program_placing.specs.Room.{IsPlacedInPhase, IsPlacedInSomePhase, IsPlacedOnPath, IsPlacedOpen, IsPlacedWith, IsReadStream, MayBePaths, PlacedWhereThereIsRoom, hops_on_paths}
+use Rattle.cqf_program_placing.specs.Settled.{Along, Between, SettledPath, SettledStream, alone, past, settled_after, settled_next}
 use Rattle.cqf_program_placing.proofs.After.{IsAfter, none_after, one_after}
 use Rattle.cqf_program_placing.proofs.FirstBranches.{AreBranches, AreFew, first_branches, first_enough, first_given, none_short, path_there}
 use Rattle.cqf_program_placing.proofs.Loads.{some_as_full}
 use Rattle.cqf_program_placing.proofs.Emptiest.{left_of_hop}
 use Rattle.cqf_program_placing.proofs.IndexLemmas.{reserved_few, reserved_there}
-use Rattle.cqf_program_placing.proofs.ReadyStreams.{IsGoodPath, IsReady, IsToStations, next_ready, reserved_least}
+use Rattle.cqf_program_placing.proofs.ReadyStreams.{IsGoodPath, IsReady, IsToStations, good_past, next_ready, reserved_least}
 use Rattle.cqf_program_placing.proofs.SettledLemmas.{next_stands}
 use Rattle.cqf_program_placing.proofs.Chosen.{few_if_roomy, room_if_roomy, roomy_if_room}
 use Rattle.cqf_program_placing.proofs.EmptiestMost.{full_in_each}
@@ -268,7 +269,7 @@ module _ (one_way : FirstPathIsOne) (no_loop : FirstPathsHaveNoLoop) (parts : Fi
 
   -- ---- a stream between a bridge and stations
 
-  module _ (bridge : ℕ) (stations : List ℕ) (to : IsToStations d bridge stations) where
+  module _ (bridge : ℕ) (stations : List ℕ) (shut : List Bool) (to : IsToStations d bridge stations) where
     -- the branches of the first paths with room are those of a tree
     paths_make : (left : List ℕ) (cost : ℕ) (link_paths : List (List ℕ)) → HaveRoom d left cost bridge stations link_paths → AreBranches d (map (names_along d bridge) link_paths)
     paths_make left cost link_paths roomy = first_branches d good left cost bridge to.inside stations link_paths roomy to.some to.apart room no_loop parts
@@ -283,7 +284,7 @@ module _ (one_way : FirstPathIsOne) (no_loop : FirstPathsHaveNoLoop) (parts : Fi
     found_make left cost paths found = subst (AreBranches d) (sym found.are) (paths_make left cost found.link_paths found.first)
 
     -- a station that is full has none
-    full_has_none : (left : List ℕ) (cost : ℕ) (found : PlanFault) (link_paths : List (List ℕ)) → IsFull d left cost bridge stations found →
+    full_has_none : (left : List ℕ) (cost : ℕ) (found : PlanFault) (link_paths : List (List ℕ)) → IsFull d shut left cost bridge stations found →
         HaveRoom d left cost bridge stations link_paths → ⊥
     full_has_none left cost found link_paths full roomy = not_both left cost bridge stations link_paths full.index roomy full.without
 
@@ -291,15 +292,15 @@ module _ (one_way : FirstPathIsOne) (no_loop : FirstPathsHaveNoLoop) (parts : Fi
 
     module _ (every phase : ℕ) where
       -- each link of the tree has room in it
-      given_room : (left : List ℕ) (cost : ℕ) (paths : List Branch) → AreLeftAfter d rows (pace_by every phase) cost bridge left →
+      given_room : (left : List ℕ) (cost : ℕ) (paths : List Branch) → AreLeftAfter d rows shut (pace_by every phase) cost bridge left →
           AreFound d left cost bridge stations paths → HasRoomIn d rows cost (tree_of d paths) (pace_by every phase)
       given_room left cost paths are found =
           subst (λ (ps : List Branch). HasRoomIn d rows cost (tree_of d ps) (pace_by every phase)) (sym found.are)
-          (first_given d good left cost bridge to.inside stations found.link_paths found.first rows (pace_by every phase) are)
+          (first_given d good left cost bridge to.inside stations found.link_paths found.first rows shut (pace_by every phase) are)
 
       in_phase_so : (name : List ℕ) (octets : ℕ) (routed : Result (List Branch) PlanFault) (become : PlacedOr) (after : List Recorded) →
-          MayAsk d rows name octets → AreGoodActiveCycles (Given every phase) → IsRouted d rows (Given every phase) (cost_of d.overhead octets) (Between bridge stations) routed →
-          IsAnswered d entries name octets (Given every phase) routed become after → IsPlacedInPhase d rows name octets every phase bridge stations become
+          MayAsk d rows name octets → AreGoodActiveCycles (Given every phase) → IsRouted d rows (Given every phase) (cost_of d.overhead octets) (Between bridge stations shut) routed →
+          IsAnswered d entries name octets (Given every phase) routed become after → IsPlacedInPhase d rows name octets every phase bridge stations shut become
       in_phase_so name octets (Ok paths) become after may good_active_cycles routed is =
           let cost : ℕ = cost_of d.overhead octets in
           let left : List ℕ = routed.left in
@@ -321,7 +322,7 @@ module _ (one_way : FirstPathIsOne) (no_loop : FirstPathsHaveNoLoop) (parts : Fi
           }
       in_phase_so name octets (Err found) become after may good_active_cycles routed is =
           let cost : ℕ = cost_of d.overhead octets in
-          let full : IsFull d routed.left cost bridge stations found = routed.found in
+          let full : IsFull d shut routed.left cost bridge stations found = routed.found in
           record {
             left = routed.left;
             are_left = routed.are_left;
@@ -335,15 +336,15 @@ module _ (one_way : FirstPathIsOne) (no_loop : FirstPathsHaveNoLoop) (parts : Fi
 
     module _ (every : ℕ) (good_every : IsGoodEvery every) (cost : ℕ) (some : 1 ≤ cost) where
       abbrev own : SettledPath
-      own = Between bridge stations
+      own = Between bridge stations shut
 
       -- a stream that has room in a phase finds it
-      phase_finds : (phase : ℕ) → HasRoomInPhase d rows every cost bridge stations phase → FindsRoom d rows (Given every phase) cost own false → ⊥
+      phase_finds : (phase : ℕ) → HasRoomInPhase d rows every cost bridge stations shut phase → FindsRoom d rows (Given every phase) cost own false → ⊥
       phase_finds phase has finds = by finds.routed finds.is_routed finds.are_roomy
         where
-          at : (left : List ℕ) → AreLeftAfter d rows (pace_by every phase) cost bridge left → HaveRoom d left cost bridge stations has.link_paths
+          at : (left : List ℕ) → AreLeftAfter d rows shut (pace_by every phase) cost bridge left → HaveRoom d left cost bridge stations has.link_paths
           at left are =
-              subst (λ (xs : List ℕ). HaveRoom d xs cost bridge stations has.link_paths) (left_is_one d rows (pace_by every phase) cost bridge has.left left has.are_left are) has.roomy
+              subst (λ (xs : List ℕ). HaveRoom d xs cost bridge stations has.link_paths) (left_is_one d rows shut (pace_by every phase) cost bridge has.left left has.are_left are) has.roomy
 
           by : (routed : Result (List Branch) PlanFault) → IsRouted d rows (Given every phase) cost own routed →
               AreRoomy d rows (Given every phase) cost routed false → ⊥
@@ -361,11 +362,11 @@ module _ (one_way : FirstPathIsOne) (no_loop : FirstPathsHaveNoLoop) (parts : Fi
               false≢true (lacks ∙ fits)
 
       -- and one that finds room has it
-      phase_has : (phase : ℕ) → FindsRoom d rows (Given every phase) cost own true → HasRoomInPhase d rows every cost bridge stations phase
+      phase_has : (phase : ℕ) → FindsRoom d rows (Given every phase) cost own true → HasRoomInPhase d rows every cost bridge stations shut phase
       phase_has phase finds = by finds.routed finds.is_routed finds.are_roomy
         where
           by : (routed : Result (List Branch) PlanFault) → IsRouted d rows (Given every phase) cost own routed →
-              AreRoomy d rows (Given every phase) cost routed true → HasRoomInPhase d rows every cost bridge stations phase
+              AreRoomy d rows (Given every phase) cost routed true → HasRoomInPhase d rows every cost bridge stations shut phase
           by (Err found) is roomy = absurd (false≢true (sym roomy))
           by (Ok paths) is roomy =
               let found : AreFound d is.left cost bridge stations paths = is.found in
@@ -373,10 +374,10 @@ module _ (one_way : FirstPathIsOne) (no_loop : FirstPathsHaveNoLoop) (parts : Fi
               record { left = is.left; are_left = is.are_left; link_paths = found.link_paths; roomy = found.first; few = subst (AreFew d) found.are few }
 
       -- so it is by the emptiest phases
-      emptiest_finds : HasEmptiestRoom d rows every cost bridge stations → FindsRoom d rows (Chosen every) cost own false → ⊥
+      emptiest_finds : HasEmptiestRoom d rows every cost bridge stations shut → FindsRoom d rows (Chosen every) cost own false → ⊥
       emptiest_finds has finds = by finds.routed finds.is_routed finds.are_roomy
         where
-          at : (left : List ℕ) → left ≡ lefts_on d rows every → HaveRoom d left cost bridge stations has.link_paths
+          at : (left : List ℕ) → left ≡ lefts_past d shut (lefts_on d rows every) → HaveRoom d left cost bridge stations has.link_paths
           at left are = subst (λ (xs : List ℕ). HaveRoom d xs cost bridge stations has.link_paths) (sym are) has.roomy
 
           by : (routed : Result (List Branch) PlanFault) → IsRouted d rows (Chosen every) cost own routed →
@@ -395,11 +396,11 @@ module _ (one_way : FirstPathIsOne) (no_loop : FirstPathsHaveNoLoop) (parts : Fi
               roomy_if_room d rows cost (pace_by every roomy.0) paths tree (room_in_first d rows cost every paths roomy.0 has.phase some least has.within there) in
               false≢true (roomy.2 ∙ fits)
 
-      emptiest_has : FindsRoom d rows (Chosen every) cost own true → HasEmptiestRoom d rows every cost bridge stations
+      emptiest_has : FindsRoom d rows (Chosen every) cost own true → HasEmptiestRoom d rows every cost bridge stations shut
       emptiest_has finds = by finds.routed finds.is_routed finds.are_roomy
         where
           by : (routed : Result (List Branch) PlanFault) → IsRouted d rows (Chosen every) cost own routed →
-              AreRoomy d rows (Chosen every) cost routed true → HasEmptiestRoom d rows every cost bridge stations
+              AreRoomy d rows (Chosen every) cost routed true → HasEmptiestRoom d rows every cost bridge stations shut
           by (Err found) is roomy = absurd (false≢true (sym roomy))
           by (Ok paths) is roomy =
               let found : AreFound d is.left cost bridge stations paths = is.found in
@@ -415,8 +416,8 @@ module _ (one_way : FirstPathIsOne) (no_loop : FirstPathsHaveNoLoop) (parts : Fi
               }
 
       -- a stream that is offered in each cycle has room in each link's only phase
-      each_has : every ≡ 1 → (link_paths : List (List ℕ)) → HaveRoom d (lefts_on d rows every) cost bridge stations link_paths →
-          hops_on_paths d bridge link_paths ≤ hops_within d.limits → HasEmptiestRoom d rows every cost bridge stations
+      each_has : every ≡ 1 → (link_paths : List (List ℕ)) → HaveRoom d (lefts_past d shut (lefts_on d rows every)) cost bridge stations link_paths →
+          hops_on_paths d bridge link_paths ≤ hops_within d.limits → HasEmptiestRoom d rows every cost bridge stations shut
       each_has each link_paths roomy few = record {
         link_paths = link_paths;
         roomy = roomy;
@@ -424,7 +425,7 @@ module _ (one_way : FirstPathIsOne) (no_loop : FirstPathsHaveNoLoop) (parts : Fi
         phase = 0;
         within = omega (arith, each);
         room = subst (λ (e : ℕ). HasRoomIn d rows cost (tree_of d (map (names_along d bridge) link_paths)) (pace_by e 0)) (sym each)
-            (first_enough d good (lefts_on d rows every) cost bridge to.inside stations link_paths roomy rows every refl each);
+            (first_enough d good (lefts_past d shut (lefts_on d rows every)) cost bridge to.inside stations link_paths roomy rows shut every refl each);
       }
 
     module _ (every : ℕ) (good_every : IsGoodEvery every) (name : List ℕ) (octets : ℕ) (may : MayAsk d rows name octets) (become : PlacedOr)
@@ -436,9 +437,9 @@ module _ (one_way : FirstPathIsOne) (no_loop : FirstPathsHaveNoLoop) (parts : Fi
       some_price = omega (arith, may.least_octets)
 
       -- it finds room by the emptiest phases
-      by_emptiest : (routed : Result (List Branch) PlanFault) → FindsRoom d rows (Chosen every) price (Between bridge stations) true →
-          IsRouted d rows (Chosen every) price (Between bridge stations) routed → IsAnswered d entries name octets (Chosen every) routed become after →
-          IsPlacedInSomePhase d rows name octets every bridge stations become
+      by_emptiest : (routed : Result (List Branch) PlanFault) → FindsRoom d rows (Chosen every) price (Between bridge stations shut) true →
+          IsRouted d rows (Chosen every) price (Between bridge stations shut) routed → IsAnswered d entries name octets (Chosen every) routed become after →
+          IsPlacedInSomePhase d rows name octets every bridge stations shut become
       by_emptiest (Err found) finds is answer =
           let has = emptiest_has every good_every price some_price finds in
           absurd (full_has_none is.left price found has.link_paths is.found
@@ -446,9 +447,9 @@ module _ (one_way : FirstPathIsOne) (no_loop : FirstPathsHaveNoLoop) (parts : Fi
       by_emptiest (Ok paths) finds is answer =
           let has = emptiest_has every good_every price some_price finds in
           let found : AreFound d is.left price bridge stations paths = is.found in
-          let at : (link_paths : List (List ℕ)) → HaveRoom d (lefts_on d rows every) price bridge stations link_paths → paths ≡ map (names_along d bridge) link_paths =
+          let at : (link_paths : List (List ℕ)) → HaveRoom d (lefts_past d shut (lefts_on d rows every)) price bridge stations link_paths → paths ≡ map (names_along d bridge) link_paths =
           λ link_paths roomy. found_are is.left price paths link_paths found (subst (λ (xs : List ℕ). HaveRoom d xs price bridge stations link_paths) (sym is.are_left) roomy) in
-          let along : (link_paths : List (List ℕ)) → HaveRoom d (lefts_on d rows every) price bridge stations link_paths → hops_on_paths d bridge link_paths ≤ hops_within d.limits →
+          let along : (link_paths : List (List ℕ)) → HaveRoom d (lefts_past d shut (lefts_on d rows every)) price bridge stations link_paths → hops_on_paths d bridge link_paths ≤ hops_within d.limits →
           IsPlacedAlong d rows name octets (Chosen every) (map (names_along d bridge) link_paths) become = λ link_paths roomy few.
           subst (λ (ps : List Branch). IsPlacedAlong d rows name octets (Chosen every) ps become) (at link_paths roomy)
           (along_so name octets (Chosen every) paths become after may good_every (found_make is.left price paths found)
@@ -464,22 +465,22 @@ module _ (one_way : FirstPathIsOne) (no_loop : FirstPathsHaveNoLoop) (parts : Fi
             emptiest = λ link_paths roomy few phase low room. along link_paths roomy few;
             each_cycle = λ each link_paths roomy few.
                 each_so name octets (Chosen every) (map (names_along d bridge) link_paths) become good_every each (along link_paths roomy few)
-                (first_enough d good (lefts_on d rows every) price bridge to.inside stations link_paths roomy rows every refl each);
+                (first_enough d good (lefts_past d shut (lefts_on d rows every)) price bridge to.inside stations link_paths roomy rows shut every refl each);
             first = λ lacks phase low room before. absurd (lacks has);
             unplaced = λ lacks none. absurd (lacks has);
           }
 
       -- or else in a phase
-      by_phase : (phase : ℕ) (routed : Result (List Branch) PlanFault) → FindsRoom d rows (Chosen every) price (Between bridge stations) false →
-          IsFirstPhase d rows every price (Between bridge stations) phase → IsRouted d rows (Given every phase) price (Between bridge stations) routed →
-          IsAnswered d entries name octets (Given every phase) routed become after → IsPlacedInSomePhase d rows name octets every bridge stations become
+      by_phase : (phase : ℕ) (routed : Result (List Branch) PlanFault) → FindsRoom d rows (Chosen every) price (Between bridge stations shut) false →
+          IsFirstPhase d rows every price (Between bridge stations shut) phase → IsRouted d rows (Given every phase) price (Between bridge stations shut) routed →
+          IsAnswered d entries name octets (Given every phase) routed become after → IsPlacedInSomePhase d rows name octets every bridge stations shut become
       by_phase phase routed lacks_first first is answer =
           let has = phase_has every good_every price some_price phase first.roomy in
           let here = in_phase_so every phase name octets routed become after may (is_good_pace every phase good_every first.within) is answer in
-          let at : (xs : HasRoomInPhase d rows every price bridge stations phase) → become ≡ Placed (asked_with name octets every phase (map (names_along d bridge) xs.link_paths)) =
+          let at : (xs : HasRoomInPhase d rows every price bridge stations shut phase) → become ≡ Placed (asked_with name octets every phase (map (names_along d bridge) xs.link_paths)) =
           λ xs. here.placed xs.link_paths (subst (λ (left : List ℕ). HaveRoom d left price bridge stations xs.link_paths)
-          (left_is_one d rows (pace_by every phase) price bridge xs.left here.left xs.are_left here.are_left) xs.roomy) xs.few in
-          let no_emptiest : ¬ HasEmptiestRoom d rows every price bridge stations = λ room. emptiest_finds every good_every price some_price room lacks_first in
+          (left_is_one d rows shut (pace_by every phase) price bridge xs.left here.left xs.are_left here.are_left) xs.roomy) xs.few in
+          let no_emptiest : ¬ HasEmptiestRoom d rows every price bridge stations shut = λ room. emptiest_finds every good_every price some_price room lacks_first in
           record {
             placed = λ other low room. record { phase = phase; within = first.within; paths = map (names_along d bridge) has.link_paths; is = at has };
             emptiest = λ link_paths roomy few other low room.
@@ -491,7 +492,7 @@ module _ (one_way : FirstPathIsOne) (no_loop : FirstPathsHaveNoLoop) (parts : Fi
                 | inl less ↦ absurd (before phase less has)
                 | inr rest ↦
                     let same : phase ≡ other = omega (arith, more, rest) in
-                    subst (λ (n : ℕ). (xs : HasRoomInPhase d rows every price bridge stations n) →
+                    subst (λ (n : ℕ). (xs : HasRoomInPhase d rows every price bridge stations shut n) →
                     become ≡ Placed (asked_with name octets every n (map (names_along d bridge) xs.link_paths))) same at room
               ]
             ];
@@ -509,14 +510,14 @@ module _ (one_way : FirstPathIsOne) (no_loop : FirstPathsHaveNoLoop) (parts : Fi
         | inr enough ↦ enough
       ]
 
-      fault_so : (routed : Result (List Branch) PlanFault) → ¬ HasEmptiestRoom d rows every price bridge stations →
-          IsRouted d rows (Chosen every) price (Between bridge stations) routed → IsAnswered d entries name octets (Chosen every) routed become after →
-          (found : PlanFault) × (become ≡ Unplaced found) × IsEmptiestFault d rows every price bridge stations found
+      fault_so : (routed : Result (List Branch) PlanFault) → ¬ HasEmptiestRoom d rows every price bridge stations shut →
+          IsRouted d rows (Chosen every) price (Between bridge stations shut) routed → IsAnswered d entries name octets (Chosen every) routed become after →
+          (found : PlanFault) × (become ≡ Unplaced found) × IsEmptiestFault d rows every price bridge stations shut found
       fault_so (Err found) lacks is answer =
-          (found, answer.0, inl (subst (λ (xs : List ℕ). IsFull d xs price bridge stations found) is.are_left is.found))
+          (found, answer.0, inl (subst (λ (xs : List ℕ). IsFull d shut xs price bridge stations found) is.are_left is.found))
       fault_so (Ok paths) lacks is answer =
           subst (λ (ps : List Branch). IsAnswered d entries name octets (Chosen every) (Ok ps) become after →
-          (found : PlanFault) × (become ≡ Unplaced found) × IsEmptiestFault d rows every price bridge stations found) (sym is.found.are) on answer
+          (found : PlanFault) × (become ≡ Unplaced found) × IsEmptiestFault d rows every price bridge stations shut found) (sym is.found.are) on answer
         where
           link_paths : List (List ℕ)
           link_paths = is.found.link_paths
@@ -524,18 +525,18 @@ module _ (one_way : FirstPathIsOne) (no_loop : FirstPathsHaveNoLoop) (parts : Fi
           names : List Branch
           names = map (names_along d bridge) link_paths
 
-          roomy : HaveRoom d (lefts_on d rows every) price bridge stations link_paths
+          roomy : HaveRoom d (lefts_past d shut (lefts_on d rows every)) price bridge stations link_paths
           roomy = subst (λ (xs : List ℕ). HaveRoom d xs price bridge stations link_paths) is.are_left is.found.first
 
           branches : AreBranches d names
-          branches = paths_make (lefts_on d rows every) price link_paths roomy
+          branches = paths_make (lefts_past d shut (lefts_on d rows every)) price link_paths roomy
 
           few_so : AreFew d names → IsPlacedAlong d rows name octets (Chosen every) names become →
-              (found : PlanFault) × (become ≡ Unplaced found) × IsEmptiestFault d rows every price bridge stations found
+              (found : PlanFault) × (become ≡ Unplaced found) × IsEmptiestFault d rows every price bridge stations shut found
           few_so few along = by (short_link d rows price (pace_by every along.phase) (tree_of d names)) refl
             where
               by : (o : Option ℕ) → short_link d rows price (pace_by every along.phase) (tree_of d names) ≡ o →
-                  (found : PlanFault) × (become ≡ Unplaced found) × IsEmptiestFault d rows every price bridge stations found
+                  (found : PlanFault) × (become ≡ Unplaced found) × IsEmptiestFault d rows every price bridge stations shut found
               by None e = absurd (lacks (record {
                 link_paths = link_paths;
                 roomy = roomy;
@@ -551,7 +552,7 @@ module _ (one_way : FirstPathIsOne) (no_loop : FirstPathsHaveNoLoop) (parts : Fi
               )
 
           on : IsAnswered d entries name octets (Chosen every) (Ok names) become after →
-              (found : PlanFault) × (become ≡ Unplaced found) × IsEmptiestFault d rows every price bridge stations found
+              (found : PlanFault) × (become ≡ Unplaced found) × IsEmptiestFault d rows every price bridge stations shut found
           on said = elim (cases_lt (hops_within d.limits) (length (tree_of d names))) [
             | inl many ↦ (
               fault.Refused refused.TooManyHops,
@@ -562,10 +563,10 @@ module _ (one_way : FirstPathIsOne) (no_loop : FirstPathsHaveNoLoop) (parts : Fi
           ]
 
       -- or in none
-      by_none : (routed : Result (List Branch) PlanFault) → ¬ HasEmptiestRoom d rows every price bridge stations →
-          ((phase : ℕ) → phase < every → ¬ HasRoomInPhase d rows every price bridge stations phase) →
-          IsRouted d rows (Chosen every) price (Between bridge stations) routed → IsAnswered d entries name octets (Chosen every) routed become after →
-          IsPlacedInSomePhase d rows name octets every bridge stations become
+      by_none : (routed : Result (List Branch) PlanFault) → ¬ HasEmptiestRoom d rows every price bridge stations shut →
+          ((phase : ℕ) → phase < every → ¬ HasRoomInPhase d rows every price bridge stations shut phase) →
+          IsRouted d rows (Chosen every) price (Between bridge stations shut) routed → IsAnswered d entries name octets (Chosen every) routed become after →
+          IsPlacedInSomePhase d rows name octets every bridge stations shut become
       by_none routed no_emptiest no_phase is answer = record {
         placed = λ phase low room. absurd (no_phase phase low room);
         emptiest = λ link_paths roomy few other low room.
@@ -576,48 +577,48 @@ module _ (one_way : FirstPathIsOne) (no_loop : FirstPathsHaveNoLoop) (parts : Fi
       }
 
       -- by the cycles that it takes
-      chosen_so : (taken : ActiveCycles) (routed : Result (List Branch) PlanFault) → AreChosenFor d rows every price (Between bridge stations) taken →
-          IsRouted d rows taken price (Between bridge stations) routed → IsAnswered d entries name octets taken routed become after →
-          IsPlacedInSomePhase d rows name octets every bridge stations become
+      chosen_so : (taken : ActiveCycles) (routed : Result (List Branch) PlanFault) → AreChosenFor d rows every price (Between bridge stations shut) taken →
+          IsRouted d rows taken price (Between bridge stations shut) routed → IsAnswered d entries name octets taken routed become after →
+          IsPlacedInSomePhase d rows name octets every bridge stations shut become
       chosen_so taken routed are is answer = by_routed are.routed are.is_routed are.are_taken
         where
-          routed_in : (active_cycles : ActiveCycles) → taken ≡ active_cycles → IsRouted d rows active_cycles price (Between bridge stations) routed
-          routed_in active_cycles same = subst (λ (t : ActiveCycles). IsRouted d rows t price (Between bridge stations) routed) same is
+          routed_in : (active_cycles : ActiveCycles) → taken ≡ active_cycles → IsRouted d rows active_cycles price (Between bridge stations shut) routed
+          routed_in active_cycles same = subst (λ (t : ActiveCycles). IsRouted d rows t price (Between bridge stations shut) routed) same is
 
           answer_in : (active_cycles : ActiveCycles) → taken ≡ active_cycles → IsAnswered d entries name octets active_cycles routed become after
           answer_in active_cycles same = subst (λ (t : ActiveCycles). IsAnswered d entries name octets t routed become after) same answer
 
-          by_first : FindsRoom d rows (Chosen every) price (Between bridge stations) false → (first : Option ℕ) →
-              IsFirstRoomy d rows every price (Between bridge stations) first → taken ≡ given_or_chosen every first →
-              IsPlacedInSomePhase d rows name octets every bridge stations become
+          by_first : FindsRoom d rows (Chosen every) price (Between bridge stations shut) false → (first : Option ℕ) →
+              IsFirstRoomy d rows every price (Between bridge stations shut) first → taken ≡ given_or_chosen every first →
+              IsPlacedInSomePhase d rows name octets every bridge stations shut become
           by_first lacks None none same =
               by_none routed (λ room. emptiest_finds every good_every price some_price room lacks)
               (λ phase low room. phase_finds every good_every price some_price phase room (none phase low)) (routed_in (Chosen every) same)
               (answer_in (Chosen every) same)
           by_first lacks (Some phase) first same = by_phase phase routed lacks first (routed_in (Given every phase) same) (answer_in (Given every phase) same)
 
-          by : (roomy : Bool) → FindsRoom d rows (Chosen every) price (Between bridge stations) roomy →
-              AreTakenBy d rows every price (Between bridge stations) roomy taken → IsPlacedInSomePhase d rows name octets every bridge stations become
+          by : (roomy : Bool) → FindsRoom d rows (Chosen every) price (Between bridge stations shut) roomy →
+              AreTakenBy d rows every price (Between bridge stations shut) roomy taken → IsPlacedInSomePhase d rows name octets every bridge stations shut become
           by true finds same = by_emptiest routed finds (routed_in (Chosen every) same) (answer_in (Chosen every) same)
           by false lacks some = by_first lacks some.0 some.1 some.2
 
-          by_routed : (by_choice : Result (List Branch) PlanFault) → IsRouted d rows (Chosen every) price (Between bridge stations) by_choice →
-              AreTakenFor d rows every price (Between bridge stations) by_choice taken → IsPlacedInSomePhase d rows name octets every bridge stations become
+          by_routed : (by_choice : Result (List Branch) PlanFault) → IsRouted d rows (Chosen every) price (Between bridge stations shut) by_choice →
+              AreTakenFor d rows every price (Between bridge stations shut) by_choice taken → IsPlacedInSomePhase d rows name octets every bridge stations shut become
           by_routed (Err found) full same =
-              let full_by_emptiest : IsFull d (lefts_on d rows every) price bridge stations found =
-              subst (λ (xs : List ℕ). IsFull d xs price bridge stations found) full.are_left full.found in
-              by_none routed (λ room. full_has_none (lefts_on d rows every) price found room.link_paths full_by_emptiest room.roomy)
-              (λ phase low room. full_in_each d rows every phase price bridge stations found good_every.some full_by_emptiest room)
+              let full_by_emptiest : IsFull d shut (lefts_past d shut (lefts_on d rows every)) price bridge stations found =
+              subst (λ (xs : List ℕ). IsFull d shut xs price bridge stations found) full.are_left full.found in
+              by_none routed (λ room. full_has_none (lefts_past d shut (lefts_on d rows every)) price found room.link_paths full_by_emptiest room.roomy)
+              (λ phase low room. full_in_each d rows shut every phase price bridge stations found good_every.some full_by_emptiest room)
               (routed_in (Chosen every) same) (answer_in (Chosen every) same)
           by_routed (Ok paths) found some = by some.0 (record { routed = Ok paths; is_routed = found; are_roomy = some.1 }) some.2
 
     between_so : (name : List ℕ) (octets : ℕ) (active_cycles taken : ActiveCycles) (routed : Result (List Branch) PlanFault) (become : PlacedOr) (after : List Recorded) →
-        MayAsk d rows name octets → AreGoodActiveCycles active_cycles → AreTakenBetween d rows active_cycles (cost_of d.overhead octets) (Between bridge stations) taken →
-        IsRouted d rows taken (cost_of d.overhead octets) (Between bridge stations) routed → IsAnswered d entries name octets taken routed become after →
-        IsPlacedBetween d rows name octets active_cycles bridge stations become
+        MayAsk d rows name octets → AreGoodActiveCycles active_cycles → AreTakenBetween d rows active_cycles (cost_of d.overhead octets) (Between bridge stations shut) taken →
+        IsRouted d rows taken (cost_of d.overhead octets) (Between bridge stations shut) routed → IsAnswered d entries name octets taken routed become after →
+        IsPlacedBetween d rows name octets active_cycles bridge stations shut become
     between_so name octets (Given every phase) taken routed become after may good_active_cycles are is answer =
         in_phase_so every phase name octets routed become after may good_active_cycles
-        (subst (λ (t : ActiveCycles). IsRouted d rows t (cost_of d.overhead octets) (Between bridge stations) routed) are is)
+        (subst (λ (t : ActiveCycles). IsRouted d rows t (cost_of d.overhead octets) (Between bridge stations shut) routed) are is)
         (subst (λ (t : ActiveCycles). IsAnswered d entries name octets t routed become after) are answer)
     between_so name octets (Chosen every) taken routed become after may good_active_cycles are is answer =
         chosen_so every good_active_cycles name octets may become after taken routed are is answer
@@ -630,18 +631,26 @@ module _ (one_way : FirstPathIsOne) (no_loop : FirstPathsHaveNoLoop) (parts : Fi
       along_so name octets active_cycles paths become after may good_active_cycles branches.0 branches.1
       (subst (λ (t : ActiveCycles). IsAskedFor d entries name octets t paths become after) are
       (subst (λ (r : Result (List Branch) PlanFault). IsAnswered d entries name octets taken r become after) given is))
-  on_path_so name octets active_cycles taken (Between bridge stations) routed become after may good_active_cycles to are found is =
-      between_so bridge stations to name octets active_cycles taken routed become after may good_active_cycles are found is
+  on_path_so name octets active_cycles taken (Between bridge stations shut) routed become after may good_active_cycles to are found is =
+      between_so bridge stations shut to name octets active_cycles taken routed become after may good_active_cycles are found is
 
   -- a stream that is ready, under a name that isn't held, while few rows are held
   pub placed_so : (stream : SettledStream) (become : PlacedOr) (after : List Recorded) → IsReady d stream →
       list_any (λ (row : Row). is_text row.name stream.name) (held_in d entries (seals entries)) ≡ false →
       length (held_in d entries (seals entries)) < streams_within d.limits →
-      IsPlacing d entries stream become after → IsPlacedByRoom d (held_in d entries (seals entries)) stream become
+      IsPlacing d entries stream become after → IsPlacedByRoom d entries stream become
   placed_so stream become after ready free few placed = by (reserved_on d.overhead d.cycle_time d.sync stream) refl placed
     where
+      by_shut : (octets : ℕ) → MayAsk d rows stream.name octets → (found : Result (List Bool) PlanFault) →
+          IsPlacedPast d entries stream octets found become after → IsPlacedOpen d rows stream octets found become
+      by_shut octets may (Err found) is = is.0
+      by_shut octets may (Ok shut) is =
+          on_path_so stream.name octets (active_cycles_on d.cycle_time stream) is.taken (past shut stream.path) is.is_placed.routed become after may
+          (active_cycles_good d.cycle_time stream.pacing stream.traffic ready.paced) (good_past d shut stream.path ready.good_path) is.are_taken is.is_placed.is_routed
+          is.is_placed.is_answered
+
       by : (reserved : Result ℕ PlanFault) → reserved_on d.overhead d.cycle_time d.sync stream ≡ reserved → IsPlacedBy d entries stream reserved become after →
-          IsPlacedWith d rows stream reserved become
+          IsPlacedWith d entries stream reserved become
       by (Err found) e is = is.0
       by (Ok octets) e is =
           let may : MayAsk d rows stream.name octets = record {
@@ -652,10 +661,20 @@ module _ (one_way : FirstPathIsOne) (no_loop : FirstPathsHaveNoLoop) (parts : Fi
             name_free = free;
             few = few;
           } in
-          on_path_so stream.name octets (active_cycles_on d.cycle_time stream) is.taken stream.path is.is_placed.routed become after may
-          (active_cycles_good d.cycle_time stream.pacing stream.traffic ready.paced) ready.good_path is.are_taken is.is_placed.is_routed is.is_placed.is_answered
+          record { found = is.found; is_shut = is.is_shut; is_placed = by_shut octets may is.found is.is_placed }
 
 -- ---- streams one after the other
+
+-- a stream is as ready with neighbors
+with_others : (d : Domain) (stream : SettledStream) → IsReady d (alone stream) → IsReady d stream
+with_others d stream ready = record {
+  named = ready.named;
+  reservable = ready.reservable;
+  paced = ready.paced;
+  reserves = ready.reserves;
+  traffic = ready.traffic;
+  good_path = ready.good_path;
+}
 
 -- none
 no_stream : (d : Domain) (entries end : List Recorded) (outcomes : List PlacedOr) → ArePlacedFrom d entries [] outcomes end →
@@ -679,13 +698,13 @@ module _ (goes_on : HistoryGoesOn) (counted : SealsAreCounted) (grants : Granted
 
   -- a stream, and then the others
   one_stream : (names : List (List ℕ)) (text : StreamText) (one : SettledStream) (streams : List SettledStream) (entries end : List Recorded)
-      (outcomes : List PlacedOr) → IsAfter d names entries → IsReadStream text → settled_next network (domain_at network (open_cycle network)) names text ≡ Ok one →
+      (outcomes : List PlacedOr) → IsAfter d names entries → IsReadStream text → settled_next network (domain_at network (open_cycle network)) names text ≡ Ok (alone one) →
       ((after : List Recorded) (more : List PlacedOr) → IsAfter d (names ++ text.name ∷ []) after → ArePlacedFrom d after streams more end →
       ArePlacedByRoomFrom d after streams more end) → ArePlacedFrom d entries (one ∷ streams) outcomes end → ArePlacedByRoomFrom d entries (one ∷ streams) outcomes end
   one_stream names text one streams entries end [] following read settled rest placed = absurd placed
   one_stream names text one streams entries end (become ∷ more) following read settled rest placed =
-      let stands = next_stands network (domain_at network (open_cycle network)) names text one settled in
-      let ready = next_ready network (open_cycle network) cycle names text one is_network.has_talkers read settled in
+      let stands = next_stands network (domain_at network (open_cycle network)) names text (alone one) settled in
+      let ready = with_others d one (next_ready network (open_cycle network) cycle names text (alone one) is_network.has_talkers read settled) in
       let rows : List Row = held_in d entries (seals entries) in
       let free = free_name names rows text.name one.name stands.own_name stands.not_held following.named in
       let few : length rows < streams_within d.limits = omega (arith, following.few_rows, stands.few_set) in
@@ -696,20 +715,27 @@ module _ (goes_on : HistoryGoesOn) (counted : SealsAreCounted) (grants : Granted
 
   -- all of them
   pub all_streams : (names : List (List ℕ)) (texts : List StreamText) (streams : List SettledStream) (entries end : List Recorded) (outcomes : List PlacedOr) →
-      IsAfter d names entries → All IsReadStream texts → settled_after network (domain_at network (open_cycle network)) names texts ≡ Ok streams →
+      IsAfter d names entries → All IsReadStream texts → settled_after network (domain_at network (open_cycle network)) names texts ≡ Ok (map alone streams) →
       ArePlacedFrom d entries streams outcomes end → ArePlacedByRoomFrom d entries streams outcomes end
-  all_streams names [] streams entries end outcomes following read settled placed =
-      let nil : [] ≡ streams = cc in
-      subst (λ (ss : List SettledStream). ArePlacedFrom d entries ss outcomes end → ArePlacedByRoomFrom d entries ss outcomes end) nil
-      (no_stream d entries end outcomes) placed
-  all_streams names (text ∷ texts) streams entries end outcomes following read settled placed =
+  all_streams names [] [] entries end outcomes following read settled placed = no_stream d entries end outcomes placed
+  all_streams names [] (one ∷ streams) entries end outcomes following read settled placed =
+      let none : settled_after network (domain_at network (open_cycle network)) names [] ≡ Ok (alone one ∷ map alone streams) = settled in absurd cc
+  all_streams names (text ∷ texts) [] entries end outcomes following read settled placed =
       let plan : Domain = domain_at network (open_cycle network) in
-      let both = and_first-Ok (settled_next network plan names text) (settled_after network plan (names ++ text.name ∷ []) texts) streams settled in
+      let both = and_first-Ok (settled_next network plan names text) (settled_after network plan (names ++ text.name ∷ []) texts) [] settled in
+      let more = both.all in absurd cc
+  all_streams names (text ∷ texts) (one ∷ streams) entries end outcomes following read settled placed =
+      let plan : Domain = domain_at network (open_cycle network) in
+      let both = and_first-Ok (settled_next network plan names text) (settled_after network plan (names ++ text.name ∷ []) texts) (map alone (one ∷ streams)) settled in
+      let all : alone one ∷ map alone streams ≡ both.one ∷ both.more = both.all in
+      let first_is : alone one ≡ both.one = cc in
+      let rest_are : map alone streams ≡ both.more = cc in
       let first : IsReadStream text = All-contains IsReadStream (text ∷ texts) text read (contains_here text texts) in
       let others : All IsReadStream texts = λ k x low. read (suc k) x (omega (arith, low)) in
-      subst (λ (ss : List SettledStream). ArePlacedFrom d entries ss outcomes end → ArePlacedByRoomFrom d entries ss outcomes end) (sym both.all)
-      (one_stream names text both.one both.more entries end outcomes following first both.first_is
-      (λ after more next later. all_streams (names ++ text.name ∷ []) texts both.more after end more next others both.others_are later)) placed
+      one_stream names text one streams entries end outcomes following first (both.first_is ∙ ap (λ (s : SettledStream). Ok s) (sym first_is))
+      (λ after more next later.
+      all_streams (names ++ text.name ∷ []) texts streams after end more next others
+      (both.others_are ∙ ap (λ (ss : List SettledStream). Ok ss) (sym rest_are)) later) placed
 
 -- so the streams of a network file are
 pub placed_by_room : HistoryGoesOn → SealsAreCounted → GrantedIsHeld → RefusedChangesNothing → FirstPathIsOne → FirstPathsHaveNoLoop → FirstPathsPartForGood →

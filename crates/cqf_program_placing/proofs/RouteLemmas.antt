@@ -1,13 +1,14 @@
 -- Paths of a domain as branches, and links that lack room.
-use Rattle.std.proofs.Common.{◌≡◌, ◌∙◌, ◌+◌, ◌<◌, ◌++◌, ℕ, Bool, true, List, [], ◌∷◌, Option, Some, None, Ok, Contains, inl, inr, length, get_or, map, take, arith, ap, refl, subst, sym, append_assoc}
-use Rattle.std.specs.Prelude.{not, option_and_then, option_map, slice_get}
+use Rattle.std.proofs.Common.{◌≡◌, ◌∙◌, ◌+◌, ◌<◌, ◌++◌, ℕ, Bool, true, List, [], ◌∷◌, Option, Some, None, Ok, Contains, inl, inr, length, get_or, map, take, arith, ap, refl, subst, subst₂, sym, append_assoc}
+use Rattle.std.specs.Prelude.{false, if◌then◌else◌, nat_le, not, option_and_then, option_map, slice_get}
 use Rattle.std.specs.List.{list_all}
 use Rattle.std.specs.Option.{option_map_or}
 use Rattle.std.proofs.lemmas.List.{map_more, map_push}
+use Rattle.std.proofs.lemmas.Bool.{and_from, and_parts}
 use Rattle.std.proofs.lemmas.Simd.{map-map}
 use Rattle.std.proofs.lemmas.Option.{get_or_from_slice_get, slice_get-get_or, slice_get_within}
 use Rattle.cqf_lists.proofs.EachBelow.{get_or-singles, length-singles}
-use Rattle.cqf_lists.proofs.Members.{contains_cases, contains_none, find_member}
+use Rattle.cqf_lists.proofs.Members.{contains_cases, contains_here, contains_later, contains_none, find_member}
 use Rattle.cqf_model.specs.declared.topology.Link.{Link}
 use Rattle.cqf_model.specs.declared.topology.Node.{Node}
 use Rattle.cqf_model.specs.declared.topology.Node.TheVariants.{Bridge, Station}
@@ -17,9 +18,9 @@ use Rattle.cqf_model.specs.History.{Branch}
 use Rattle.cqf_model.proofs.Represented.{few_links, few_bridges}
 use Rattle.arrayvec.specs.ArrayVec.{ArrayVec}
 use Rattle.cqf_network.specs.Listeners.{AreFirstPaths, IsFirstWithout}
-use Rattle.cqf_network.specs.PathLaws.{FullPathsHaveAShortLink, NothingHasRoomEverywhere}
+use Rattle.cqf_network.specs.PathLaws.{FullPathsHaveAShortLink}
 use Rattle.cqf_network.specs.Steps.{led_along}
-use Rattle.cqf_network.specs.Paths.{AreLinks, IsFirstPath, NoWay, has_room, led_by, led_to, most_links, short_link}
+use Rattle.cqf_network.specs.Paths.{AreLinks, IsFirstPath, IsPath, NoWay, has_room, led_by, led_to, most_links, short_link}
 use Rattle.cqf_topology.specs.NodeNames.{name_of_bridge, name_of_node}
 use Rattle.cqf_program_plans.specs.EndNames.{name_of_end}
 use Rattle.cqf_program_placing.specs.declared.faults.PlanFault.{PlanFault}
@@ -28,8 +29,9 @@ use Rattle.cqf_program_placing.specs.Placing.{AreFound, IsFull, IsFullTo, IsRout
 use Rattle.cqf_program_placing.specs.declared.routes.Unrouted.{Unrouted}
 use Rattle.cqf_program_placing.specs.declared.routes.Unrouted.TheVariants as unrouted
 use Rattle.cqf_program_placing.specs.declared.active_cycles.ActiveCycles.TheVariants.{Given, Chosen}
+use Rattle.cqf_program_placing.specs.Apart.{AreLedPast, IsCutOff, is_open_link, is_shut, lefts_past, open_lefts}
 use Rattle.cqf_program_placing.specs.Hops.{AreLeftAfter}
-use Rattle.cqf_program_placing.specs.Routes.{AreReached, IsFullFor, IsReached, IsUnrouted}
+use Rattle.cqf_program_placing.specs.Routes.{AreReached, IsFullFor, IsFullToFor, IsReached, IsUnrouted}
 use Rattle.cqf_program_placing.specs.Settled.{Between, IsOnPath, is_led}
 use Rattle.cqf_program_placing.specs.ActiveCycles.{left_emptiest, lefts_on, pace_by}
 use Rattle.cqf_program_placing.proofs.LedLemmas.{led_has_path}
@@ -109,7 +111,7 @@ all_pass (l ∷ path) = all_pass path
 
 -- if links lead to a station, it is reached
 led_reached : (d : Domain) (most bridge station : ℕ) → most ≡ most_links → station < length d.stations →
-    is_led d.links most (Bridge bridge) (Station station) ≡ true → IsReached d bridge station
+    is_led d.links most (Bridge bridge) (Station station) ≡ true → IsReached d [] bridge station
 led_reached d most bridge station is inside led =
     let w = led_has_path d.links most (Bridge bridge) (Station station) led in
     record {
@@ -119,56 +121,124 @@ led_reached d most bridge station is inside led =
     }
 
 -- so the stations of a settled stream are
-pub all_reached : (d : Domain) (bridge : ℕ) (stations : List ℕ) → IsOnPath d (Between bridge stations) → AreReached d bridge stations
-all_reached d bridge stations on_path k station stands =
+pub all_reached : (d : Domain) (bridge : ℕ) (stations : List ℕ) (shut : List Bool) → IsOnPath d (Between bridge stations shut) → AreReached d [] bridge stations
+all_reached d bridge stations shut on_path k station stands =
     let below = slice_get_within stations k station stands in
     let here = on_path.1 k station below in
     let same : get_or stations k station ≡ station = get_or_from_slice_get stations k station station stands in
     led_reached d 16 bridge station refl (subst (λ (s : ℕ). s < length d.stations) same here.0)
     (subst (λ (s : ℕ). is_led d.links 16 (Bridge bridge) (Station s) ≡ true) same here.1)
 
--- for a reached station: a path leads to it at no cost
-pub must_lead : (d : Domain) (links : List Link) (left : List ℕ) (bridge station : ℕ) → NothingHasRoomEverywhere → links ≡ d.links →
-    length left ≡ length d.links → IsReached d bridge station → NoWay links (has_room left 0) (Bridge bridge) (Station station) → ⊥
-must_lead d links left bridge station for_nothing are many reached none =
-    let none_there : NoWay d.links (has_room left 0) (Bridge bridge) (Station station) =
-    subst (λ (ls : List Link). NoWay ls (has_room left 0) (Bridge bridge) (Station station)) are none in
-    (for_nothing d.links left (Bridge bridge) (Station station) [] many).1 none_there reached.path reached.is_path
+-- ---- past links that are shut
 
--- the first path at no cost is the first of all
-pub first_of_all : (d : Domain) (links : List Link) (left : List ℕ) (bridge station : ℕ) (path : List ℕ) → NothingHasRoomEverywhere → links ≡ d.links →
-    length left ≡ length d.links → IsFirstPath links (has_room left 0) (Bridge bridge) (Station station) path →
-    IsFirstPath d.links (λ l. true) (Bridge bridge) (Station station) path
-first_of_all d links left bridge station path for_nothing are many first =
-    (for_nothing d.links left (Bridge bridge) (Station station) path many).0
-    (subst (λ (ls : List Link). IsFirstPath ls (has_room left 0) (Bridge bridge) (Station station) path) are first)
+-- a path has room by another test that its links pass too
+path_by : (links : List Link) (room other : ℕ → Bool) (from to : Node) (path : List ℕ) → ((l : ℕ) → l < length links → room l ≡ other l) →
+    IsPath links room from to path → IsPath links other from to path
+path_by links room other from to path same is =
+    record { leads = is.leads; roomy = all_by path (path_inside links from to path is.leads) is.roomy; few = is.few }
+  where
+    all_by : (path : List ℕ) → ((l : ℕ) → Contains path l → l < length links) → list_all room path ≡ true → list_all other path ≡ true
+    all_by [] inside all = refl
+    all_by (l ∷ path) inside all =
+        let parts = and_parts (room l) (list_all room path) all in
+        and_from (other l) (list_all other path) (sym (same l (inside l (contains_here l path))) ∙ parts.0)
+        (all_by path (λ k c. inside k (contains_later l path k c)) parts.1)
 
--- if no path has room, the first of all lacks room
-pub must_lack : (d : Domain) (left : List ℕ) (cost bridge station : ℕ) (path : List ℕ) → FullPathsHaveAShortLink →
-    NoWay d.links (has_room left cost) (Bridge bridge) (Station station) → IsFirstPath d.links (λ l. true) (Bridge bridge) (Station station) path →
+-- so the first path by one is the first by the other
+first_by : (links : List Link) (room other : ℕ → Bool) (from to : Node) (path : List ℕ) → ((l : ℕ) → l < length links → room l ≡ other l) →
+    IsFirstPath links room from to path → IsFirstPath links other from to path
+first_by links room other from to path same first =
+    let back : (l : ℕ) → l < length links → other l ≡ room l = λ l low. sym (same l low) in
+    record {
+      is_path = path_by links room other from to path same first.is_path;
+      shortest = λ next is. first.shortest next (path_by links other room from to next back is);
+      least = λ next is many. first.least next (path_by links other room from to next back is) many;
+    }
+
+-- at a cost of 1, the links that are open have room
+open_room : (d : Domain) (shut : List Bool) (l : ℕ) → l < length d.links → has_room (open_lefts d shut) 1 l ≡ is_open_link shut l
+open_room d shut l inside = ap (λ (o : Option ℕ). option_map_or (λ octets. nat_le 1 octets) o false) at ∙ by (is_shut shut l)
+  where
+    one : ℕ → ℕ
+    one k = if is_shut shut k then 0 else 1
+
+    many : length (open_lefts d shut) ≡ length d.links
+    many = length-singles one (length d.links)
+
+    at : slice_get (open_lefts d shut) l ≡ Some (one l)
+    at =
+        let low : l < length (open_lefts d shut) = omega (arith, inside, many) in
+        slice_get-get_or (open_lefts d shut) l 0 low ∙ ap (λ (n : ℕ). Some n) (get_or-singles one (length d.links) l 0 inside)
+
+    by : (b : Bool) → nat_le 1 (if b then 0 else 1) ≡ not b
+    by true = refl
+    by false = refl
+
+pub first_open : (d : Domain) (links : List Link) (shut : List Bool) (left : List ℕ) (bridge : ℕ) (to : Node) (path : List ℕ) → links ≡ d.links →
+    left ≡ open_lefts d shut → IsFirstPath links (has_room left 1) (Bridge bridge) to path → IsFirstPath d.links (is_open_link shut) (Bridge bridge) to path
+first_open d links shut left bridge to path are left_is first =
+    first_by d.links (has_room (open_lefts d shut) 1) (is_open_link shut) (Bridge bridge) to path (open_room d shut)
+    (subst₂ (λ (ls : List Link) (xs : List ℕ). IsFirstPath ls (has_room xs 1) (Bridge bridge) to path) are left_is first)
+
+pub none_open : (d : Domain) (links : List Link) (shut : List Bool) (left : List ℕ) (bridge : ℕ) (to : Node) → links ≡ d.links → left ≡ open_lefts d shut →
+    NoWay links (has_room left 1) (Bridge bridge) to → NoWay d.links (is_open_link shut) (Bridge bridge) to
+none_open d links shut left bridge to are left_is none path is =
+    subst₂ (λ (ls : List Link) (xs : List ℕ). NoWay ls (has_room xs 1) (Bridge bridge) to) are left_is none path
+    (path_by d.links (is_open_link shut) (has_room (open_lefts d shut) 1) (Bridge bridge) to path (λ l low. sym (open_room d shut l low)) is)
+
+-- so the first paths over such links lead to all stations, or there is none to one of them
+pub led_past : (d : Domain) (links : List Link) (shut : List Bool) (left : List ℕ) (bridge : ℕ) (stations : List ℕ) (link_paths : List (List ℕ)) → links ≡ d.links →
+    left ≡ open_lefts d shut → AreFirstPaths links (has_room left 1) (Bridge bridge) stations link_paths → AreLedPast d shut bridge stations
+led_past d links shut left bridge stations link_paths are left_is first k station stands =
+    let low : k < length link_paths = omega (arith, slice_get_within stations k station stands, first.one_each) in
+    let path : List ℕ = get_or link_paths k [] in
+    let there = first_open d links shut left bridge (Station station) path are left_is (first.each k station path stands (slice_get-get_or link_paths k [] low)) in
+    (path, there.is_path)
+
+pub cut_off : (d : Domain) (links : List Link) (shut : List Bool) (left : List ℕ) (bridge : ℕ) (stations : List ℕ) (index : ℕ) → links ≡ d.links →
+    left ≡ open_lefts d shut → IsFirstWithout links (has_room left 1) (Bridge bridge) stations index → IsCutOff d shut bridge stations
+cut_off d links shut left bridge stations index are left_is without = record {
+  index = index;
+  station = without.station;
+  stands = without.stands;
+  none = none_open d links shut left bridge (Station without.station) are left_is without.none;
+}
+
+-- for a reached station: a path leads to it over links that are open
+pub must_lead : (d : Domain) (links : List Link) (shut : List Bool) (left : List ℕ) (bridge station : ℕ) → links ≡ d.links → left ≡ open_lefts d shut →
+    IsReached d shut bridge station → NoWay links (has_room left 1) (Bridge bridge) (Station station) → ⊥
+must_lead d links shut left bridge station are left_is reached none =
+    none_open d links shut left bridge (Station station) are left_is none reached.path reached.is_path
+
+-- if no path has room, the first of these lacks room
+pub must_lack : (d : Domain) (shut : List Bool) (left : List ℕ) (cost bridge station : ℕ) (path : List ℕ) → FullPathsHaveAShortLink →
+    NoWay d.links (has_room left cost) (Bridge bridge) (Station station) → IsFirstPath d.links (is_open_link shut) (Bridge bridge) (Station station) path →
     short_link left cost path ≡ None → ⊥
-must_lack d left cost bridge station path short none first all =
-    let (link, lacks) = short d.links left cost (Bridge bridge) (Station station) path none first.is_path in absurd cc
+must_lack d shut left cost bridge station path short none first all =
+    let anyhow : IsPath d.links (λ l. true) (Bridge bridge) (Station station) path =
+    record { leads = first.is_path.leads; roomy = all_pass path; few = first.is_path.few } in
+    let (link, lacks) = short d.links left cost (Bridge bridge) (Station station) path none anyhow in absurd cc
 
 -- and the station is full
-pub full_found : (d : Domain) (left : List ℕ) (cost bridge station : ℕ) (path : List ℕ) (link : ℕ) (found : PlanFault) →
-    IsFirstPath d.links (λ l. true) (Bridge bridge) (Station station) path → short_link left cost path ≡ Some link →
+pub full_found : (d : Domain) (shut : List Bool) (left : List ℕ) (cost bridge station : ℕ) (path : List ℕ) (link : ℕ) (found : PlanFault) →
+    IsFirstPath d.links (is_open_link shut) (Bridge bridge) (Station station) path → short_link left cost path ≡ Some link →
     found ≡ fault.Full (name_of_node d (Station station)) cost (name_of_bridge d (bridge_of d link)) (name_of_end d link) (get_or left link 0) →
-    IsFullTo d left cost bridge station found
-full_found d left cost bridge station path link found first short is =
+    IsFullTo d shut left cost bridge station found
+full_found d shut left cost bridge station path link found first short is =
     record { path = path; is_first = first; link = link; lacks = short; is = is }
 
 -- it is the first station that is full
-pub first_full : (d : Domain) (links : List Link) (left : List ℕ) (cost bridge : ℕ) (stations : List ℕ) (index station : ℕ) (found : PlanFault) →
+pub first_full : (d : Domain) (links : List Link) (shut : List Bool) (left : List ℕ) (cost bridge : ℕ) (stations : List ℕ) (index station : ℕ) (why : Unrouted) →
     links ≡ d.links → IsFirstWithout links (has_room left cost) (Bridge bridge) stations index → slice_get stations index ≡ Some station →
-    IsFullTo d left cost bridge station found → IsFull d left cost bridge stations found
-first_full d links left cost bridge stations index station found are without stands full = record {
+    IsFullToFor d shut left cost bridge station why → IsFullFor d shut left cost bridge stations why
+first_full d links shut left cost bridge stations index station (unrouted.Fault found) are without stands full = record {
   index = index;
   station = station;
   without = subst (λ (ls : List Link). IsFirstWithout ls (has_room left cost) (Bridge bridge) stations index) are without;
   stands = stands;
   is_full = full;
 }
+first_full d links shut left cost bridge stations index station unrouted.Memory are without stands full = tt
 
 -- there is a station at the index of the first one without a path
 pub stands_there : (links : List Link) (room : ℕ → Bool) (from : Node) (stations : List ℕ) (index : ℕ) → IsFirstWithout links room from stations index →
@@ -200,23 +270,23 @@ paths_found d links left cost bridge stations link_paths paths are first paths_a
 
 -- ---- by what links have left
 
-module _ (d : Domain) (rows : List Row) (cost bridge : ℕ) (stations : List ℕ) where
+module _ (d : Domain) (rows : List Row) (cost bridge : ℕ) (stations : List ℕ) (shut : List Bool) where
   -- in the given cycles
-  pub given_routed : (every phase : ℕ) (paths : List Branch) (left : List ℕ) → AreLeftAfter d rows (pace_by every phase) cost bridge left →
-      AreFound d left cost bridge stations paths → IsRouted d rows (Given every phase) cost (Between bridge stations) (Ok paths)
+  pub given_routed : (every phase : ℕ) (paths : List Branch) (left : List ℕ) → AreLeftAfter d rows shut (pace_by every phase) cost bridge left →
+      AreFound d left cost bridge stations paths → IsRouted d rows (Given every phase) cost (Between bridge stations shut) (Ok paths)
   given_routed every phase paths left are found = record { left = left; are_left = are; found = found }
 
-  pub given_unrouted : (every phase : ℕ) (why : Unrouted) (left : List ℕ) → AreLeftAfter d rows (pace_by every phase) cost bridge left →
-      IsFullFor d left cost bridge stations why → IsUnrouted d rows (Given every phase) cost (Between bridge stations) why
+  pub given_unrouted : (every phase : ℕ) (why : Unrouted) (left : List ℕ) → AreLeftAfter d rows shut (pace_by every phase) cost bridge left →
+      IsFullFor d shut left cost bridge stations why → IsUnrouted d rows (Given every phase) cost (Between bridge stations shut) why
   given_unrouted every phase (unrouted.Fault found) left are full = record { left = left; are_left = are; found = full }
   given_unrouted every phase unrouted.Memory left are full = tt
 
   -- in the emptiest phase
-  pub chosen_routed : (every : ℕ) (paths : List Branch) → AreFound d (lefts_on d rows every) cost bridge stations paths →
-      IsRouted d rows (Chosen every) cost (Between bridge stations) (Ok paths)
-  chosen_routed every paths found = record { left = lefts_on d rows every; are_left = refl; found = found }
+  pub chosen_routed : (every : ℕ) (paths : List Branch) → AreFound d (lefts_past d shut (lefts_on d rows every)) cost bridge stations paths →
+      IsRouted d rows (Chosen every) cost (Between bridge stations shut) (Ok paths)
+  chosen_routed every paths found = record { left = lefts_past d shut (lefts_on d rows every); are_left = refl; found = found }
 
-  pub chosen_unrouted : (every : ℕ) (why : Unrouted) → IsFullFor d (lefts_on d rows every) cost bridge stations why →
-      IsUnrouted d rows (Chosen every) cost (Between bridge stations) why
-  chosen_unrouted every (unrouted.Fault found) full = record { left = lefts_on d rows every; are_left = refl; found = full }
+  pub chosen_unrouted : (every : ℕ) (why : Unrouted) → IsFullFor d shut (lefts_past d shut (lefts_on d rows every)) cost bridge stations why →
+      IsUnrouted d rows (Chosen every) cost (Between bridge stations shut) why
+  chosen_unrouted every (unrouted.Fault found) full = record { left = lefts_past d shut (lefts_on d rows every); are_left = refl; found = full }
   chosen_unrouted every unrouted.Memory full = tt

@@ -1,5 +1,5 @@
 -- What links have left for a stream in given cycles is determined.
-use Rattle.std.proofs.Common.{◌≡◌, ◌∙◌, ◌+◌, ◌<◌, ◌≤◌, ℕ, zero, suc, Bool, List, [], ◌∷◌, Option, Some, None, ap, arith, inl, inr, length, refl, subst, sym}
+use Rattle.std.proofs.Common.{◌≡◌, ◌∙◌, ◌+◌, ◌<◌, ◌≤◌, ℕ, zero, suc, Bool, List, [], ◌∷◌, Option, Some, None, ap, arith, inl, inr, length, refl, sym}
 use Rattle.std.specs.Option.{option_map_or}
 use Rattle.std.proofs.lemmas.Bool.{cases_lt}
 use Rattle.std.proofs.lemmas.Option.{same_Some}
@@ -73,11 +73,11 @@ module _ (links : List Link) (room : ℕ → ℕ → Bool) (bridge : ℕ) where
           let there : hop_of others other ≡ Some j = (same_up_to hops others j one two).0 j other (omega arith) is in sym there ∙ also
 
 -- so what links have left for a stream is one list
-pub left_is_one : (d : Domain) (rows : List Row) (pace : Pace) (cost bridge : ℕ) (left other : List ℕ) → AreLeftAfter d rows pace cost bridge left →
-    AreLeftAfter d rows pace cost bridge other → left ≡ other
-left_is_one d rows pace cost bridge left other are also =
+pub left_is_one : (d : Domain) (rows : List Row) (shut : List Bool) (pace : Pace) (cost bridge : ℕ) (left other : List ℕ) → AreLeftAfter d rows shut pace cost bridge left →
+    AreLeftAfter d rows shut pace cost bridge other → left ≡ other
+left_is_one d rows shut pace cost bridge left other are also =
     are.left_is
-    ∙ same_below (λ l. left_where d rows pace are.hops l ∷ []) (λ l. left_where d rows pace also.hops l ∷ []) (length d.links) (λ l low.
-    ap (λ (o : Option ℕ). option_map_or (λ k. left_after d rows pace k l) o 0 ∷ [])
-    (same_hops d.links (has_room_after d rows pace cost) bridge are.hops also.hops (bridge_of d l) are.are also.are))
+    ∙ same_below (λ l. left_where d rows shut pace are.hops l ∷ []) (λ l. left_where d rows shut pace also.hops l ∷ []) (length d.links) (λ l low.
+    ap (λ (o : Option ℕ). option_map_or (λ k. left_after d rows shut pace k l) o 0 ∷ [])
+    (same_hops d.links (has_room_after d rows shut pace cost) bridge are.hops also.hops (bridge_of d l) are.are also.are))
     ∙ sym also.left_is

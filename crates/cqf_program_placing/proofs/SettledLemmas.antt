@@ -23,6 +23,8 @@ use Rattle.cqf_topology.proofs.Accepted.{index-within}
 use Rattle.cqf_topology.proofs.Passed.{not_so}
 use Rattle.cqf_topology.proofs.Refusals.{and_then-Ok, ok_or-Ok, refuse-Ok}
 use Rattle.cqf_network.specs.declared.domain.TalkerLink.{TalkerLink}
+use Rattle.cqf_network.specs.declared.pacing.Pacing.{Pacing}
+use Rattle.cqf_traffic.specs.TrafficText.{TrafficText}
 use Rattle.cqf_network.specs.NetworkDomain.{HasTalkerLinks, IsTalkerLink, NetworkDomain}
 use Rattle.cqf_network.specs.StreamsText.{StreamText, WantedText, Along as AlongText, Between as BetweenText}
 use Rattle.cqf_admission.specs.Branches.{tree_refusal}
@@ -30,13 +32,14 @@ use Rattle.cqf_network.proofs.StreamParts.{and_first-Ok}
 use Rattle.cqf_program_placing.specs.declared.entrances.Entrance.{Entrance}
 use Rattle.cqf_program_placing.specs.declared.faults.PlanFault.{PlanFault}
 use Rattle.cqf_program_placing.specs.declared.faults.PlanFault.TheVariants as fault
+use Rattle.cqf_program_placing.specs.declared.settled.Neighbor.{Neighbor}
 use Rattle.cqf_program_placing.specs.declared.settled.Settled.{Settled}
 use Rattle.cqf_program_placing.specs.declared.settled.Unsettled.{Unsettled}
 use Rattle.cqf_program_placing.specs.declared.settled.Unsettled.TheVariants as unsettled
 use Rattle.cqf_program_placing.specs.Settled.{Along, Between, IsOnPath, IsPlaceable, SettledPath, SettledStream, are_reservable, deadline_after}
 use Rattle.cqf_program_placing.specs.Settled.{deadline_of_stream, entrance_after, entrance_at, first_apart, has_path, is_led, is_paced, open_domain, or_unsettled}
 use Rattle.cqf_program_placing.specs.Settled.{refusal_after, settled_after, settled_next, settled_of, settled_path, settled_stream, settled_value, station_at}
-use Rattle.cqf_program_placing.specs.Settled.{station_by_name, stations_by_name, wanted_stream}
+use Rattle.cqf_program_placing.specs.Settled.{neighbor_value, station_by_name, stations_by_name, wanted_stream, with_deadline}
 
 -- what is there was right
 or_unsettled-Ok : {A : Type 0} (name : List ℕ) (r : Result A PlanFault) (x : A) → or_unsettled name r ≡ Ok x → r ≡ Ok x
@@ -130,8 +133,8 @@ on_path network d (AlongText paths) path talkers same e =
 on_path network d (BetweenText from to) path talkers same e =
     let (entrance, entered, rest) = and_then-Ok (ok_or (entrance_at network (node_named d from)) fault.NoTalker) _ path e in
     let (stations, named, more) = and_then-Ok (stations_by_name d to) _ path rest in
-    let parts = refuse-Ok (first_apart d entrance.bridge to) fault.NoWay (Ok (Between entrance.bridge stations)) path more in
-    let is : Between entrance.bridge stations ≡ path = let h = parts.1 in cc in
+    let parts = refuse-Ok (first_apart d entrance.bridge to) fault.NoWay (Ok (Between entrance.bridge stations [])) path more in
+    let is : Between entrance.bridge stations [] ≡ path = let h = parts.1 in cc in
     subst (IsOnPath d) is (
       entrance_there network d from entrance talkers same (ok_or-Ok _ fault.NoTalker entrance entered),
       stations_reached d entrance.bridge to stations named parts.0,
@@ -161,6 +164,7 @@ pub record IsSettledBy (network : NetworkDomain) (d : Domain) (before : List (Li
   pub octets_are : stream.octets ≡ one.octets
   pub pacing_is : stream.pacing ≡ one.pacing
   pub traffic_is : stream.traffic ≡ one.traffic
+  pub none_beside : one.apart ≡ []
 
 pub settled_by : (network : NetworkDomain) (d : Domain) (before : List (List ℕ)) (stream : StreamText) (one : SettledStream) →
     settled_next network d before stream ≡ Ok one → IsSettledBy network d before stream one
@@ -174,7 +178,7 @@ settled_by network d before stream one e =
     let (stands, e5) = refuse-Ok (refusal_after d before stream.name) fault.Refused _ one e4 in
     let (deadline, deadline_is, e6) = and_then-Ok (deadline_of_stream network d stream) _ one e5 in
     let made : SettledStream =
-    record { name = stream.name; octets = stream.octets; pacing = stream.pacing; path = path; deadline = deadline; traffic = stream.traffic } in
+    record { name = stream.name; octets = stream.octets; pacing = stream.pacing; path = path; deadline = deadline; traffic = stream.traffic; apart = [] } in
     let same : made ≡ one = cc in
     record {
       named = not_not (is_name stream.name) (not_so (not (is_name stream.name)) unnamed);
@@ -189,7 +193,30 @@ settled_by network d before stream one e =
       octets_are = ap (λ (s : SettledStream). s.octets) same;
       pacing_is = ap (λ (s : SettledStream). s.pacing) same;
       traffic_is = ap (λ (s : SettledStream). s.traffic) same;
+      none_beside = ap (λ (s : SettledStream). s.apart) (sym same);
     }
+
+-- a stream of these terms is settled with a deadline, and without neighbors
+abbrev pub settled_with : List ℕ → Option ℕ → Pacing → SettledPath → Option TrafficText → Option ℕ → List Neighbor → SettledStream
+settled_with name octets pacing path traffic deadline beside = record {
+  name = name;
+  octets = octets;
+  pacing = pacing;
+  path = path;
+  deadline = deadline;
+  traffic = traffic;
+  apart = map neighbor_value beside;
+}
+
+pub with_none_beside : (name own : List ℕ) (octets : Option ℕ) (pacing : Pacing) (path : SettledPath) (traffic : Option TrafficText) (found : Result (Option ℕ) PlanFault)
+    (deadline : Option ℕ) (beside : List Neighbor) → Ok deadline ≡ found → own ≡ name → beside ≡ [] →
+    or_unsettled name (with_deadline name octets pacing path traffic found) ≡ Ok (settled_with own octets pacing path traffic deadline beside)
+with_none_beside name own octets pacing path traffic found deadline beside is same none =
+    ap (λ (r : Result (Option ℕ) PlanFault). or_unsettled name (with_deadline name octets pacing path traffic r)) (sym is)
+    ∙ ap (λ (n : List ℕ). made n []) (sym same) ∙ ap (made own) (sym none)
+  where
+    made : List ℕ → List Neighbor → Result SettledStream Unsettled
+    made n xs = Ok (settled_with n octets pacing path traffic deadline xs)
 
 -- a stream of this name may follow those of other names: its name isn't one of theirs, and there are fewer than are allowed
 pub record StandsNext (d : Domain) (before : List (List ℕ)) (name own : List ℕ) : Type 0 where

@@ -14,6 +14,7 @@ plan_fault_text (fault.Refused refused) = text_of_refusal refused
 plan_fault_text fault.NoTalker = codes "NoTalker"
 plan_fault_text (fault.NoListener listener) = codes "NoListener " ++ listener
 plan_fault_text (fault.NoWay listener) = codes "NoWay " ++ listener
+plan_fault_text (fault.NotApart other) = codes "NotApart " ++ other
 plan_fault_text fault.TooSoon = codes "TooSoon"
 plan_fault_text fault.BadInStep = codes "BadInStep"
 plan_fault_text (fault.TooMuch needed) = codes "TooMuch " ++ decimal needed

@@ -1,5 +1,5 @@
 -- After how many links a stream's frames leave each bridge, and what links have left there.
-use Rattle.std.specs.Prelude.{ℕ, ◌≡◌, ◌+◌, ◌<◌, ◌≤◌, ◌⊎◌, Bool, true, List, [], ◌∷◌, Option, Some, None, length, nat_le, slice_get, slice_index_or}
+use Rattle.std.specs.Prelude.{ℕ, ◌≡◌, ◌+◌, ◌<◌, ◌≤◌, ◌⊎◌, Bool, true, List, [], ◌∷◌, Option, Some, None, if◌then◌else◌, length, nat_le, slice_get, slice_index_or}
 use Rattle.std.specs.Option.{option_map_or}
 use Rattle.cqf_lists.specs.Lists.{each_below}
 use Rattle.cqf_model.specs.declared.topology.Hop.{Hop}
@@ -12,18 +12,20 @@ use Rattle.cqf_network.specs.Paths.{most_links}
 use Rattle.cqf_admission.specs.Costs.{left_in_active_cycles}
 use Rattle.cqf_program_placing.specs.declared.active_cycles.ActiveCycles.{ActiveCycles}
 use Rattle.cqf_program_placing.specs.declared.active_cycles.ActiveCycles.TheVariants.{Given, Chosen}
+use Rattle.cqf_program_placing.specs.Apart.{is_shut, lefts_past}
 use Rattle.cqf_program_placing.specs.ActiveCycles.{lefts_on, pace_by}
 
 -- a link as the hop that follows k links, so with hop number k + 1
 abbrev pub hop_after : ℕ → ℕ → Hop
 hop_after k l = record { link = l; hop_number = k + 1; from = None }
 
--- what the link has left, after k links, in the cycles in which frames of a pace pass it, and whether that covers what a stream costs
-abbrev pub left_after : Domain → List Row → Pace → ℕ → ℕ → ℕ
-left_after d rows pace k l = left_in_active_cycles d rows pace (hop_after k l)
+-- what the link has left, after k links, in the cycles in which frames of a pace pass it, and whether that covers what a stream costs. A link
+-- that is shut has nothing left
+abbrev pub left_after : Domain → List Row → List Bool → Pace → ℕ → ℕ → ℕ
+left_after d rows shut pace k l = if is_shut shut l then 0 else left_in_active_cycles d rows pace (hop_after k l)
 
-abbrev pub has_room_after : Domain → List Row → Pace → ℕ → ℕ → ℕ → Bool
-has_room_after d rows pace cost k l = nat_le cost (left_after d rows pace k l)
+abbrev pub has_room_after : Domain → List Row → List Bool → Pace → ℕ → ℕ → ℕ → Bool
+has_room_after d rows shut pace cost k l = nat_le cost (left_after d rows shut pace k l)
 
 -- after how many links frames leave a bridge, if they reach it
 abbrev pub hop_of : List (Option ℕ) → ℕ → Option ℕ
@@ -48,24 +50,24 @@ pub record AreHops (links : List Link) (room : ℕ → ℕ → Bool) (bridge : �
   pub few : (j other : ℕ) → hop_of hops other ≡ Some j → j < most_links
 
 -- what a link has left, after as many links as frames leave its bridge; 0 for a link that no frame reaches
-abbrev pub left_where : Domain → List Row → Pace → List (Option ℕ) → ℕ → ℕ
-left_where d rows pace hops l = option_map_or (λ k. left_after d rows pace k l) (hop_of hops (bridge_of d l)) 0
+abbrev pub left_where : Domain → List Row → List Bool → Pace → List (Option ℕ) → ℕ → ℕ
+left_where d rows shut pace hops l = option_map_or (λ k. left_after d rows shut pace k l) (hop_of hops (bridge_of d l)) 0
 
 -- the same for all links, by number
-abbrev pub lefts_where : Domain → List Row → Pace → List (Option ℕ) → List ℕ
-lefts_where d rows pace hops = each_below (λ l. left_where d rows pace hops l ∷ []) (length d.links)
+abbrev pub lefts_where : Domain → List Row → List Bool → Pace → List (Option ℕ) → List ℕ
+lefts_where d rows shut pace hops = each_below (λ l. left_where d rows shut pace hops l ∷ []) (length d.links)
 
--- what links have left for a stream of this cost and pace that comes from a bridge
-pub record AreLeftAfter (d : Domain) (rows : List Row) (pace : Pace) (cost bridge : ℕ) (left : List ℕ) : Type 0 where
+-- what links have left for a stream of this cost and pace that comes from a bridge, past links that are shut
+pub record AreLeftAfter (d : Domain) (rows : List Row) (shut : List Bool) (pace : Pace) (cost bridge : ℕ) (left : List ℕ) : Type 0 where
   pub hops : List (Option ℕ)
-  pub are : AreHops d.links (has_room_after d rows pace cost) bridge hops
-  pub left_is : left ≡ lefts_where d rows pace hops
+  pub are : AreHops d.links (has_room_after d rows shut pace cost) bridge hops
+  pub left_is : left ≡ lefts_where d rows shut pace hops
 
 -- what links have left for a stream: in its own cycles if they are given; if its phase is to be chosen, in each link's emptiest phase of
 -- `every`
-abbrev pub AreLeft : Domain → List Row → ActiveCycles → ℕ → ℕ → List ℕ → Type 0
-AreLeft d rows (Given every phase) cost bridge left = AreLeftAfter d rows (pace_by every phase) cost bridge left
-AreLeft d rows (Chosen every) cost bridge left = left ≡ lefts_on d rows every
+abbrev pub AreLeft : Domain → List Row → List Bool → ActiveCycles → ℕ → ℕ → List ℕ → Type 0
+AreLeft d rows shut (Given every phase) cost bridge left = AreLeftAfter d rows shut (pace_by every phase) cost bridge left
+AreLeft d rows shut (Chosen every) cost bridge left = left ≡ lefts_past d shut (lefts_on d rows every)
 
 -- ---- what inner functions need
 

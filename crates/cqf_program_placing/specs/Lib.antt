@@ -1,5 +1,7 @@
 pub mod Faults
+pub mod Apart
 pub mod Settled
+pub mod Neighbors
 pub mod ActiveCycles
 pub mod Hops
 pub mod Placing

@@ -15,4 +15,4 @@ in_order all (index ∷ order) = before_others (slice_get all index) (in_order a
 -- whether the path of a stream is to be found, not given
 abbrev pub is_open : SettledPath → Bool
 is_open (Along paths) = false
-is_open (Between bridge stations) = true
+is_open (Between bridge stations shut) = true

@@ -28,7 +28,8 @@ use Rattle.cqf_program_placing.specs.declared.outcomes.PlacingOutcome.{PlacingOu
 use Rattle.cqf_program_placing.specs.declared.outcomes.PlacingOutcome.TheVariants as outcome
 use Rattle.cqf_program_placing.specs.declared.active_cycles.ActiveCycles.{ActiveCycles}
 use Rattle.cqf_program_placing.specs.declared.active_cycles.ActiveCycles.TheVariants.{Given, Chosen}
-use Rattle.cqf_program_placing.specs.Settled.{SettledStream, SettledPath, Along, Between}
+use Rattle.cqf_program_placing.specs.Apart.{ApartFrom, AreShutPast, is_open_link}
+use Rattle.cqf_program_placing.specs.Settled.{SettledStream, SettledPath, Along, Between, past}
 use Rattle.cqf_program_placing.specs.Hops.{AreLeft}
 use Rattle.cqf_program_placing.specs.ActiveCycles.{IsPhaseAlong, active_cycles_by, can_step, every_in, is_in_step, pace_by}
 
@@ -72,21 +73,22 @@ is_chosen_on cycle_time stream = option_map_or (is_in_step cycle_time stream.pac
 abbrev pub names_along : Domain → ℕ → List ℕ → Branch
 names_along d bridge path = name_of_bridge d bridge ∷ map (name_of_end d) path
 
--- the fault `Full` for a listener, by what links have left for a stream: it names the first link that lacks room on the first path of all
-pub record IsFullTo (d : Domain) (left : List ℕ) (cost bridge station : ℕ) (found : PlanFault) : Type 0 where
+-- the fault `Full` for a listener, by what links have left for a stream: it names the first link that lacks room on the first path of all over
+-- links that aren't shut
+pub record IsFullTo (d : Domain) (shut : List Bool) (left : List ℕ) (cost bridge station : ℕ) (found : PlanFault) : Type 0 where
   pub path : List ℕ
-  pub is_first : IsFirstPath d.links (λ _. true) (Bridge bridge) (Station station) path
+  pub is_first : IsFirstPath d.links (is_open_link shut) (Bridge bridge) (Station station) path
   pub link : ℕ
   pub lacks : short_link left cost path ≡ Some link
   pub is : found ≡ fault.Full (name_of_node d (Station station)) cost (name_of_bridge d (bridge_of d link)) (name_of_end d link) (slice_index left link)
 
 -- the fault `Full` for the first of a stream's listeners to which no path has room
-pub record IsFull (d : Domain) (left : List ℕ) (cost bridge : ℕ) (stations : List ℕ) (found : PlanFault) : Type 0 where
+pub record IsFull (d : Domain) (shut : List Bool) (left : List ℕ) (cost bridge : ℕ) (stations : List ℕ) (found : PlanFault) : Type 0 where
   pub index : ℕ
   pub station : ℕ
   pub without : IsFirstWithout d.links (has_room left cost) (Bridge bridge) stations index
   pub stands : slice_get stations index ≡ Some station
-  pub is_full : IsFullTo d left cost bridge station found
+  pub is_full : IsFullTo d shut left cost bridge station found
 
 -- the branches of the first paths with room to the stream's listeners
 pub record AreFound (d : Domain) (left : List ℕ) (cost bridge : ℕ) (stations : List ℕ) (paths : List Branch) : Type 0 where
@@ -94,20 +96,20 @@ pub record AreFound (d : Domain) (left : List ℕ) (cost bridge : ℕ) (stations
   pub first : AreFirstPaths d.links (has_room left cost) (Bridge bridge) stations link_paths
   pub are : paths ≡ map (names_along d bridge) link_paths
 
-abbrev pub IsFoundOrFull : Domain → List ℕ → ℕ → ℕ → List ℕ → Result (List Branch) PlanFault → Type 0
-IsFoundOrFull d left cost bridge stations (Ok paths) = AreFound d left cost bridge stations paths
-IsFoundOrFull d left cost bridge stations (Err found) = IsFull d left cost bridge stations found
+abbrev pub IsFoundOrFull : Domain → List Bool → List ℕ → ℕ → ℕ → List ℕ → Result (List Branch) PlanFault → Type 0
+IsFoundOrFull d shut left cost bridge stations (Ok paths) = AreFound d left cost bridge stations paths
+IsFoundOrFull d shut left cost bridge stations (Err found) = IsFull d shut left cost bridge stations found
 
 -- the branches of a stream, or its fault, by what links have left if these rows are held
-pub record IsRoutedBetween (d : Domain) (rows : List Row) (active_cycles : ActiveCycles) (cost bridge : ℕ) (stations : List ℕ) (routed : Result (List Branch) PlanFault) : Type 0 where
+pub record IsRoutedBetween (d : Domain) (rows : List Row) (shut : List Bool) (active_cycles : ActiveCycles) (cost bridge : ℕ) (stations : List ℕ) (routed : Result (List Branch) PlanFault) : Type 0 where
   pub left : List ℕ
-  pub are_left : AreLeft d rows active_cycles cost bridge left
-  pub found : IsFoundOrFull d left cost bridge stations routed
+  pub are_left : AreLeft d rows shut active_cycles cost bridge left
+  pub found : IsFoundOrFull d shut left cost bridge stations routed
 
 -- the branches of a stream: the given ones, or those that are found
 abbrev pub IsRouted : Domain → List Row → ActiveCycles → ℕ → SettledPath → Result (List Branch) PlanFault → Type 0
 IsRouted d rows active_cycles cost (Along given) routed = routed ≡ Ok given
-IsRouted d rows active_cycles cost (Between bridge stations) routed = IsRoutedBetween d rows active_cycles cost bridge stations routed
+IsRouted d rows active_cycles cost (Between bridge stations shut) routed = IsRoutedBetween d rows shut active_cycles cost bridge stations routed
 
 -- ---- in which cycles
 
@@ -171,7 +173,7 @@ AreTakenBetween d rows (Chosen every) cost path taken = AreChosenFor d rows ever
 -- the cycles in which any stream is requested; along given branches nothing is searched
 abbrev pub AreTaken : Domain → List Row → ActiveCycles → ℕ → SettledPath → ActiveCycles → Type 0
 AreTaken d rows active_cycles cost (Along given) taken = taken ≡ active_cycles
-AreTaken d rows active_cycles cost (Between bridge stations) taken = AreTakenBetween d rows active_cycles cost (Between bridge stations) taken
+AreTaken d rows active_cycles cost (Between bridge stations shut) taken = AreTakenBetween d rows active_cycles cost (Between bridge stations shut) taken
 
 -- the fault of a stream that admission refuses; it names the ends of a link that lacks room
 abbrev pub fault_of_refusal : Domain → Refused → PlanFault
@@ -210,9 +212,28 @@ pub record IsPlacedInActiveCycles (d : Domain) (entries : List Recorded) (stream
   pub are_taken : AreTaken d (held_in d entries (seals entries)) active_cycles (cost_of d.overhead octets) stream.path taken
   pub is_placed : IsRoutedAndAnswered d entries stream octets taken become after
 
+-- the links that are shut for a stream after these entries, or `NotApart`; for a stream along given branches none is
+abbrev pub IsShutFor : Domain → List Recorded → List ApartFrom → SettledPath → Result (List Bool) PlanFault → Type 0
+IsShutFor d entries apart (Along paths) found = found ≡ Ok []
+IsShutFor d entries apart (Between bridge stations shut) found = AreShutPast d entries bridge stations [] apart found
+
+-- the same past links that are shut for it
+abbrev pub past_links : List Bool → SettledStream → SettledStream
+past_links shut stream = record stream { path = past shut stream.path }
+
+abbrev pub IsPlacedPast : Domain → List Recorded → SettledStream → ℕ → Result (List Bool) PlanFault → PlacedOr → List Recorded → Type 0
+IsPlacedPast d entries stream octets (Err found) become after = (become ≡ Unplaced found) × (after ≡ entries)
+IsPlacedPast d entries stream octets (Ok shut) become after =
+    IsPlacedInActiveCycles d entries (past_links shut stream) octets (active_cycles_on d.cycle_time stream) become after
+
+pub record IsPlacedApart (d : Domain) (entries : List Recorded) (stream : SettledStream) (octets : ℕ) (become : PlacedOr) (after : List Recorded) : Type 0 where
+  pub found : Result (List Bool) PlanFault
+  pub is_shut : IsShutFor d entries stream.apart stream.path found
+  pub is_placed : IsPlacedPast d entries stream octets found become after
+
 abbrev pub IsPlacedBy : Domain → List Recorded → SettledStream → Result ℕ PlanFault → PlacedOr → List Recorded → Type 0
 IsPlacedBy d entries stream (Err found) become after = (become ≡ Unplaced found) × (after ≡ entries)
-IsPlacedBy d entries stream (Ok octets) become after = IsPlacedInActiveCycles d entries stream octets (active_cycles_on d.cycle_time stream) become after
+IsPlacedBy d entries stream (Ok octets) become after = IsPlacedApart d entries stream octets become after
 
 -- the outcome for a stream after these entries, and the entries afterwards
 abbrev pub IsPlacing : Domain → List Recorded → SettledStream → PlacedOr → List Recorded → Type 0

@@ -1,9 +1,10 @@
 -- Why a stream has no branches.
-use Rattle.std.specs.Prelude.{ℕ, ◌≡◌, ◌<◌, List, Option, Some, None, Ok, Err, false, length, slice_get, true}
+use Rattle.std.specs.Prelude.{ℕ, ◌≡◌, ◌<◌, ⊤, Bool, List, [], Option, Some, None, Ok, Err, false, length, slice_get, true}
 use Rattle.cqf_admission.specs.Branches.{branches_of}
 use Rattle.cqf_model.specs.declared.topology.Row.{Row}
 use Rattle.cqf_model.specs.declared.topology.Node.TheVariants.{Bridge, Station}
 use Rattle.cqf_model.specs.Domain.{Domain}
+use Rattle.cqf_model.specs.History.{Recorded}
 use Rattle.cqf_network.specs.Paths.{IsPath}
 use Rattle.cqf_program_placing.specs.declared.choosing.Route.{Route}
 use Rattle.cqf_program_placing.specs.declared.routes.Unrouted.{Unrouted}
@@ -11,8 +12,9 @@ use Rattle.cqf_program_placing.specs.declared.routes.Unrouted.TheVariants as unr
 use Rattle.cqf_program_placing.specs.declared.active_cycles.ActiveCycles.{ActiveCycles}
 use Rattle.cqf_program_placing.specs.declared.active_cycles.ActiveCycles.TheVariants.{Given}
 use Rattle.cqf_program_placing.specs.Known.{IsBranched}
-use Rattle.cqf_program_placing.specs.Placing.{AreTaken, FindsRoom, IsFirstPhase, IsFirstRoomy, IsFull, IsRouted}
-use Rattle.cqf_program_placing.specs.Settled.{SettledPath}
+use Rattle.cqf_program_placing.specs.Placing.{AreTaken, FindsRoom, IsFirstPhase, IsFirstRoomy, IsFull, IsFullTo, IsRouted, IsShutFor}
+use Rattle.cqf_program_placing.specs.Apart.{ApartFrom, AreShutPast, is_open_link}
+use Rattle.cqf_program_placing.specs.Settled.{Along, Between, SettledPath}
 use Rattle.cqf_program_placing.specs.ActiveCycles.{IsPhaseAlong}
 
 -- a stream has no branches for this fault while these rows are held
@@ -21,19 +23,39 @@ IsUnrouted d rows active_cycles cost path (unrouted.Fault found) = IsRouted d ro
 IsUnrouted d rows active_cycles cost path unrouted.Memory = Unit {0}
 
 -- there is no room for it, by what links have left
-abbrev pub IsFullFor : Domain → List ℕ → ℕ → ℕ → List ℕ → Unrouted → Type 0
-IsFullFor d left cost bridge stations (unrouted.Fault found) = IsFull d left cost bridge stations found
-IsFullFor d left cost bridge stations unrouted.Memory = Unit {0}
+abbrev pub IsFullFor : Domain → List Bool → List ℕ → ℕ → ℕ → List ℕ → Unrouted → Type 0
+IsFullFor d shut left cost bridge stations (unrouted.Fault found) = IsFull d shut left cost bridge stations found
+IsFullFor d shut left cost bridge stations unrouted.Memory = Unit {0}
 
--- a station is the domain's, and a path leads to it from a bridge
-pub record IsReached (d : Domain) (bridge station : ℕ) : Type 0 where
+-- for one station
+abbrev pub IsFullToFor : Domain → List Bool → List ℕ → ℕ → ℕ → ℕ → Unrouted → Type 0
+IsFullToFor d shut left cost bridge station (unrouted.Fault found) = IsFullTo d shut left cost bridge station found
+IsFullToFor d shut left cost bridge station unrouted.Memory = Unit {0}
+
+-- a station is the domain's, and a path leads to it from a bridge, past links that are shut
+pub record IsReached (d : Domain) (shut : List Bool) (bridge station : ℕ) : Type 0 where
   pub is_there : station < length d.stations
   pub path : List ℕ
-  pub is_path : IsPath d.links (λ _. true) (Bridge bridge) (Station station) path
+  pub is_path : IsPath d.links (is_open_link shut) (Bridge bridge) (Station station) path
 
--- each of some stations is one of the domain's, and a path leads to it from the bridge
-abbrev pub AreReached : Domain → ℕ → List ℕ → Type 0
-AreReached d bridge stations = (k station : ℕ) → slice_get stations k ≡ Some station → IsReached d bridge station
+-- each of some stations is one of the domain's, and a path leads to it from the bridge, past the links that are shut
+abbrev pub AreReached : Domain → List Bool → ℕ → List ℕ → Type 0
+AreReached d shut bridge stations = (k station : ℕ) → slice_get stations k ≡ Some station → IsReached d shut bridge station
+
+-- a path that is to be found can be found: such a path leads to each of its stations
+abbrev pub IsOpenPath : Domain → SettledPath → Type 0
+IsOpenPath d (Along paths) = ⊤
+IsOpenPath d (Between bridge stations shut) = (bridge < length d.bridges) × AreReached d shut bridge stations
+
+-- for a stream between a bridge and stations, no path is left past the links that are shut for it, with this fault
+abbrev pub IsCutOffBy : Domain → List Recorded → ℕ → List ℕ → List ApartFrom → Unrouted → Type 0
+IsCutOffBy d entries bridge stations apart (unrouted.Fault found) = AreShutPast d entries bridge stations [] apart (Err found)
+IsCutOffBy d entries bridge stations apart unrouted.Memory = Unit {0}
+
+-- the same for a stream with any paths, given or to be found
+abbrev pub IsUnshut : Domain → List Recorded → List ApartFrom → SettledPath → Unrouted → Type 0
+IsUnshut d entries apart path (unrouted.Fault found) = IsShutFor d entries apart path (Err found)
+IsUnshut d entries apart path unrouted.Memory = Unit {0}
 
 -- ---- with a phase
 

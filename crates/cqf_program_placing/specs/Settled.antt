@@ -1,5 +1,5 @@
 -- The streams of a network file, checked for what no cycle time changes.
-use Rattle.std.specs.Prelude.{ℕ, ◌+◌, ◌-◌, ◌*◌, ◌<◌, ◌≤◌, ◌==◌, ◌||◌, ◌&&◌, ◌++◌, List, [], ◌∷◌, ⊤, Bool, true, false, if◌then◌else◌, find, length, min}
+use Rattle.std.specs.Prelude.{ℕ, ◌+◌, ◌-◌, ◌*◌, ◌<◌, ◌≤◌, ◌==◌, ◌||◌, ◌&&◌, ◌++◌, List, [], ◌∷◌, ⊤, Bool, true, false, if◌then◌else◌, find, length, map, min}
 use Rattle.std.specs.Prelude.{All, IsTrue, nat_le, nat_lt, not, suc, zero, ok_or, option_and_then, option_map, unwrap_or, Option, Some, None}
 use Rattle.std.specs.Prelude.{Result, Ok, Err}
 use Rattle.std.specs.List.{list_any}
@@ -29,19 +29,21 @@ use Rattle.cqf_admission.specs.Branches.{branches_of, tree_refusal}
 use Rattle.cqf_program_placing.specs.declared.entrances.Entrance.{Entrance}
 use Rattle.cqf_program_placing.specs.declared.faults.PlanFault.{PlanFault}
 use Rattle.cqf_program_placing.specs.declared.faults.PlanFault.TheVariants as fault
+use Rattle.cqf_program_placing.specs.declared.settled.Neighbor.{Neighbor}
 use Rattle.cqf_program_placing.specs.declared.settled.Settled.{Settled}
 use Rattle.cqf_program_placing.specs.declared.settled.Unsettled.{Unsettled}
 use Rattle.cqf_program_placing.specs.declared.settled.Unsettled.TheVariants as unsettled
 use Rattle.cqf_program_placing.specs.declared.settled.StreamPath.{StreamPath}
 use Rattle.cqf_program_placing.specs.declared.settled.StreamPath.TheVariants as path
+use Rattle.cqf_program_placing.specs.Apart.{ApartFrom}
 
--- a stream's path: along branches, by the names of their nodes; or from a bridge to stations
+-- a stream's path: along branches, by the names of their nodes; or from a bridge to stations, past links that are shut
 pub data SettledPath : Type 0 where
   Along : List Branch → SettledPath
-  Between : ℕ → List ℕ → SettledPath
+  Between : ℕ → List ℕ → List Bool → SettledPath
 
 -- a stream whose nodes are found: its octets in a cycle if the network file gives them, the cycles in which it is offered if they are
--- given, and its deadline from its edge bridge
+-- given, its deadline from its edge bridge, and the streams from which it is to be apart
 pub record SettledStream : Type 0 where
   pub name : List ℕ
   pub octets : Option ℕ
@@ -49,10 +51,23 @@ pub record SettledStream : Type 0 where
   pub path : SettledPath
   pub deadline : Option ℕ
   pub traffic : Option TrafficText
+  pub apart : List ApartFrom
 
 abbrev pub path_value : StreamPath → SettledPath
 path_value (path.Along paths) = Along (branches_of paths.items)
-path_value (path.Between bridge stations) = Between bridge stations.items
+path_value (path.Between bridge stations) = Between bridge stations.items []
+
+-- the same path past links that are shut; a given one stays
+abbrev pub past : List Bool → SettledPath → SettledPath
+past shut (Along paths) = Along paths
+past shut (Between bridge stations before) = Between bridge stations shut
+
+-- a stream without neighbors
+abbrev pub alone : SettledStream → SettledStream
+alone stream = record stream { apart = [] }
+
+abbrev pub neighbor_value : Neighbor → ApartFrom
+neighbor_value neighbor = record { name = neighbor.name; is_later = neighbor.is_later; given = branches_of neighbor.given.items }
 
 abbrev pub settled_value : Settled → SettledStream
 settled_value stream = record {
@@ -62,6 +77,7 @@ settled_value stream = record {
   path = path_value stream.path;
   deadline = stream.deadline;
   traffic = stream.traffic;
+  apart = map neighbor_value stream.apart.items;
 }
 
 -- octets that a stream may reserve; none may be given
@@ -118,7 +134,7 @@ abbrev pub path_from : Domain → Option Entrance → List (List ℕ) → Result
 path_from d entrance to =
     and_then (ok_or entrance fault.NoTalker) (λ (from : Entrance).
     and_then (stations_by_name d to) (λ stations.
-    refuse (first_apart d from.bridge to) fault.NoWay (Ok (Between from.bridge stations))))
+    refuse (first_apart d from.bridge to) fault.NoWay (Ok (Between from.bridge stations []))))
 
 abbrev pub path_along : Domain → List Branch → Result SettledPath PlanFault
 path_along d paths = refuse (tree_refusal d paths) fault.Refused (Ok (Along paths))
@@ -160,7 +176,8 @@ refusal_after d before name =
 -- a stream whose path is settled, with its deadline
 abbrev pub with_deadline : List ℕ → Option ℕ → Pacing → SettledPath → Option TrafficText → Result (Option ℕ) PlanFault → Result SettledStream PlanFault
 with_deadline name octets pacing path traffic deadline =
-    and_then deadline (λ left. Ok (record { name = name; octets = octets; pacing = pacing; path = path; deadline = left; traffic = traffic }))
+    and_then deadline (λ left.
+    Ok (record { name = name; octets = octets; pacing = pacing; path = path; deadline = left; traffic = traffic; apart = [] }))
 
 -- a stream that follows others of these names, or its first fault
 abbrev pub settled_stream : NetworkDomain → Domain → List (List ℕ) → StreamText → Result SettledStream PlanFault
@@ -201,7 +218,7 @@ settled_of network streams = settled_after network (open_domain network) [] stre
 -- For given branches nothing is required
 abbrev pub IsOnPath : Domain → SettledPath → Type 0
 IsOnPath d (Along paths) = ⊤
-IsOnPath d (Between bridge stations) = (bridge < length d.bridges)
+IsOnPath d (Between bridge stations shut) = (bridge < length d.bridges)
     × All (λ station. (station < length d.stations) × IsTrue (is_led d.links most_links (Bridge bridge) (Station station))) stations
 
 -- what a settled stream has: a name, a path, octets that it may reserve and cycles that it may have if they are given, and a deadline that

@@ -13,7 +13,7 @@ use cqf_units::{Memory, Name};
 use std::alloc::Global;
 
 /// Returns the name of a bridge; an empty one if the domain lacks the bridge.
-fn name_of_bridge(domain: &Domain, bridge: u16) -> &str
+pub(crate) fn name_of_bridge(domain: &Domain, bridge: u16) -> &str
     ensures { result.now ≡ name_of_bridge domain.now bridge }
 {
     if bridge < domain.bridges() {
@@ -40,7 +40,7 @@ fn name_of_node(domain: &Domain, node: Node) -> &str
 }
 
 /// Returns the name of the node in which a link ends; an empty one if the domain lacks the link.
-fn name_of_end(domain: &Domain, link: u16) -> &str
+pub(crate) fn name_of_end(domain: &Domain, link: u16) -> &str
     ensures { result.now ≡ name_of_end domain.now link }
 {
     if link < domain.links() {

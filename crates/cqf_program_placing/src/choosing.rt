@@ -5,10 +5,11 @@ ghost use Rattle.cqf_admission.specs.Branches.{branches_of};
 ghost use Rattle.cqf_admission.specs.ActiveCycles.{IsGoodPace};
 ghost use Rattle.cqf_model.specs.declared.topology.Hop.{Hop as AHop};
 ghost use Rattle.cqf_model.specs.History.{held_in, seals};
+ghost use Rattle.cqf_program_placing.specs.Apart.{lefts_past};
 ghost use Rattle.cqf_program_placing.specs.Known.{AreKnown};
 ghost use Rattle.cqf_program_placing.specs.Placing.{AreFound, IsRouted, has_room_at, is_roomy};
-ghost use Rattle.cqf_program_placing.specs.Routes.{AreReached, IsFirstRoute, IsFullFor, IsGoodRoute, IsRoomyRoute, IsRoute, IsTakenRoute, IsUnrouted, IsUntaken};
-ghost use Rattle.cqf_program_placing.specs.Settled.{Between, IsOnPath, path_value};
+ghost use Rattle.cqf_program_placing.specs.Routes.{AreReached, IsFirstRoute, IsFullFor, IsGoodRoute, IsOpenPath, IsRoomyRoute, IsRoute, IsTakenRoute, IsUnrouted, IsUntaken};
+ghost use Rattle.cqf_program_placing.specs.Settled.{Between, past, path_value};
 ghost use Rattle.cqf_program_placing.specs.ActiveCycles.{AreGoodActiveCycles, CostsSome, IsGoodEvery, every_in, lefts_on, pace_by};
 
 use crate::StreamPath;
@@ -19,6 +20,7 @@ use crate::hops::PacedRoom;
 use crate::phases::phase_along;
 use crate::rooms::{Rooms, pace_by};
 use crate::routes::{Unrouted, branches_between};
+use crate::shutting::lefts_past;
 use cqf_admission::Admission;
 use cqf_model::{Hop, Link, Pace};
 use cqf_network::Room;
@@ -107,7 +109,7 @@ fn route_along(
 }
 
 /// Returns the branches of the first paths from a bridge to stations on which each link has room, with the streams that are placed, for a
-/// stream of this cost in the given cycles.
+/// stream of this cost in the given cycles, past links that are shut.
 ///
 /// # Errors
 /// The fault of the first station to which no path has room; `Memory` if an allocation fails.
@@ -118,6 +120,7 @@ fn given_branches(
     admission: &Admission,
     bridge: u16,
     stations: &[u16],
+    shut: &[bool],
     every: u8,
     phase: u8,
     cost: u32,
@@ -125,17 +128,18 @@ fn given_branches(
     requires domain { admission.now.domain ≡ domain.now }
     requires links { links.now ≡ domain.now.links }
     requires inside { bridge < length domain.now.bridges }
-    requires reached { AreReached domain.now bridge stations.now }
+    requires reached { AreReached domain.now shut.now bridge stations.now }
     requires good { AreGoodActiveCycles (ActiveCycles.Given every phase) }
     ensures ok { let entries = admission.now.entries in IfOk result (λ paths. IsRouted domain.now (held_in domain.now entries (seals entries))
-        (ActiveCycles.Given every phase) cost (Between bridge stations.now) (Ok (branches_of paths.items))) }
+        (ActiveCycles.Given every phase) cost (Between bridge stations.now shut.now) (Ok (branches_of paths.items))) }
     ensures err { let entries = admission.now.entries in IfErr result (IsUnrouted domain.now (held_in domain.now entries (seals entries))
-        (ActiveCycles.Given every phase) cost (Between bridge stations.now)) }
+        (ActiveCycles.Given every phase) cost (Between bridge stations.now shut.now)) }
 {
     let paced = PacedRoom {
         domain,
         admission,
         pace: pace_by(every, phase),
+        shut,
         cost,
     };
     let left = paced.lefts(alloc, bridge)?;
@@ -144,11 +148,11 @@ fn given_branches(
         left: left.as_slice(),
         cost,
     };
-    branches_between(alloc, domain, room, bridge, stations)
+    branches_between(alloc, domain, room, shut, bridge, stations)
 }
 
 /// Returns the branches of the first paths from a bridge to stations on which each link has room, with the streams that are placed, for a
-/// stream of this cost in its emptiest phase of `every`.
+/// stream of this cost in its emptiest phase of `every`, past links that are shut.
 ///
 /// # Errors
 /// As [`given_branches`].
@@ -160,27 +164,29 @@ fn chosen_branches(
     rooms: &mut Rooms,
     bridge: u16,
     stations: &[u16],
+    shut: &[bool],
     every: u8,
     cost: u32,
 ) -> Result<Vec<Vec<String>>, Unrouted>
     requires domain { admission.now.domain ≡ domain.now }
     requires links { links.now ≡ domain.now.links }
-    requires reached { AreReached domain.now bridge stations.now }
+    requires reached { AreReached domain.now shut.now bridge stations.now }
     requires good { IsGoodEvery every }
     requires known { AreKnown domain.now (held_in domain.now admission.now.entries (seals admission.now.entries)) rooms.old }
     ensures known { AreKnown domain.now (held_in domain.now admission.now.entries (seals admission.now.entries)) rooms.new }
     ensures ok { let d = domain.now in let entries = admission.now.entries in IfOk result (λ paths.
-        AreFound d (lefts_on d (held_in d entries (seals entries)) every) cost bridge stations.now (branches_of paths.items)) }
+        AreFound d (lefts_past d shut.now (lefts_on d (held_in d entries (seals entries)) every)) cost bridge stations.now (branches_of paths.items)) }
     ensures err { let d = domain.now in let entries = admission.now.entries in IfErr result
-        (IsFullFor d (lefts_on d (held_in d entries (seals entries)) every) cost bridge stations.now) }
+        (IsFullFor d shut.now (lefts_past d shut.now (lefts_on d (held_in d entries (seals entries)) every)) cost bridge stations.now) }
 {
     let index = rooms.find(alloc, domain, admission, every)?;
+    let left = lefts_past(alloc, domain, shut, rooms.lefts_at(index, every))?;
     let room = Room {
         links,
-        left: rooms.lefts_at(index, every),
+        left: left.as_slice(),
         cost,
     };
-    branches_between(alloc, domain, room, bridge, stations)
+    branches_between(alloc, domain, room, shut, bridge, stations)
 }
 
 /// Returns the route from a bridge to stations of a stream of this cost in the given cycles.
@@ -194,21 +200,22 @@ fn given_route(
     admission: &Admission,
     bridge: u16,
     stations: &[u16],
+    shut: &[bool],
     every: u8,
     phase: u8,
     cost: u32,
 ) -> Result<Route, Unrouted>
     requires domain { admission.now.domain ≡ domain.now }
     requires links { links.now ≡ domain.now.links }
-    requires on_path { IsOnPath domain.now (Between bridge stations.now) }
+    requires on_path { IsOpenPath domain.now (Between bridge stations.now shut.now) }
     requires good { AreGoodActiveCycles (ActiveCycles.Given every phase) }
     ensures ok { let entries = admission.now.entries in IfOk result (IsRoute domain.now (held_in domain.now entries (seals entries))
-        (ActiveCycles.Given every phase) cost (Between bridge stations.now)) }
+        (ActiveCycles.Given every phase) cost (Between bridge stations.now shut.now)) }
     ensures err { let entries = admission.now.entries in IfErr result (IsUnrouted domain.now (held_in domain.now entries (seals entries))
-        (ActiveCycles.Given every phase) cost (Between bridge stations.now)) }
+        (ActiveCycles.Given every phase) cost (Between bridge stations.now shut.now)) }
 {
     match given_branches(
-        alloc, domain, links, admission, bridge, stations, every, phase, cost,
+        alloc, domain, links, admission, bridge, stations, shut, every, phase, cost,
     ) {
         Ok(paths) => {
             let route = route_along(
@@ -236,23 +243,24 @@ fn emptiest_route(
     rooms: &mut Rooms,
     bridge: u16,
     stations: &[u16],
+    shut: &[bool],
     every: u8,
     cost: u32,
 ) -> Result<Route, Unrouted>
     requires domain { admission.now.domain ≡ domain.now }
     requires links { links.now ≡ domain.now.links }
-    requires on_path { IsOnPath domain.now (Between bridge stations.now) }
+    requires on_path { IsOpenPath domain.now (Between bridge stations.now shut.now) }
     requires good { IsGoodEvery every }
     requires some { 1 ≤ cost }
     requires known { AreKnown domain.now (held_in domain.now admission.now.entries (seals admission.now.entries)) rooms.old }
     ensures known { AreKnown domain.now (held_in domain.now admission.now.entries (seals admission.now.entries)) rooms.new }
     ensures ok { let entries = admission.now.entries in IfOk result (IsRoute domain.now (held_in domain.now entries (seals entries))
-        (ActiveCycles.Chosen every) cost (Between bridge stations.now)) }
+        (ActiveCycles.Chosen every) cost (Between bridge stations.now shut.now)) }
     ensures err { let entries = admission.now.entries in IfErr result (IsUnrouted domain.now (held_in domain.now entries (seals entries))
-        (ActiveCycles.Chosen every) cost (Between bridge stations.now)) }
+        (ActiveCycles.Chosen every) cost (Between bridge stations.now shut.now)) }
 {
     match chosen_branches(
-        alloc, domain, links, admission, rooms, bridge, stations, every, cost,
+        alloc, domain, links, admission, rooms, bridge, stations, shut, every, cost,
     ) {
         Ok(paths) => {
             let route = route_along(
@@ -279,19 +287,20 @@ fn roomy_route(
     admission: &Admission,
     bridge: u16,
     stations: &[u16],
+    shut: &[bool],
     every: u8,
     phase: u8,
     cost: u32,
 ) -> Result<Option<Route>, Memory>
     requires domain { admission.now.domain ≡ domain.now }
     requires links { links.now ≡ domain.now.links }
-    requires on_path { IsOnPath domain.now (Between bridge stations.now) }
+    requires on_path { IsOpenPath domain.now (Between bridge stations.now shut.now) }
     requires good { AreGoodActiveCycles (ActiveCycles.Given every phase) }
     ensures { let entries = admission.now.entries in IfOk result (IsRoomyRoute domain.now (held_in domain.now entries (seals entries))
-        (ActiveCycles.Given every phase) cost (Between bridge stations.now)) }
+        (ActiveCycles.Given every phase) cost (Between bridge stations.now shut.now)) }
 {
     match given_route(
-        alloc, domain, links, admission, bridge, stations, every, phase, cost,
+        alloc, domain, links, admission, bridge, stations, shut, every, phase, cost,
     ) {
         Ok(route) => {
             if route.is_roomy(domain, admission, cost) {
@@ -319,19 +328,20 @@ fn first_route(
     admission: &Admission,
     bridge: u16,
     stations: &[u16],
+    shut: &[bool],
     every: u8,
     cost: u32,
 ) -> Result<Option<Route>, Memory>
     requires domain { admission.now.domain ≡ domain.now }
     requires links { links.now ≡ domain.now.links }
-    requires on_path { IsOnPath domain.now (Between bridge stations.now) }
+    requires on_path { IsOpenPath domain.now (Between bridge stations.now shut.now) }
     requires good { IsGoodEvery every }
     ensures { let entries = admission.now.entries in IfOk result
-        (IsFirstRoute domain.now (held_in domain.now entries (seals entries)) every cost (Between bridge stations.now)) }
+        (IsFirstRoute domain.now (held_in domain.now entries (seals entries)) every cost (Between bridge stations.now shut.now)) }
 {
     for phase in 0..every {
         let found = roomy_route(
-            alloc, domain, links, admission, bridge, stations, every, phase, cost,
+            alloc, domain, links, admission, bridge, stations, shut, every, phase, cost,
         )?;
         if let Some(route) = found {
             return Ok(Some(route));
@@ -357,30 +367,31 @@ fn chosen_route(
     rooms: &mut Rooms,
     bridge: u16,
     stations: &[u16],
+    shut: &[bool],
     every: u8,
     cost: u32,
 ) -> Result<Route, Unrouted>
     requires domain { admission.now.domain ≡ domain.now }
     requires links { links.now ≡ domain.now.links }
-    requires on_path { IsOnPath domain.now (Between bridge stations.now) }
+    requires on_path { IsOpenPath domain.now (Between bridge stations.now shut.now) }
     requires good { IsGoodEvery every }
     requires some { 1 ≤ cost }
     requires known { AreKnown domain.now (held_in domain.now admission.now.entries (seals admission.now.entries)) rooms.old }
     ensures known { AreKnown domain.now (held_in domain.now admission.now.entries (seals admission.now.entries)) rooms.new }
     ensures ok { let entries = admission.now.entries in IfOk result (IsTakenRoute domain.now (held_in domain.now entries (seals entries))
-        (ActiveCycles.Chosen every) cost (Between bridge stations.now)) }
+        (ActiveCycles.Chosen every) cost (Between bridge stations.now shut.now)) }
     ensures err { let entries = admission.now.entries in IfErr result (IsUntaken domain.now (held_in domain.now entries (seals entries))
-        (ActiveCycles.Chosen every) cost (Between bridge stations.now)) }
+        (ActiveCycles.Chosen every) cost (Between bridge stations.now shut.now)) }
 {
     match emptiest_route(
-        alloc, domain, links, admission, rooms, bridge, stations, every, cost,
+        alloc, domain, links, admission, rooms, bridge, stations, shut, every, cost,
     ) {
         Ok(route) => {
             if route.is_roomy(domain, admission, cost) {
                 return Ok(route);
             }
             let first = first_route(
-                alloc, domain, links, admission, bridge, stations, every, cost,
+                alloc, domain, links, admission, bridge, stations, shut, every, cost,
             )?;
             Ok(first.unwrap_or(route))
         }
@@ -401,20 +412,21 @@ pub(crate) fn find_route(
     admission: &Admission,
     rooms: &mut Rooms,
     path: &StreamPath,
+    shut: &[bool],
     active_cycles: ActiveCycles,
     cost: u32,
 ) -> Result<Route, Unrouted>
     requires domain { admission.now.domain ≡ domain.now }
     requires links { links.now ≡ domain.now.links }
-    requires on_path { IsOnPath domain.now (path_value path.now) }
+    requires on_path { IsOpenPath domain.now (past shut.now (path_value path.now)) }
     requires good { AreGoodActiveCycles active_cycles }
     requires some { CostsSome active_cycles cost }
     requires known { AreKnown domain.now (held_in domain.now admission.now.entries (seals admission.now.entries)) rooms.old }
     ensures known { AreKnown domain.now (held_in domain.now admission.now.entries (seals admission.now.entries)) rooms.new }
     ensures ok { let entries = admission.now.entries in IfOk result
-        (IsTakenRoute domain.now (held_in domain.now entries (seals entries)) active_cycles cost (path_value path.now)) }
+        (IsTakenRoute domain.now (held_in domain.now entries (seals entries)) active_cycles cost (past shut.now (path_value path.now))) }
     ensures err { let entries = admission.now.entries in IfErr result
-        (IsUntaken domain.now (held_in domain.now entries (seals entries)) active_cycles cost (path_value path.now)) }
+        (IsUntaken domain.now (held_in domain.now entries (seals entries)) active_cycles cost (past shut.now (path_value path.now))) }
 {
     match path {
         StreamPath::Along(paths) => {
@@ -430,6 +442,7 @@ pub(crate) fn find_route(
                 admission,
                 *bridge,
                 stations.as_slice(),
+                shut,
                 every,
                 phase,
                 cost,
@@ -442,6 +455,7 @@ pub(crate) fn find_route(
                 rooms,
                 *bridge,
                 stations.as_slice(),
+                shut,
                 every,
                 cost,
             ),

@@ -3,7 +3,8 @@ ghost use Rattle.std.specs.Prelude.{Some};
 ghost use Rattle.cqf_program_placing.specs.Faults.{plan_fault_text};
 
 use cqf_admission::Refused;
-use cqf_units::Name;
+use cqf_units::{Memory, Name};
+use std::alloc::AllocFailed;
 use std::fmt;
 use thiserror::Error;
 
@@ -19,6 +20,8 @@ pub enum PlanFault {
     NoListener(Name),
     /// The first of its listeners to which no path leads from its edge bridge, of at most 16 links.
     NoWay(Name),
+    /// The first of the streams from which it is to be apart such that no path to its listeners is, or that its given path isn't apart from.
+    NotApart(Name),
     /// Its deadline is over before a frame is whole at its edge bridge, or at that instant.
     TooSoon,
     /// Its talker has to be in step, but not all its frames of an interval arrive within one cycle, by its own clock and by the edge
@@ -61,6 +64,7 @@ impl fmt::Display for PlanFault {
             PlanFault::NoTalker => f.write_str("NoTalker"),
             PlanFault::NoListener(listener) => write!(f, "NoListener {listener}"),
             PlanFault::NoWay(listener) => write!(f, "NoWay {listener}"),
+            PlanFault::NotApart(other) => write!(f, "NotApart {other}"),
             PlanFault::TooSoon => f.write_str("TooSoon"),
             PlanFault::BadInStep => f.write_str("BadInStep"),
             PlanFault::TooMuch(needed) => write!(f, "TooMuch {needed}"),
@@ -79,5 +83,40 @@ impl fmt::Display for PlanFault {
                 deadline,
             } => write!(f, "Late {listener} {most} {deadline}"),
         }
+    }
+}
+
+/// Why the streams of a network file can't be kept apart: the first fault of the key `apart`.
+#[derive(Debug, PartialEq, Eq, Drop)]
+pub enum ApartFault {
+    /// The value isn't an array of names, at least one.
+    BadValue,
+    /// The stream of the first name is to be apart from one that isn't before it: the second name.
+    NotBefore(Name, Name),
+    /// An allocation failed.
+    Memory,
+}
+
+/// A failed allocation, as a fault.
+impl From<Memory> for ApartFault {
+    ghost use Rattle.std.specs.Prelude.{◌≡◌};
+    ghost use Rattle.cqf_program_placing.specs.declared.faults.ApartFault.TheVariants as variant;
+
+    ghost from_gives = { λ _ fault. fault ≡ variant.Memory };
+
+    fn from(_refused: Memory) -> ApartFault {
+        ApartFault::Memory
+    }
+}
+
+/// A failed allocation of room for a value, as a fault.
+impl<T: Drop> From<AllocFailed<T>> for ApartFault {
+    ghost use Rattle.std.specs.Prelude.{◌≡◌};
+    ghost use Rattle.cqf_program_placing.specs.declared.faults.ApartFault.TheVariants as variant;
+
+    ghost from_gives = { λ _ fault. fault ≡ variant.Memory };
+
+    fn from(_refused: AllocFailed<T>) -> ApartFault {
+        ApartFault::Memory
     }
 }

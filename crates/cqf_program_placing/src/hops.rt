@@ -1,10 +1,11 @@
 //! After how many links the frames of a stream with given cycles leave each bridge, and what links have left there.
-ghost use Rattle.std.specs.Prelude.{◌≡◌, ◌<◌, ◌+◌, ℕ, IfOk, MatchOption, None, Some, false, length, slice_index_or, true};
+ghost use Rattle.std.specs.Prelude.{◌≡◌, ◌<◌, ◌+◌, ℕ, IfOk, MatchOption, None, Some, false, length, true};
 ghost use Rattle.cqf_admission.specs.ActiveCycles.{IsGoodPace};
 ghost use Rattle.cqf_model.specs.History.{held_in, seals};
 ghost use Rattle.cqf_network.specs.Paths.{most_links};
-ghost use Rattle.cqf_program_placing.specs.Hops.{AreHops, AreLeftAfter, AreReachedBy, AreShallow, IsReachedBy, LeadsAfter, has_room_after, hop_of, left_after, left_where, lefts_where};
+ghost use Rattle.cqf_program_placing.specs.Hops.{AreHops, AreLeftAfter, AreReachedBy, AreShallow, IsReachedBy, LeadsAfter, has_room_after, hop_of, left_after, left_where};
 
+use crate::shutting::is_shut;
 use cqf_admission::Admission;
 use cqf_model::{Hop, MOST_BRIDGES, Node, Pace};
 use cqf_topology::Domain;
@@ -23,6 +24,8 @@ pub(crate) struct PacedRoom<'a> {
     pub domain: &'a Domain,
     pub admission: &'a Admission,
     pub pace: Pace,
+    /// The links that are shut for it, by number.
+    pub shut: &'a [bool],
     /// What the stream costs of each link, in octets per cycle.
     pub cost: u32,
 }
@@ -53,15 +56,18 @@ fn leave_some(domain: &Domain, before: u8, hops: &Hops) -> bool
 }
 
 impl<'a> PacedRoom<'a> {
-    /// Returns what a link has left in the cycles in which frames pass it after `before` links.
+    /// Returns what a link has left in the cycles in which frames pass it after `before` links; nothing if it is shut.
     fn left_after(self, before: u8, link: u16) -> u32
         requires domain { self.admission.now.domain ≡ self.domain.now }
         requires inside { link < length self.domain.now.links }
         requires good { IsGoodPace self.pace }
         requires few { before < most_links }
         ensures { let d = self.entry.domain.now in let entries = self.entry.admission.now.entries in
-            result ≡ left_after d (held_in d entries (seals entries)) self.entry.pace before link }
+            result ≡ left_after d (held_in d entries (seals entries)) self.entry.shut.now self.entry.pace before link }
     {
+        if is_shut(self.shut, link) {
+            return 0;
+        }
         let hop = Hop {
             link,
             hop_number: before + 1,
@@ -77,7 +83,7 @@ impl<'a> PacedRoom<'a> {
         requires good { IsGoodPace self.pace }
         requires few { before < most_links }
         ensures { let d = self.entry.domain.now in let entries = self.entry.admission.now.entries in
-            let room = has_room_after d (held_in d entries (seals entries)) self.entry.pace self.entry.cost in
+            let room = has_room_after d (held_in d entries (seals entries)) self.entry.shut.now self.entry.pace self.entry.cost in
             MatchOption result ((bridge : ℕ) → ¬ LeadsAfter d.links room hops.now before link bridge)
             (λ bridge. LeadsAfter d.links room hops.now before link bridge) }
     {
@@ -105,7 +111,7 @@ impl<'a> PacedRoom<'a> {
         requires good { IsGoodPace self.pace }
         requires few { before < most_links }
         ensures { let d = self.entry.domain.now in let entries = self.entry.admission.now.entries in
-            IsReachedBy d.links (has_room_after d (held_in d entries (seals entries)) self.entry.pace self.entry.cost) before link hops.old hops.new }
+            IsReachedBy d.links (has_room_after d (held_in d entries (seals entries)) self.entry.shut.now self.entry.pace self.entry.cost) before link hops.old hops.new }
     {
         self.domain.know();
         let Some(bridge) = self.led(before, link, hops) else {
@@ -122,7 +128,7 @@ impl<'a> PacedRoom<'a> {
         requires good { IsGoodPace self.pace }
         requires few { before < most_links }
         ensures { let d = self.entry.domain.now in let entries = self.entry.admission.now.entries in
-            AreReachedBy d.links (has_room_after d (held_in d entries (seals entries)) self.entry.pace self.entry.cost) before (length d.links) hops.old hops.new }
+            AreReachedBy d.links (has_room_after d (held_in d entries (seals entries)) self.entry.shut.now self.entry.pace self.entry.cost) before (length d.links) hops.old hops.new }
     {
         self.domain.know();
         if !leave_some(self.domain, before, hops) {
@@ -140,7 +146,7 @@ impl<'a> PacedRoom<'a> {
         requires good { IsGoodPace self.pace }
         requires inside { bridge < length self.domain.now.bridges }
         ensures { let d = self.entry.domain.now in let entries = self.entry.admission.now.entries in
-            AreHops d.links (has_room_after d (held_in d entries (seals entries)) self.entry.pace self.entry.cost) bridge result }
+            AreHops d.links (has_room_after d (held_in d entries (seals entries)) self.entry.shut.now self.entry.pace self.entry.cost) bridge result }
     {
         self.domain.know();
         let mut hops = [None; MOST_BRIDGES];
@@ -158,7 +164,7 @@ impl<'a> PacedRoom<'a> {
         requires good { IsGoodPace self.pace }
         requires shallow { AreShallow hops.now }
         ensures { let d = self.entry.domain.now in let entries = self.entry.admission.now.entries in
-            result ≡ left_where d (held_in d entries (seals entries)) self.entry.pace hops.now link }
+            result ≡ left_where d (held_in d entries (seals entries)) self.entry.shut.now self.entry.pace hops.now link }
     {
         let it = self.domain.link(link);
         match hop_of(hops, it.from) {
@@ -176,7 +182,7 @@ impl<'a> PacedRoom<'a> {
         requires good { IsGoodPace self.pace }
         requires inside { bridge < length self.domain.now.bridges }
         ensures { let d = self.entry.domain.now in let entries = self.entry.admission.now.entries in
-            IfOk result (λ left. AreLeftAfter d (held_in d entries (seals entries)) self.entry.pace self.entry.cost bridge left.items) }
+            IfOk result (λ left. AreLeftAfter d (held_in d entries (seals entries)) self.entry.shut.now self.entry.pace self.entry.cost bridge left.items) }
     {
         let hops = self.hops_from(bridge);
         let mut left = Vec::new(alloc);

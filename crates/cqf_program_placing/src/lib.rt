@@ -21,6 +21,8 @@
 #![tactic(auto)]
 
 mod active_cycles;
+mod apart;
+mod apart_names;
 mod asking;
 mod branched;
 mod branches;
@@ -30,6 +32,7 @@ mod entrances;
 mod faults;
 mod hops;
 mod laws;
+mod neighbors;
 mod outcomes;
 mod path_settling;
 mod paths_there;
@@ -40,12 +43,15 @@ mod rooms;
 mod routes;
 mod settled;
 mod settling;
+mod shutting;
 
 pub use active_cycles::ActiveCycles;
-pub use faults::PlanFault;
+pub use apart::are_apart;
+pub use faults::{ApartFault, PlanFault};
 pub use laws::placed_where_there_is_room;
+pub use neighbors::keep_apart;
 pub use outcomes::PlacingOutcome;
 pub use placing::{Placing, place, place_in_order};
 pub(crate) use settled::StreamPath;
-pub use settled::{Settled, Unsettled};
+pub use settled::{Neighbor, Settled, Unsettled};
 pub use settling::settle;

@@ -11,9 +11,9 @@ ghost use Rattle.cqf_units.specs.Timing.{cost_of};
 ghost use Rattle.cqf_network.specs.NetworkDomain.{IsOpenCycle, domain_at};
 ghost use Rattle.cqf_program_placing.specs.Known.{AreKnown};
 ghost use Rattle.cqf_program_placing.specs.Orders.{in_order};
-ghost use Rattle.cqf_program_placing.specs.Placing.{ArePlaced, IsAskedFor, IsPlacedInActiveCycles, IsPlacing, outcome_value};
-ghost use Rattle.cqf_program_placing.specs.Routes.{IsGoodRoute};
-ghost use Rattle.cqf_program_placing.specs.Settled.{IsOnPath, IsPlaceable, open_domain, path_value, settled_value};
+ghost use Rattle.cqf_program_placing.specs.Placing.{ArePlaced, IsAskedFor, IsPlacedInActiveCycles, IsPlacing, outcome_value, past_links};
+ghost use Rattle.cqf_program_placing.specs.Routes.{IsGoodRoute, IsOpenPath};
+ghost use Rattle.cqf_program_placing.specs.Settled.{IsPlaceable, open_domain, past, path_value, settled_value};
 ghost use Rattle.cqf_program_placing.specs.ActiveCycles.{AreGoodActiveCycles, CostsSome};
 
 use crate::active_cycles::{ActiveCycles, active_cycles_on};
@@ -22,6 +22,7 @@ use crate::choosing::{Route, find_route};
 use crate::reserving::reservation;
 use crate::rooms::Rooms;
 use crate::routes::Unrouted;
+use crate::shutting::shut_for;
 use crate::{PlacingOutcome, Settled};
 use cqf_admission::{Admission, SealFault, Table};
 use cqf_laws_history::state_follows_history;
@@ -94,7 +95,7 @@ fn place_along(
     Ok(outcome)
 }
 
-/// Places a stream with this reservation in these cycles, after those that are placed.
+/// Places a stream with this reservation in these cycles, after those that are placed, past links that are shut.
 fn place_with(
     alloc: Global,
     domain: &Domain,
@@ -102,20 +103,21 @@ fn place_with(
     admission: &mut Admission,
     rooms: &mut Rooms,
     stream: &Settled,
+    shut: &[bool],
     octets: u32,
     active_cycles: ActiveCycles,
 ) -> Result<PlacingOutcome, Memory>
     requires domain { admission.old.domain ≡ domain.now }
     requires links { links.now ≡ domain.now.links }
     requires free { calls admission.old.entries < most_calls }
-    requires on_path { IsOnPath domain.now (path_value stream.now.path) }
+    requires on_path { IsOpenPath domain.now (past shut.now (path_value stream.now.path)) }
     requires few { octets ≤ most_reserved }
     requires good { AreGoodActiveCycles active_cycles }
     requires some { CostsSome active_cycles octets }
     requires known { AreKnown domain.now (held_in domain.now admission.old.entries (seals admission.old.entries)) rooms.old }
     ensures domain { admission.new.domain ≡ domain.now }
     ensures placed { IfOk result (λ outcome.
-        IsPlacedInActiveCycles domain.now admission.old.entries (settled_value stream.now) octets active_cycles (outcome_value outcome) admission.new.entries) }
+        IsPlacedInActiveCycles domain.now admission.old.entries (past_links shut.now (settled_value stream.now)) octets active_cycles (outcome_value outcome) admission.new.entries) }
     ensures known { IfOk result (λ _. AreKnown domain.now (held_in domain.now admission.new.entries (seals admission.new.entries)) rooms.new) }
 {
     let route = match find_route(
@@ -125,6 +127,7 @@ fn place_with(
         admission,
         rooms,
         &stream.path,
+        shut,
         active_cycles,
         cost(Octets(domain.overhead()), Octets(octets)).0,
     ) {
@@ -161,6 +164,13 @@ fn place_one(
         Ok(octets) => octets,
         Err(found) => return Ok(PlacingOutcome::Unplaced(found)),
     };
+    let shut = match shut_for(alloc, domain, links, admission, stream) {
+        Ok(shut) => shut,
+        Err(unrouted) => match unrouted {
+            Unrouted::Fault(found) => return Ok(PlacingOutcome::Unplaced(found)),
+            Unrouted::Memory => return Err(AllocError),
+        },
+    };
     let active_cycles = active_cycles_on(stream, domain.cycle_time());
     place_with(
         alloc,
@@ -169,6 +179,7 @@ fn place_one(
         admission,
         rooms,
         stream,
+        shut.as_slice(),
         octets,
         active_cycles,
     )
@@ -208,6 +219,9 @@ fn place_all(
 /// stream's frames pass it. If its talker is in step, a link needs room in its own emptiest phase; the stream then takes the first of the
 /// phases in which its links, from the fullest down, are least full. If it finds no room in this way, it takes the first phase in which it
 /// would find room if that phase were given. The stream is then requested as any other. A stream that isn't placed holds nothing.
+///
+/// A path that is found is apart from the paths of the stream's neighbors, as far as these are given or placed before it. A given path is taken as
+/// it is.
 ///
 /// # Errors
 /// `Memory` if an allocation fails.

@@ -2,14 +2,15 @@
 ghost use Rattle.std.specs.Prelude.{◌≡◌, ◌<◌, IfErr, IfOk, length, slice_index};
 ghost use Rattle.cqf_admission.specs.Branches.{branches_of};
 ghost use Rattle.cqf_model.specs.Domain.{bridge_of};
-ghost use Rattle.cqf_program_placing.specs.Placing.{AreFound, IsFullTo};
-ghost use Rattle.cqf_program_placing.specs.Routes.{AreReached, IsFullFor, IsReached};
+ghost use Rattle.cqf_program_placing.specs.Placing.{AreFound};
+ghost use Rattle.cqf_program_placing.specs.Routes.{AreReached, IsFullFor, IsFullToFor, IsReached};
 ghost use Rattle.cqf_program_plans.specs.EndNames.{name_of_end};
 ghost use Rattle.cqf_topology.specs.NodeNames.{name_of_bridge, name_of_node};
 ghost use Rattle.cqf_network.specs.Paths.{NoWay, has_room};
 
 use crate::PlanFault;
 use crate::branches::{branches_along, end_of_link, start_of_link};
+use crate::shutting::open_lefts;
 use cqf_model::Node;
 use cqf_network::{
     PathsFault, Room, first_path, first_paths, first_short, full_paths_have_a_short_link,
@@ -67,21 +68,31 @@ fn full_at(domain: &Domain, room: Room, station: u16, link: u16) -> PlanFault
     }
 }
 
-/// Returns the fault that a listener is full for a stream. Paths lead to it from the stream's bridge, but none with room; the fault names
-/// the first link that lacks room on the first path of all.
-fn full_to(domain: &Domain, room: Room, bridge: u16, station: u16) -> PlanFault
+/// Returns the fault that a listener is full for a stream. Paths lead to it from the stream's bridge past the links that are shut, but none with
+/// room; the fault names the first link that lacks room on the first of these paths.
+fn full_to(
+    alloc: Global,
+    domain: &Domain,
+    room: Room,
+    shut: &[bool],
+    bridge: u16,
+    station: u16,
+) -> Unrouted
     requires links { room.links.now ≡ domain.now.links }
     requires left { length room.left.now ≡ length domain.now.links }
-    requires reached { IsReached domain.now bridge station }
+    requires reached { IsReached domain.now shut.now bridge station }
     requires none { NoWay domain.now.links (has_room room.left.now room.cost) (Node.Bridge bridge) (Node.Station station) }
-    ensures { IsFullTo domain.now room.entry.left.now room.entry.cost bridge station result }
+    ensures { IsFullToFor domain.now shut.now room.entry.left.now room.entry.cost bridge station result }
 {
     full_paths_have_a_short_link();
     domain.know();
+    let Ok(left) = open_lefts(alloc, domain, shut) else {
+        return Unrouted::Memory;
+    };
     let anyhow = Room {
         links: room.links,
-        left: room.left,
-        cost: 0,
+        left: left.as_slice(),
+        cost: 1,
     };
     let Some(path) = first_path(anyhow, bridge, Node::Station(station)) else {
         unreachable!();
@@ -89,26 +100,27 @@ fn full_to(domain: &Domain, room: Room, bridge: u16, station: u16) -> PlanFault
     let Some(link) = first_short(room, path.as_slice()) else {
         unreachable!();
     };
-    full_at(domain, room, station, link)
+    Unrouted::Fault(full_at(domain, room, station, link))
 }
 
 /// Returns the branches of the first paths with room from a bridge to some stations, in their order.
 ///
 /// # Errors
-/// The fault of the first station to which there is none, with the first link that lacks room on the first path of all; `Memory` if an
-/// allocation fails.
+/// The fault of the first station to which there is none, with the first link that lacks room on the first path past links that are
+/// shut; `Memory` if an allocation fails.
 pub(crate) fn branches_between(
     alloc: Global,
     domain: &Domain,
     room: Room,
+    shut: &[bool],
     bridge: u16,
     stations: &[u16],
 ) -> Result<Vec<Vec<String>>, Unrouted>
     requires links { room.links.now ≡ domain.now.links }
     requires left { length room.left.now ≡ length domain.now.links }
-    requires reached { AreReached domain.now bridge stations.now }
+    requires reached { AreReached domain.now shut.now bridge stations.now }
     ensures ok { IfOk result (λ paths. AreFound domain.now room.entry.left.now room.entry.cost bridge stations.now (branches_of paths.items)) }
-    ensures err { IfErr result (IsFullFor domain.now room.entry.left.now room.entry.cost bridge stations.now) }
+    ensures err { IfErr result (IsFullFor domain.now shut.now room.entry.left.now room.entry.cost bridge stations.now) }
 {
     domain.know();
     match first_paths(alloc, room, bridge, stations) {
@@ -118,8 +130,8 @@ pub(crate) fn branches_between(
         }
         Err(fault) => match fault {
             PathsFault::NoWay(index) => {
-                let full = full_to(domain, room, bridge, stations[index]);
-                Err(Unrouted::Fault(full))
+                let station = stations[index];
+                Err(full_to(alloc, domain, room, shut, bridge, station))
             }
             PathsFault::Memory => Err(Unrouted::Memory),
         },

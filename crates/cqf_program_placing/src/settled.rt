@@ -15,6 +15,16 @@ pub enum StreamPath {
     Between(u16, Vec<u16>),
 }
 
+/// A stream from which another one is to be apart: one that it names, or one that names it.
+#[derive(Debug, Drop)]
+pub struct Neighbor {
+    pub name: Name,
+    /// Whether it is the later one, which names the other.
+    pub is_later: bool,
+    /// Its branches if they are given.
+    pub given: Vec<Vec<String>>,
+}
+
 /// A stream of a network file with which nothing is wrong at any cycle time.
 #[derive(Debug, Drop)]
 pub struct Settled {
@@ -27,6 +37,7 @@ pub struct Settled {
     /// The deadline in nanoseconds, counted from the edge bridge; at least 1.
     pub deadline: Option<u32>,
     pub traffic: Option<Traffic>,
+    pub apart: Vec<Neighbor>,
 }
 
 /// Why the streams of a network file aren't settled: the first fault.

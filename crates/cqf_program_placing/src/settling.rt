@@ -79,6 +79,7 @@ struct Terms {
 
 /// Returns a stream whose path is settled, with its deadline; `taken` nanoseconds of it are over at the edge bridge.
 fn settle_deadline(
+    alloc: Global,
     name: &Name,
     terms: Terms,
     path: StreamPath,
@@ -95,6 +96,7 @@ fn settle_deadline(
             path,
             deadline,
             traffic: terms.traffic,
+            apart: Vec::new(alloc),
         }),
         Err(fault) => Err(Unsettled::Stream(name.copied(), fault)),
     }
@@ -127,7 +129,7 @@ fn settle_named(
     if let Some(refused) = refusal_after(at.plan, held, name) {
         return Err(unsettled(name, refused));
     }
-    settle_deadline(name, terms, settled, taken)
+    settle_deadline(alloc, name, terms, settled, taken)
 }
 
 /// Returns the stream, which follows those of other names, or its first fault.

@@ -35,10 +35,11 @@ use Rattle.cqf_program_placing.specs.declared.faults.PlanFault.{PlanFault}
 use Rattle.cqf_program_placing.specs.declared.faults.PlanFault.TheVariants as plan_fault
 use Rattle.cqf_program_placing.specs.declared.settled.Unsettled.TheVariants as unsettled
 use Rattle.cqf_program_placing.specs.declared.active_cycles.ActiveCycles.{ActiveCycles}
-use Rattle.cqf_program_placing.specs.Placing.{ArePlaced, ArePlacedFrom, IsAnswered, IsAskedFor, IsPlacedBy, IsPlacing, IsRoutedAndAnswered, PlacedOr, PlacedStreams, Placed, answered, reserved_on, active_cycles_on}
+use Rattle.cqf_program_placing.specs.Apart.{ApartFrom}
+use Rattle.cqf_program_placing.specs.Placing.{ArePlaced, ArePlacedFrom, IsAnswered, IsAskedFor, IsPlacedBy, IsPlacedPast, IsPlacing, IsRoutedAndAnswered, PlacedOr, PlacedStreams, Placed, Unplaced, answered, past_links, reserved_on, active_cycles_on}
 use Rattle.cqf_program_placing.specs.Settled.{Along, SettledPath, SettledStream, are_reservable, deadline_after, deadline_of_stream, is_paced, longest_of, or_unsettled, refusal_after}
-use Rattle.cqf_program_placing.specs.Settled.{settled_next, settled_path, settled_stream, taken_on, talker_of_stream, with_deadline}
-use Rattle.cqf_program_planning.specs.Judging.{candidate_of, deadlines_placed, first_late, first_unplaced, flows_placed, late_fault, latencies_placed, traffic_by}
+use Rattle.cqf_program_placing.specs.Settled.{alone, settled_next, settled_path, settled_stream, taken_on, talker_of_stream, with_deadline}
+use Rattle.cqf_program_planning.specs.Judging.{candidate_of, deadlines_placed, first_late, first_touched, first_unplaced, flow_of, flows_placed, late_fault, latencies_placed, traffic_by}
 use Rattle.cqf_program_planning.specs.PlanLaws.{ReservesEnough, deadlines_of}
 use Rattle.cqf_program_planning.specs.ReadPlans.{IsGoodPlan}
 use Rattle.cqf_program_planning.proofs.AllPlaced.{AreAllGranted, all_granted, neither}
@@ -107,7 +108,7 @@ allowed_by d rows r h =
 -- a stream of a request, with what is left of its deadline and with its traffic
 abbrev pub settled_as : PacedText → Option ℕ → Option TrafficText → SettledStream
 settled_as r deadline traffic =
-    record { name = r.name; octets = Some r.octets; pacing = Given r.every r.phase; path = Along r.paths; deadline = deadline; traffic = traffic }
+    record { name = r.name; octets = Some r.octets; pacing = Given r.every r.phase; path = Along r.paths; deadline = deadline; traffic = traffic; apart = [] }
 
 left_again : (deadline : Option ℕ) → ((x : ℕ) → deadline ≡ Some x → 1 ≤ x) → deadline_after 0 deadline ≡ Ok deadline
 left_again None some = refl
@@ -142,7 +143,7 @@ module _ (network : NetworkDomain) (d : Domain) (before : List (List ℕ)) (s : 
       ∙ (λ i. with_deadline s.name s.octets s.pacing (Along r.paths) s.traffic
       (deadline_after (taken_on (talker_of_stream network d (path i)) (longest_of s.octets s.traffic)) s.deadline))
       ∙ ap (with_deadline s.name s.octets s.pacing (Along r.paths) s.traffic) (left_again s.deadline some)
-      ∙ (λ i. Ok (record { name = name i; octets = octets i; pacing = pacing i; path = Along r.paths; deadline = s.deadline; traffic = s.traffic }))
+      ∙ (λ i. Ok (record { name = name i; octets = octets i; pacing = pacing i; path = Along r.paths; deadline = s.deadline; traffic = s.traffic; apart = [] }))
 
   pub settled_again : settled_next network d before s ≡ Ok (settled_as r s.deadline s.traffic)
   settled_again =
@@ -173,6 +174,13 @@ reserved_again overhead cycle_time sync r deadline (Some t) reservable enough =
 abbrev pub settled_flow : FlowText → SettledStream
 settled_flow flow = settled_as flow.0.0 flow.0.1 flow.1
 
+-- with neighbors
+abbrev beside : FlowText → List ApartFrom → SettledStream
+beside flow apart = record (settled_flow flow) { apart = apart }
+
+is_beside : (flow : FlowText) (stream : SettledStream) → alone stream ≡ settled_flow flow → stream ≡ beside flow stream.apart
+is_beside flow stream e = ap (λ (s : SettledStream). record s { apart = stream.apart }) e
+
 record IsPlacedAs (d : Domain) (entries : List Recorded) (asked : Asked) (become : PlacedOr) (after : List Recorded) : Type 0 where
   outcome : become ≡ Placed asked
   entered : after ≡ with_asked d entries asked
@@ -190,14 +198,15 @@ asked_again d entries flow become after granted h =
       entered = h.entered ∙ ap (with_asked d entries) asked;
     }
 
-one_again : (d : Domain) (entries : List Recorded) (flow : FlowText) (become : PlacedOr) (after : List Recorded) → ReservesEnough d.overhead d.cycle_time flow →
-    refusal_of d (held_in d entries (seals entries)) (asked_in flow) ≡ None → IsPlacing d entries (settled_flow flow) become after →
-    IsPlacedAs d entries (asked_in flow) become after
-one_again d entries flow become after enough granted h =
+one_again : (d : Domain) (entries : List Recorded) (flow : FlowText) (apart : List ApartFrom) (become : PlacedOr) (after : List Recorded) →
+    ReservesEnough d.overhead d.cycle_time flow → refusal_of d (held_in d entries (seals entries)) (asked_in flow) ≡ None →
+    IsPlacing d entries (beside flow apart) become after → IsPlacedAs d entries (asked_in flow) become after
+one_again d entries flow apart become after enough granted h =
     let allowed = allowed_by d (held_in d entries (seals entries)) flow.0.0 granted in
     let reserved = reserved_again d.overhead d.cycle_time d.sync flow.0.0 flow.0.1 flow.1 allowed.reservable enough in
-    let routed = subst (λ x. IsPlacedBy d entries (settled_flow flow) x become after) reserved h in
-    let here = subst (λ (t : ActiveCycles). IsRoutedAndAnswered d entries (settled_flow flow) flow.0.0.octets t become after) routed.are_taken routed.is_placed in
+    let opened = subst (λ x. IsPlacedBy d entries (beside flow apart) x become after) reserved h in
+    let routed = subst (λ x. IsPlacedPast d entries (beside flow apart) flow.0.0.octets x become after) opened.is_shut opened.is_placed in
+    let here = subst (λ (t : ActiveCycles). IsRoutedAndAnswered d entries (past_links [] (beside flow apart)) flow.0.0.octets t become after) routed.are_taken routed.is_placed in
     let answers = subst (λ x. IsAnswered d entries flow.0.0.name flow.0.0.octets (active_cycles_on d.cycle_time (settled_flow flow)) x become after) here.is_routed
     here.is_answered in
     asked_again d entries flow become after granted answers
@@ -205,20 +214,41 @@ one_again d entries flow become after enough granted h =
 abbrev pub placed_all : List FlowText → List PlacedOr
 placed_all flows = map (λ (flow : FlowText). Placed (asked_in flow)) flows
 
-pub all_again : (d : Domain) (flows : List FlowText) (entries end : List Recorded) (outcomes : List PlacedOr) → All (ReservesEnough d.overhead d.cycle_time) flows →
-    AreGranted d entries (map asked_in flows) → ArePlacedFrom d entries (map settled_flow flows) outcomes end → outcomes ≡ placed_all flows
-all_again d [] entries end [] enough granted h = refl
-all_again d [] entries end (become ∷ more) enough granted h = absurd h
-all_again d (flow ∷ flows) entries end [] enough granted h = absurd h
-all_again d (flow ∷ flows) entries end (become ∷ more) enough granted h =
-    let first = one_again d entries flow become h.0 (All-head (ReservesEnough d.overhead d.cycle_time) flow flows enough) granted.0 h.1 in
+pub all_again : (d : Domain) (flows : List FlowText) (streams : List SettledStream) (entries end : List Recorded) (outcomes : List PlacedOr) →
+    map alone streams ≡ map settled_flow flows → All (ReservesEnough d.overhead d.cycle_time) flows → AreGranted d entries (map asked_in flows) →
+    ArePlacedFrom d entries streams outcomes end → outcomes ≡ placed_all flows
+all_again d [] [] entries end [] same enough granted h = refl
+all_again d [] [] entries end (become ∷ more) same enough granted h = absurd h
+all_again d [] (stream ∷ streams) entries end outcomes same enough granted h = absurd cc
+all_again d (flow ∷ flows) [] entries end outcomes same enough granted h = absurd cc
+all_again d (flow ∷ flows) (stream ∷ streams) entries end [] same enough granted h = absurd h
+all_again d (flow ∷ flows) (stream ∷ streams) entries end (become ∷ more) same enough granted h =
+    let head : alone stream ≡ settled_flow flow = cc in
+    let tail : map alone streams ≡ map settled_flow flows = cc in
+    let placed = subst (λ (s : SettledStream). IsPlacing d entries s become h.0) (is_beside flow stream head) h.1 in
+    let first = one_again d entries flow stream.apart become h.0 (All-head (ReservesEnough d.overhead d.cycle_time) flow flows enough) granted.0 placed in
     let next = subst (λ (there : List Recorded). AreGranted d there (map asked_in flows)) (sym first.entered) granted.1 in
-    let rest = all_again d flows h.0 end more (All-tail (ReservesEnough d.overhead d.cycle_time) flow flows enough) next h.2 in
+    let rest = all_again d flows streams h.0 end more tail (All-tail (ReservesEnough d.overhead d.cycle_time) flow flows enough) next h.2 in
     (λ i. first.outcome i ∷ rest i)
 
-pub none_unplaced : (flows : List FlowText) → first_unplaced (map settled_flow flows) (placed_all flows) ≡ None
-none_unplaced [] = refl
-none_unplaced (flow ∷ flows) = none_unplaced flows
+none_unplaced : (streams : List SettledStream) (flows : List FlowText) → first_unplaced streams (placed_all flows) ≡ None
+none_unplaced [] flows = refl
+none_unplaced (stream ∷ streams) [] = refl
+none_unplaced (stream ∷ streams) (flow ∷ flows) = none_unplaced streams flows
+
+-- neighbors change no flow and no deadline
+flows_alone : (cycle_time : ℕ) (streams : List SettledStream) (outcomes : List PlacedOr) →
+    flows_placed cycle_time streams outcomes ≡ flows_placed cycle_time (map alone streams) outcomes
+flows_alone cycle_time [] outcomes = refl
+flows_alone cycle_time (stream ∷ streams) [] = refl
+flows_alone cycle_time (stream ∷ streams) (Placed asked ∷ outcomes) = ap (λ xs. flow_of cycle_time stream asked ∷ xs) (flows_alone cycle_time streams outcomes)
+flows_alone cycle_time (stream ∷ streams) (Unplaced found ∷ outcomes) = flows_alone cycle_time streams outcomes
+
+deadlines_alone : (streams : List SettledStream) (outcomes : List PlacedOr) → deadlines_placed streams outcomes ≡ deadlines_placed (map alone streams) outcomes
+deadlines_alone [] outcomes = refl
+deadlines_alone (stream ∷ streams) [] = refl
+deadlines_alone (stream ∷ streams) (Placed asked ∷ outcomes) = ap (λ xs. stream.deadline ∷ xs) (deadlines_alone streams outcomes)
+deadlines_alone (stream ∷ streams) (Unplaced found ∷ outcomes) = deadlines_alone streams outcomes
 
 -- as the same flows
 same_traffic : (cycle_time every phase at : ℕ) (traffic : Option TrafficText) → option_map (traffic_by cycle_time (Given every phase) at) traffic ≡ traffic
@@ -238,36 +268,42 @@ same_deadlines (flow ∷ flows) = ap (λ xs. flow.0.1 ∷ xs) (same_deadlines fl
 
 -- ---- it is as good
 
-module _ (counted : SealsAreCounted) (d : Domain) (flows : List FlowText) (good : IsGoodPlan d flows) (granted : AreGranted d [] (map asked_in flows)) (placed : PlacedStreams)
-    (domain : placed.domain ≡ d) (are : ArePlaced (map settled_flow flows) placed) where
-  indices : ArePlacedFrom d [] (map settled_flow flows) placed.outcomes placed.entries
-  indices = subst (λ (x : Domain). ArePlacedFrom x [] (map settled_flow flows) placed.outcomes placed.entries) domain are
+module _ (counted : SealsAreCounted) (d : Domain) (flows : List FlowText) (good : IsGoodPlan d flows) (granted : AreGranted d [] (map asked_in flows))
+    (streams : List SettledStream) (same : map alone streams ≡ map settled_flow flows) (placed : PlacedStreams) (domain : placed.domain ≡ d) (are : ArePlaced streams placed)
+  where
+    indices : ArePlacedFrom d [] streams placed.outcomes placed.entries
+    indices = subst (λ (x : Domain). ArePlacedFrom x [] streams placed.outcomes placed.entries) domain are
 
-  pub outcomes_again : placed.outcomes ≡ placed_all flows
-  outcomes_again = all_again d flows [] placed.entries placed.outcomes good.enough granted indices
+    pub outcomes_again : placed.outcomes ≡ placed_all flows
+    outcomes_again = all_again d flows streams [] placed.entries placed.outcomes same good.enough granted indices
 
-  pub unplaced_again : first_unplaced (map settled_flow flows) placed.outcomes ≡ None
-  unplaced_again = ap (first_unplaced (map settled_flow flows)) outcomes_again ∙ none_unplaced flows
+    pub unplaced_again : first_unplaced streams placed.outcomes ≡ None
+    unplaced_again = ap (first_unplaced streams) outcomes_again ∙ none_unplaced streams flows
 
-  all : AreAllGranted d [] (map settled_flow flows) (flows_placed d.cycle_time (map settled_flow flows) placed.outcomes) placed.entries
-  all = all_granted d (map settled_flow flows) [] placed.entries placed.outcomes counted unplaced_again indices
+    all : AreAllGranted d [] streams (flows_placed d.cycle_time streams placed.outcomes) placed.entries
+    all = all_granted d streams [] placed.entries placed.outcomes counted unplaced_again indices
 
-  pub flows_again : flows_placed d.cycle_time (map settled_flow flows) placed.outcomes ≡ flows
-  flows_again = ap (flows_placed d.cycle_time (map settled_flow flows)) outcomes_again ∙ same_flows d.cycle_time flows
+    pub flows_again : flows_placed d.cycle_time streams placed.outcomes ≡ flows
+    flows_again =
+        ap (flows_placed d.cycle_time streams) outcomes_again ∙ flows_alone d.cycle_time streams (placed_all flows)
+        ∙ ap (λ (ss : List SettledStream). flows_placed d.cycle_time ss (placed_all flows)) same ∙ same_flows d.cycle_time flows
 
-  entries_again : placed.entries ≡ good.entries
-  entries_again =
-      entries_same placed.entries good.entries
-      (sym (all.admitted 1) ∙ ap (λ (fs : List FlowText). admitted_from d [] 1 (map asked_in fs)) flows_again ∙ good.admitted)
+    entries_again : placed.entries ≡ good.entries
+    entries_again =
+        entries_same placed.entries good.entries
+        (sym (all.admitted 1) ∙ ap (λ (fs : List FlowText). admitted_from d [] 1 (map asked_in fs)) flows_again ∙ good.admitted)
 
-  late : first_late (latencies_placed (map settled_flow flows) placed) ≡ None
-  late =
-      let due = ap (deadlines_placed (map settled_flow flows)) outcomes_again ∙ same_deadlines flows in
-      let table : held_in placed.domain placed.entries (seals placed.entries) ≡ held_in d good.entries 0 =
-      (λ i. held_in (domain i) (entries_again i) (seals placed.entries)) ∙ ap (held_in d good.entries) all.no_seal in
-      (λ i. first_late (latencies_of (domain i) (table i) (due i)))
-      ∙ ap (option_map late_fault) (none_unsure (latencies_of d (held_in d good.entries 0) (deadlines_of flows)) good.in_time)
+    late : first_late (latencies_placed streams placed) ≡ None
+    late =
+        let due = ap (deadlines_placed streams) outcomes_again ∙ deadlines_alone streams (placed_all flows)
+        ∙ ap (λ (ss : List SettledStream). deadlines_placed ss (placed_all flows)) same ∙ same_deadlines flows in
+        let table : held_in placed.domain placed.entries (seals placed.entries) ≡ held_in d good.entries 0 =
+        (λ i. held_in (domain i) (entries_again i) (seals placed.entries)) ∙ ap (held_in d good.entries) all.no_seal in
+        (λ i. first_late (latencies_of (domain i) (table i) (due i)))
+        ∙ ap (option_map late_fault) (none_unsure (latencies_of d (held_in d good.entries 0) (deadlines_of flows)) good.in_time)
 
-  -- so nothing is wrong with it
-  pub nothing_wrong : (candidate_of (map settled_flow flows) placed).fault ≡ None
-  nothing_wrong = (λ i. or_else (unplaced_again i) (late i))
+    -- so nothing is wrong with it, if its streams are apart
+    pub nothing_wrong : first_touched streams (placed_all flows) ≡ None → (candidate_of streams placed).fault ≡ None
+    nothing_wrong none =
+        let touched : first_touched streams placed.outcomes ≡ None = ap (first_touched streams) outcomes_again ∙ none in
+        (λ i. or_else (or_else (unplaced_again i) (touched i)) (late i))

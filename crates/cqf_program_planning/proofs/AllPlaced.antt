@@ -26,14 +26,14 @@ use Rattle.cqf_program_placing.specs.declared.faults.PlanFault.{PlanFault}
 use Rattle.cqf_network.specs.declared.pacing.Pacing.{Pacing}
 use Rattle.cqf_network.specs.declared.pacing.Pacing.TheVariants as pacing
 use Rattle.cqf_program_placing.specs.declared.active_cycles.ActiveCycles.{ActiveCycles}
-use Rattle.cqf_program_placing.specs.Placing.{ArePlacedFrom, AreTaken, IsAnswered, IsAskedFor, IsPlacedBy, PlacedOr, Placed, Unplaced, answered}
+use Rattle.cqf_program_placing.specs.Placing.{ArePlacedFrom, AreTaken, IsAnswered, IsAskedFor, IsPlacedBy, IsPlacedPast, PlacedOr, Placed, Unplaced, answered, past_links}
 use Rattle.cqf_program_placing.specs.Placing.{active_cycles_on, reserved_by, reserved_on}
 use Rattle.cqf_program_placing.specs.Settled.{SettledStream}
 use Rattle.cqf_program_placing.specs.ActiveCycles.{MayBeFirst, can_step, every_in, is_in_step, keeps_step}
 use Rattle.cqf_program_placing.proofs.Chosen.{taken_every, taken_first}
 use Rattle.cqf_program_placing.proofs.IndexLemmas.{reserved_enough, reserved_there}
 use Rattle.cqf_program_placing.proofs.Stepping.{may_be_first}
-use Rattle.cqf_program_planning.specs.Judging.{first_late, first_unplaced, flow_of, flows_placed, late_fault, traffic_by}
+use Rattle.cqf_program_planning.specs.Judging.{first_late, first_misplaced, first_touched, first_unplaced, flow_of, flows_placed, late_fault, traffic_by}
 use Rattle.cqf_program_planning.specs.PlanLaws.{AreTakenOver, IsTakenOver, ReservesEnough}
 
 -- a stream that is placed wasn't refused
@@ -84,11 +84,31 @@ granted_answered : (d : Domain) (entries : List Recorded) (stream : SettledStrea
 granted_answered d entries stream octets taken (Ok paths) asked after reserves are h = granted_routed d entries stream octets taken paths asked after reserves are h
 granted_answered d entries stream octets taken (Err found) asked after reserves are h = never_placed asked found h.0
 
+-- past links that are shut
+granted_past : (d : Domain) (entries : List Recorded) (stream : SettledStream) (shut : List Bool) (asked : Asked) (after : List Recorded) →
+    IsGranted d entries (past_links shut stream) asked after → IsGranted d entries stream asked after
+granted_past d entries stream shut asked after granted = record {
+  named = granted.named;
+  reserved = granted.reserved;
+  every = granted.every;
+  phase = granted.phase;
+  granted = granted.granted;
+  entered = granted.entered;
+}
+
+granted_open : (d : Domain) (entries : List Recorded) (stream : SettledStream) (octets : ℕ) (found : Result (List Bool) PlanFault) (asked : Asked)
+    (after : List Recorded) → reserved_on d.overhead d.cycle_time d.sync stream ≡ Ok octets → IsPlacedPast d entries stream octets found (Placed asked) after →
+    IsGranted d entries stream asked after
+granted_open d entries stream octets (Ok shut) asked after same h =
+    granted_past d entries stream shut asked after
+    (granted_answered d entries (past_links shut stream) octets h.taken h.is_placed.routed asked after same h.are_taken h.is_placed.is_answered)
+granted_open d entries stream octets (Err found) asked after same h = never_placed asked found h.0
+
 -- and by its reservation
 pub granted_by : (d : Domain) (entries : List Recorded) (stream : SettledStream) (reserves : Result ℕ PlanFault) (asked : Asked) (after : List Recorded) →
     reserved_on d.overhead d.cycle_time d.sync stream ≡ reserves → IsPlacedBy d entries stream reserves (Placed asked) after → IsGranted d entries stream asked after
 granted_by d entries stream (Ok octets) asked after same h =
-    granted_answered d entries stream octets h.taken h.is_placed.routed asked after same h.are_taken h.is_placed.is_answered
+    granted_open d entries stream octets h.found asked after same h.is_placed
 granted_by d entries stream (Err found) asked after same h = never_placed asked found h.0
 
 -- a reservation is no less than what is needed
@@ -232,6 +252,10 @@ all_granted d (stream ∷ streams) entries end (Unplaced found ∷ more) counted
 pub neither : {A : Type 0} (first later : Option A) → or_else first later ≡ None → (first ≡ None) × (later ≡ None)
 neither None later h = (refl, h)
 neither (Some x) later h = absurd (cc)
+
+-- if no stream is misplaced, all are placed
+pub all_placed_there : (streams : List SettledStream) (outcomes : List PlacedOr) → first_misplaced streams outcomes ≡ None → first_unplaced streams outcomes ≡ None
+all_placed_there streams outcomes none = (neither (first_unplaced streams outcomes) (first_touched streams outcomes) none).0
 
 -- if none is found that may be late, none may be
 not_found : (latencies : List Latency) → find is_not_sure latencies ≡ None → All (λ (latency : Latency). is_not_sure latency ≡ false) latencies

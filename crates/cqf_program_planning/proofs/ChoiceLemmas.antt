@@ -13,11 +13,11 @@ use Rattle.cqf_program_planning.specs.declared.choosing.Choice.TheVariants as ch
 use Rattle.cqf_program_planning.specs.declared.choosing.Search.{Search}
 use Rattle.cqf_program_planning.specs.declared.trying.Tried.{Tried}
 use Rattle.cqf_program_planning.specs.Choosing.{IsBad, IsTaken, line_of_nearest, nearer, nearer_of, nearest_of}
-use Rattle.cqf_program_planning.specs.Judging.{first_late, first_unplaced, flows_placed, latencies_placed}
+use Rattle.cqf_program_planning.specs.Judging.{first_late, first_misplaced, flows_placed, latencies_placed}
 use Rattle.cqf_program_planning.specs.Orders.{AreJudgedBy, IsJudgedBy}
 use Rattle.cqf_program_planning.specs.Steps.{AreTurned}
 use Rattle.cqf_program_planning.specs.Trying.{AreBad, ComesOfAll, IsBadOn, IsGoodOn}
-use Rattle.cqf_program_planning.proofs.AllPlaced.{neither}
+use Rattle.cqf_program_planning.proofs.AllPlaced.{all_placed_there, neither}
 use Rattle.cqf_program_planning.proofs.Tried.{tried_known}
 use Rattle.cqf_program_planning.proofs.TriedLemmas.{early_placed, length-placed, turned_placed}
 
@@ -105,7 +105,8 @@ taken_is_planned network streams search before cycle_time following tried among 
     let by = there.tried_by in
     let known = tried_known network streams search.tries cycle_time there.placed there.are_placed in
     let good = ap (λ (x : Candidate). x.fault) (sym by.candidate_is) ∙ here.good in
-    let none = (neither (first_unplaced streams there.placed.outcomes) (first_late (latencies_placed streams there.placed)) good).0 in
+    let none = all_placed_there streams there.placed.outcomes
+    (neither (first_misplaced streams there.placed.outcomes) (first_late (latencies_placed streams there.placed)) good).0 in
     record {
       planned = record {
         before = before;

@@ -114,7 +114,7 @@ module _ (network : NetworkDomain) (talkers : HasTalkerLinks network) (cycle_tim
   record IsBetween (e : Entrance) (to : List (List ℕ)) (path : SettledPath) : Type 0 where
     stations : List ℕ
     named : stations_by_name (open_domain network) to ≡ Ok stations
-    is : path ≡ BetweenNodes (edge_bridge network e) stations
+    is : path ≡ BetweenNodes (edge_bridge network e) stations []
 
   settled_between : (e : Entrance) (to : List (List ℕ)) (path : SettledPath) → IsEntrance network e →
       settled_path network (open_domain network) (Between (edge_name network e) to) ≡ Ok path → IsBetween e to path
@@ -123,11 +123,11 @@ module _ (network : NetworkDomain) (talkers : HasTalkerLinks network) (cycle_tim
       let from = entrance_at network (node_named od (edge_name network e)) in
       let (entrance, entered, rest) = and_then-Ok (ok_or from plan_fault.NoTalker) _ path h in
       let (stations, named, more) = and_then-Ok (stations_by_name od to) _ path rest in
-      let parts = refuse-Ok (first_apart od entrance.bridge to) plan_fault.NoWay (Ok (BetweenNodes entrance.bridge stations)) path more in
+      let parts = refuse-Ok (first_apart od entrance.bridge to) plan_fault.NoWay (Ok (BetweenNodes entrance.bridge stations [])) path more in
       let there : entrance_at network (node_named od (edge_name network e)) ≡ Some entrance = ok_or-Ok from plan_fault.NoTalker entrance entered in
       let same : entrance_at network (Some (Bridge (edge_bridge network e))) ≡ Some entrance = sym (ap (entrance_at network) (open_named e inside)) ∙ there in
       let bridge : edge_bridge network e ≡ entrance.bridge = cc in
-      record { stations = stations; named = named; is = path_same path (BetweenNodes (edge_bridge network e) stations) (sym parts.1 ∙ ap (λ (b : ℕ). Ok (BetweenNodes b stations)) (sym bridge)) }
+      record { stations = stations; named = named; is = path_same path (BetweenNodes (edge_bridge network e) stations []) (sym parts.1 ∙ ap (λ (b : ℕ). Ok (BetweenNodes b stations [])) (sym bridge)) }
 
   settled_along : (given : List (List (List ℕ))) (path : SettledPath) → settled_path network (open_domain network) (Along given) ≡ Ok path → path ≡ AlongBranches given
   settled_along given path h =

@@ -23,8 +23,10 @@ use Rattle.cqf_program_plans.specs.Edges.{full_line}
 use Rattle.cqf_program_plans.specs.Reserving.{flows_line}
 use Rattle.cqf_network.proofs.StreamParts.{and_first-Ok}
 use Rattle.cqf_program_placing.specs.declared.settled.Unsettled.{Unsettled}
-use Rattle.cqf_program_placing.specs.Settled.{SettledStream, open_domain, settled_after, settled_next, settled_of}
-use Rattle.cqf_program_planning.specs.PlanOutput.{PlanSource, settled_edges, planning_input, planning_parts, network_line, unentered_line, unsettled_line}
+use Rattle.cqf_program_placing.specs.Settled.{SettledStream, open_domain, settled_after, settled_next, settled_of, alone}
+use Rattle.cqf_program_placing.specs.Neighbors.{kept_apart}
+use Rattle.cqf_program_planning.proofs.Beside.{alone_settled, kept_alone}
+use Rattle.cqf_program_planning.specs.PlanOutput.{PlanSource, settled_edges, planning_input, planning_parts, network_line, unentered_line, unsettled_line, apart_line}
 use Rattle.cqf_program_planning.specs.Writing.{IsWritable}
 
 -- what was read, before the fault became a line
@@ -42,7 +44,8 @@ pub record IsInput (limits : Limits) (given : Option (List ℕ)) (source : PlanS
   pub domain_read : open_network_of_text limits given source.domain_text ≡ Ok source.domain
   pub streams_read : network_streams_of_text source.streams_text ≡ Ok wanted
   pub at_edges : edge_streams source.domain wanted ≡ Ok edge
-  pub settled : settled_of source.domain edge.streams ≡ Ok source.streams
+  pub settled : settled_of source.domain edge.streams ≡ Ok (map alone source.streams)
+  pub kept : kept_apart source.streams_text (map alone source.streams) ≡ Ok source.streams
   pub none_full : edge.full ≡ None
   pub times : source.times ≡ edge.times
 
@@ -63,8 +66,12 @@ parts_read limits given domain_text streams_text source e1 =
     streams of_settled in
     let (none, last) = refuse-Ok edge.full full_line (Ok settled) streams e6 in
     let all : ◌≡◌ {A = Result (List SettledStream) Unsettled} (Ok settled) (Ok streams) = ok_again settled streams last in
+    let (kept, of_kept, e7) = and_then-Ok (or_line apart_line (kept_apart streams_text streams)) _ source e5 in
+    let keeps : kept_apart streams_text streams ≡ Ok kept = said-Ok apart_line (kept_apart streams_text streams) kept of_kept in
+    let settles : settled_of network edge.streams ≡ Ok streams = said-Ok unsettled_line (settled_of network edge.streams) settled of_each ∙ all in
+    let without : map alone kept ≡ streams = kept_alone streams_text streams kept keeps ∙ alone_settled network (open_domain network) [] edge.streams streams settles in
     let made : PlanSource =
-    record { domain = network; streams = streams; times = edge.times; domain_text = domain_text; streams_text = streams_text } in
+    record { domain = network; streams = kept; times = edge.times; domain_text = domain_text; streams_text = streams_text } in
     let same : made ≡ source = cc in
     let input : IsInput limits given made =
     record {
@@ -73,7 +80,8 @@ parts_read limits given domain_text streams_text source e1 =
       domain_read = said-Ok network_line (open_network_of_text limits given domain_text) network of_domain;
       streams_read = said-Ok flows_line (network_streams_of_text streams_text) wanted of_streams;
       at_edges = said-Ok unentered_line (edge_streams network wanted) edge of_edges;
-      settled = said-Ok unsettled_line (settled_of network edge.streams) settled of_each ∙ all;
+      settled = settles ∙ ap (λ (ss : List SettledStream). Ok ss) (sym without);
+      kept = ap (kept_apart streams_text) without ∙ keeps;
       none_full = none;
       times = refl;
     } in
@@ -154,5 +162,6 @@ writable limits given source parts =
       domain = domain_has_table limits given source.domain_text source.domain parts.domain_read;
       streams = streams_have_table source.streams_text parts.wanted parts.streams_read;
       times = ap length parts.times
-          ∙ times_many source.domain parts.wanted parts.edge source.streams there.entrances there.as_many there.from parts.settled;
+          ∙ times_many source.domain parts.wanted parts.edge (map alone source.streams) there.entrances there.as_many there.from parts.settled
+          ∙ length-map source.streams alone;
     }

@@ -1,4 +1,9 @@
 mod AllPlaced
+mod Beside
+mod Kept
+mod Touched
+mod AgainBeside
+mod KeptApart
 mod SoundPlans
 mod InActiveCycles
 mod PlacedLemmas

@@ -16,7 +16,7 @@ use Rattle.cqf_edge.specs.EdgeStreams.{entrance_of_stream, entrances_of, handed_
 use Rattle.cqf_network_text.specs.declared.filling.FilledStream.{FilledStream}
 use Rattle.cqf_network.proofs.StreamParts.{and_first-Ok}
 use Rattle.cqf_program_placing.specs.Placing.{PlacedOr, Placed, Unplaced, reserved_on}
-use Rattle.cqf_program_placing.specs.Settled.{SettledStream, settled_after, settled_next}
+use Rattle.cqf_program_placing.specs.Settled.{SettledStream, alone, settled_after, settled_next}
 use Rattle.cqf_program_placing.proofs.SettledLemmas.{IsSettledBy, settled_by}
 use Rattle.cqf_program_planning.specs.Judging.{first_unplaced, flow_of, flows_placed}
 use Rattle.cqf_program_planning.specs.PlanLaws.{IsTakenOver}
@@ -49,7 +49,7 @@ module _ (network : NetworkDomain) (bounds : List AccessBound) (od d : Domain) w
     pub ends : HasEnds o.stream
     pub entered : entrance_of_stream network o.stream ≡ Ok o.entrance
     pub before : List (List ℕ)
-    pub settles : IsSettledBy network od before (stream_at_edge network o.entrance (passage o) o.stream) o.settled
+    pub settles : IsSettledBy network od before (stream_at_edge network o.entrance (passage o) o.stream) (alone o.settled)
     pub paths : ArePathsOf d o.settled.path o.flow.0.0.paths
     pub reserved : reserved_on d.overhead d.cycle_time d.sync o.settled ≡ Ok o.flow.0.0.octets
     pub taken : IsTakenOver d.cycle_time d.sync o.settled o.flow
@@ -109,7 +109,7 @@ module _ (network : NetworkDomain) (bounds : List AccessBound) (od d : Domain) w
   pub ones_by : (before : List (List ℕ)) (wanted : List StreamText) (entrances : List (Option Entrance)) (settled : List SettledStream)
       (outcomes : List PlacedOr) (filled : List FilledStream) → All HasEnds wanted →
       entrances_of network wanted ≡ Ok entrances →
-      settled_after network od before (streams_at_edge network entrances (passages wanted entrances) wanted) ≡ Ok settled →
+      settled_after network od before (streams_at_edge network entrances (passages wanted entrances) wanted) ≡ Ok (map alone settled) →
       AreEachPlaced d settled outcomes → first_unplaced settled outcomes ≡ None →
       length filled ≡ length (flows_placed d.cycle_time settled outcomes) → Taken settled (flows_placed d.cycle_time settled outcomes) →
       Chosen settled (flows_placed d.cycle_time settled outcomes) (map (option_and_then times_by) (passages wanted entrances)) filled →
@@ -134,11 +134,11 @@ module _ (network : NetworkDomain) (bounds : List AccessBound) (od d : Domain) w
       let next = stream_at_edge network e (passage_of network bounds (handed_at network.overhead stream e)) stream in
       let first = and_first-Ok (entrance_of_stream network stream) (entrances_of network wanted) (e ∷ es) enter in
       let second = and_first-Ok (settled_next network od before next)
-      (settled_after network od (before ++ next.name ∷ []) (streams_at_edge network es (passages wanted es) wanted)) (s ∷ ss) settles in
+      (settled_after network od (before ++ next.name ∷ []) (streams_at_edge network es (passages wanted es) wanted)) (map alone (s ∷ ss)) settles in
       let e_is : e ≡ first.one = same_head first.all in
       let es_are : es ≡ first.more = same_tail first.all in
-      let s_is : s ≡ second.one = same_head second.all in
-      let ss_are : ss ≡ second.more = same_tail second.all in
+      let s_is : alone s ≡ second.one = same_head second.all in
+      let ss_are : map alone ss ≡ second.more = same_tail second.all in
       let granted = granted_somewhere d s asked indices.0 in
       let flow : FlowText = flow_of d.cycle_time s asked in
       let o : One = record { stream = stream; entrance = e; settled = s; flow = flow; filled = f } in
@@ -147,7 +147,7 @@ module _ (network : NetworkDomain) (bounds : List AccessBound) (od d : Domain) w
         ends = All-head HasEnds stream wanted ends;
         entered = first.first_is ∙ ap Ok (sym e_is);
         before = before;
-        settles = settled_by network od before next s (second.first_is ∙ ap Ok (sym s_is));
+        settles = settled_by network od before next (alone s) (second.first_is ∙ ap Ok (sym s_is));
         paths = placed_paths d indices.0.entries s (reserved_on d.overhead d.cycle_time d.sync s) asked indices.0.after indices.0.placed;
         reserved = granted.reserved;
         taken = taken 0 s flow refl refl;

@@ -1,13 +1,17 @@
 -- Streams and the outcome for each, one after the other.
-use Rattle.std.proofs.Common.{◌≡◌, ◌∙◌, ℕ, ◌+◌, ◌≤◌, ◌<◌, ◌++◌, ◌∷◌, [], All, List, Option, Some, None, ap, append_assoc, arith, drop, get_or, length, map, refl, subst, sym}
+use Rattle.std.proofs.Common.{◌≡◌, ◌∙◌, ℕ, ◌+◌, ◌≤◌, ◌<◌, ◌++◌, ◌∷◌, [], All, List, Option, Some, None, ap, append_assoc, arith, drop, find, get_or, length, map, option_map, refl, subst, sym}
 use Rattle.std.proofs.lemmas.List.{drop_all, drop_more, get_or-map, length-map, map-append}
-use Rattle.cqf_model.specs.History.{Asked}
+use Rattle.cqf_lists.specs.Lists.{or_else}
+use Rattle.cqf_model.specs.History.{Asked, Branch}
+use Rattle.cqf_program_placing.specs.Apart.{ApartFrom}
+use Rattle.cqf_program_placing.specs.declared.faults.PlanFault.TheVariants as fault
 use Rattle.cqf_program_placing.specs.declared.outcomes.PlacingOutcome.{PlacingOutcome}
 use Rattle.cqf_program_placing.specs.declared.settled.Settled.{Settled}
 use Rattle.cqf_program_placing.specs.Placing.{BeginsEarly, PlacedOr, Placed, Unplaced, outcome_value}
-use Rattle.cqf_program_placing.specs.Settled.{SettledStream, settled_value}
+use Rattle.cqf_program_placing.specs.Settled.{SettledStream, neighbor_value, settled_value}
 use Rattle.cqf_program_planning.specs.declared.candidates.CandidateFault.{CandidateFault}
-use Rattle.cqf_program_planning.specs.Judging.{first_unplaced, those_placed}
+use Rattle.cqf_program_planning.specs.declared.candidates.CandidateFault.TheVariants as shut
+use Rattle.cqf_program_planning.specs.Judging.{branches_in, first_touched_in, first_unplaced, is_touched, those_placed, touched_of}
 use Rattle.cqf_program_planning.specs.Steps.{those_by}
 
 -- those that are placed, from an index on; and the first that isn't
@@ -16,6 +20,9 @@ those_from streams outcomes k = those_placed (map settled_value (drop k streams)
 
 abbrev pub unplaced_from : List Settled → List PlacingOutcome → ℕ → Option CandidateFault
 unplaced_from streams outcomes k = first_unplaced (map settled_value (drop k streams)) (map outcome_value (drop k outcomes))
+
+abbrev pub touched_from : List PlacedOr → List Settled → List PlacingOutcome → ℕ → Option CandidateFault
+touched_from all streams outcomes k = first_touched_in all (map settled_value (drop k streams)) (map outcome_value (drop k outcomes))
 
 -- one and then the others
 those_one : (stream : SettledStream) (streams : List SettledStream) (become : PlacedOr) (outcomes : List PlacedOr) →
@@ -30,6 +37,12 @@ early_there outcomes k outcome low is all =
     let there : get_or (map outcome_value outcomes) k (outcome_value outcome) ≡ outcome_value outcome =
     get_or-map outcome_value outcomes k outcome (outcome_value outcome) low ∙ ap outcome_value (sym is) in
     subst BeginsEarly there (all k (outcome_value outcome) (omega (arith, low, length-map outcomes outcome_value)))
+
+-- the fault of a stream that is touched names the other one
+by_name : (name : List ℕ) (found : Option ApartFrom) → option_map (λ (n : ApartFrom). shut.Stream name (fault.NotApart n.name)) found
+    ≡ option_map (λ (other : List ℕ). shut.Stream name (fault.NotApart other)) (option_map (λ (n : ApartFrom). n.name) found)
+by_name name None = refl
+by_name name (Some n) = refl
 
 module _ (streams : List Settled) (outcomes : List PlacingOutcome) (k : ℕ) (stream : Settled) (outcome : PlacingOutcome) (low : k < length streams)
     (same : length outcomes ≡ length streams) (stream_is : stream ≡ get_or streams k stream) (outcome_is : outcome ≡ get_or outcomes k outcome) where
@@ -76,12 +89,45 @@ module _ (streams : List Settled) (outcomes : List PlacingOutcome) (k : ℕ) (st
       unplaced_from streams outcomes k ≡ unplaced_from streams outcomes (k + 1)
   unplaced_later h = unplaced_next ∙ h
 
+  -- the first that is touched likewise
+  touched_next : (all : List PlacedOr) → touched_from all streams outcomes k
+      ≡ or_else (touched_of all (settled_value stream) (outcome_value outcome)) (touched_from all streams outcomes (k + 1))
+  touched_next all = λ i. first_touched_in all (map settled_value (streams_rest i)) (map outcome_value (outcomes_rest i))
+
+  -- as it is found: by the branches, the neighbors, and the name of the first that is touched
+  module _ (all : List PlacedOr) (branches : List Branch) (neighbors : List ApartFrom) (found : Option (List ℕ))
+      (branches_are : branches ≡ branches_in (outcome_value outcome)) (neighbors_are : neighbors ≡ map neighbor_value stream.apart.items)
+      (found_is : found ≡ option_map (λ (n : ApartFrom). n.name) (find (is_touched all branches) neighbors)) where
+    touched_by : touched_of all (settled_value stream) (outcome_value outcome)
+        ≡ option_map (λ (other : List ℕ). shut.Stream stream.name (fault.NotApart other)) found
+    touched_by =
+        (λ i. option_map (λ (n : ApartFrom). shut.Stream stream.name (fault.NotApart n.name)) (find (is_touched all (sym branches_are i)) (sym neighbors_are i)))
+        ∙ by_name stream.name (find (is_touched all branches) neighbors)
+        ∙ ap (option_map (λ (other : List ℕ). shut.Stream stream.name (fault.NotApart other))) (sym found_is)
+
+    pub touched_here : (other : List ℕ) → found ≡ Some other → touched_from all streams outcomes k ≡ Some (shut.Stream stream.name (fault.NotApart other))
+    touched_here other is =
+        touched_next all
+        ∙ ap (λ (o : Option CandidateFault). or_else o (touched_from all streams outcomes (k + 1)))
+        (touched_by ∙ ap (option_map (λ (o : List ℕ). shut.Stream stream.name (fault.NotApart o))) is)
+
+    pub touched_later : found ≡ None → touched_from all streams outcomes k ≡ touched_from all streams outcomes (k + 1)
+    touched_later is =
+        touched_next all
+        ∙ ap (λ (o : Option CandidateFault). or_else o (touched_from all streams outcomes (k + 1)))
+        (touched_by ∙ ap (option_map (λ (o : List ℕ). shut.Stream stream.name (fault.NotApart o))) is)
+
 -- after the last there is none
 pub made_end : {X : Type 0} (value : (SettledStream × Asked) → X) (streams : List Settled) (outcomes : List PlacingOutcome) (k : ℕ) →
     length streams ≤ k →
     map value (those_from streams outcomes k) ≡ []
 made_end value streams outcomes k over =
     ap (λ (xs : List Settled). map value (those_placed (map settled_value xs) (map outcome_value (drop k outcomes)))) (drop_all k streams over)
+
+pub touched_end : (all : List PlacedOr) (streams : List Settled) (outcomes : List PlacingOutcome) (k : ℕ) → length streams ≤ k →
+    touched_from all streams outcomes k ≡ None
+touched_end all streams outcomes k over =
+    ap (λ (xs : List Settled). first_touched_in all (map settled_value xs) (map outcome_value (drop k outcomes))) (drop_all k streams over)
 
 pub unplaced_end : (streams : List Settled) (outcomes : List PlacingOutcome) (k : ℕ) → length streams ≤ k → unplaced_from streams outcomes k ≡ None
 unplaced_end streams outcomes k over =

@@ -1,5 +1,5 @@
 -- The paths of a stream that is placed begin where it enters, and end at its listeners.
-use Rattle.std.proofs.Common.{◌≡◌, ◌∙◌, ℕ, suc, true, List, [], ◌∷◌, Option, Some, None, Result, Ok, Err, ap, get_or, length, map, refl, subst, sym}
+use Rattle.std.proofs.Common.{◌≡◌, ◌∙◌, ℕ, suc, Bool, true, List, [], ◌∷◌, Option, Some, None, Result, Ok, Err, ap, get_or, length, map, refl, subst, sym}
 use Rattle.std.specs.Prelude.{slice_get}
 use Rattle.std.specs.List.{list_all}
 use Rattle.std.proofs.lemmas.Bool.{and_from}
@@ -22,9 +22,9 @@ use Rattle.cqf_program_plans.specs.EndNames.{name_of_end}
 use Rattle.cqf_network.proofs.StreamParts.{and_first-Ok}
 use Rattle.cqf_program_placing.specs.declared.faults.PlanFault.{PlanFault}
 use Rattle.cqf_program_placing.specs.declared.active_cycles.ActiveCycles.{ActiveCycles}
-use Rattle.cqf_program_placing.specs.Placing.{IsAnswered, IsPlacedBy, IsRouted, Placed, names_along}
+use Rattle.cqf_program_placing.specs.Placing.{IsAnswered, IsPlacedBy, IsPlacedPast, IsRouted, Placed, names_along, past_links}
 use Rattle.cqf_program_placing.specs.ActiveCycles.{every_in}
-use Rattle.cqf_program_placing.specs.Settled.{Along, Between, SettledPath, SettledStream, station_by_name, stations_by_name}
+use Rattle.cqf_program_placing.specs.Settled.{Along, Between, SettledPath, SettledStream, past, station_by_name, stations_by_name}
 use Rattle.cqf_program_placing.proofs.SettledLemmas.{station_named_by}
 use Rattle.cqf_program_placing.proofs.PathNames.{end_name, first_step}
 use Rattle.cqf_program_planning.proofs.AllPlaced.{answered_placed, never_placed}
@@ -40,7 +40,7 @@ pub record ArePathNames (d : Domain) (bridge : ℕ) (stations : List ℕ) (paths
 -- the paths of a stream that is placed: those that are given, or such names
 abbrev pub ArePathsOf : Domain → SettledPath → List Branch → Type 0
 ArePathsOf d (Along given) paths = paths ≡ given
-ArePathsOf d (Between bridge stations) paths = ArePathNames d bridge stations paths
+ArePathsOf d (Between bridge stations shut) paths = ArePathNames d bridge stations paths
 
 same_paths : (paths given : List Branch) → ◌≡◌ {A = Result (List Branch) PlanFault} (Ok paths) (Ok given) → paths ≡ given
 same_paths paths given h = cc
@@ -48,7 +48,7 @@ same_paths paths given h = cc
 routed_paths : (d : Domain) (rows : List Row) (active_cycles : ActiveCycles) (cost : ℕ) (path : SettledPath) (paths : List Branch) →
     IsRouted d rows active_cycles cost path (Ok paths) → ArePathsOf d path paths
 routed_paths d rows active_cycles cost (Along given) paths h = same_paths paths given h
-routed_paths d rows active_cycles cost (Between bridge stations) paths h =
+routed_paths d rows active_cycles cost (Between bridge stations shut) paths h =
     let found = h.found in
     record {
       link_paths = found.link_paths;
@@ -67,11 +67,23 @@ answered_paths d entries stream octets active_cycles (Ok paths) asked after rout
     subst (λ (a : Asked). ArePathsOf d stream.path a.paths) (sym found.1)
     (routed_paths d (held_in d entries (seals entries)) active_cycles (cost_of d.overhead octets) stream.path paths routes)
 
+-- past links that are shut
+paths_past : (d : Domain) (shut : List Bool) (path : SettledPath) (paths : List Branch) → ArePathsOf d (past shut path) paths → ArePathsOf d path paths
+paths_past d shut (Along given) paths are = are
+paths_past d shut (Between bridge stations before) paths are = are
+
+open_paths : (d : Domain) (entries : List Recorded) (stream : SettledStream) (octets : ℕ) (found : Result (List Bool) PlanFault) (asked : Asked)
+    (after : List Recorded) → IsPlacedPast d entries stream octets found (Placed asked) after → ArePathsOf d stream.path asked.paths
+open_paths d entries stream octets (Err found) asked after h = never_placed asked found h.0
+open_paths d entries stream octets (Ok shut) asked after h =
+    paths_past d shut stream.path asked.paths
+    (answered_paths d entries (past_links shut stream) octets h.taken h.is_placed.routed asked after h.is_placed.is_routed h.is_placed.is_answered)
+
 pub placed_paths : (d : Domain) (entries : List Recorded) (stream : SettledStream) (reserves : Result ℕ PlanFault) (asked : Asked) (after : List Recorded) →
     IsPlacedBy d entries stream reserves (Placed asked) after → ArePathsOf d stream.path asked.paths
 placed_paths d entries stream (Err found) asked after h = never_placed asked found h.0
 placed_paths d entries stream (Ok octets) asked after h =
-    answered_paths d entries stream octets h.taken h.is_placed.routed asked after h.is_placed.is_routed h.is_placed.is_answered
+    open_paths d entries stream octets h.found asked after h.is_placed
 
 -- ---- names
 

@@ -1,9 +1,7 @@
 -- A network file that is read satisfies `IsNetwork`, and its streams are placed if there is room.
-use Rattle.std.proofs.Common.{◌≡◌, ◌∙◌, ℕ, List, [], Option, Result, Ok, Err, IfSome, ap, subst, sym}
+use Rattle.std.proofs.Common.{◌≡◌, ◌∙◌, ℕ, List, [], Option, Ok, IfSome, ap, subst, sym}
 use Rattle.cqf_model.specs.declared.limits.Limits.{Limits}
-use Rattle.cqf_text.specs.Parts.{parts_of}
 use Rattle.cqf_topology.specs.declared.faults.DomainFault.TheVariants as domain
-use Rattle.cqf_lists.specs.Results.{refuse}
 use Rattle.cqf_topology.specs.DomainText.{first_taken, if_so}
 use Rattle.cqf_topology.proofs.Refusals.{and_then-Ok, refuse-Ok}
 use Rattle.cqf_network.specs.declared.faults.NetworkFault.TheVariants.{Domain, NoAccessLink}
@@ -15,24 +13,12 @@ use Rattle.cqf_network.proofs.CheckedLemmas.{passes_network}
 use Rattle.cqf_network.proofs.InsideLemmas.{all_joined}
 use Rattle.cqf_network.proofs.OpenLemmas.{passed_is_network}
 use Rattle.cqf_network.proofs.ReadLemmas.{draft_limits, network_readable}
-use Rattle.cqf_network.specs.StreamsText.{network_streams_of_text}
-use Rattle.cqf_edge.specs.EdgeStreams.{EdgeStreamsText, edge_streams}
 use Rattle.cqf_edge.proofs.Written.{streams_written}
-use Rattle.cqf_program_plans.specs.Edges.{full_line}
-use Rattle.cqf_program_plans.specs.Reserving.{flows_line}
-use Rattle.cqf_program_scenario.specs.Parts.{two_parts}
-use Rattle.cqf_output.specs.Stops.{or_line}
 use Rattle.cqf_program_placing.specs.Room.{MayBePaths, PlacedWhereThereIsRoom}
-use Rattle.cqf_program_placing.specs.Settled.{SettledStream, settled_of}
 use Rattle.cqf_program_placing.proofs.StreamsRead.{streams_read}
 use Rattle.cqf_program_planning.specs.PlanLaws.{NetworksArePlacedByRoom}
-use Rattle.cqf_program_planning.specs.PlanOutput.{PlanSource, settled_edges, network_line, unentered_line, unsettled_line}
 use Rattle.cqf_program_planning.proofs.EdgeRead.{edges_read}
-
--- what was read, before the fault became a line
-or_line-Ok : {A E : Type 0} (line : E → List ℕ) (r : Result A E) (x : A) → or_line line r ≡ Ok x → r ≡ Ok x
-or_line-Ok line (Ok y) x e = cc
-or_line-Ok line (Err fault) x e = absurd cc
+use Rattle.cqf_program_planning.proofs.Inputs.{input_parts}
 
 -- a network file whose edges pass the checks is what the text says with them
 pub with_these_edges : (text : NetworkText) (edges : List Edge) (network : NetworkDomain) → with_edges text edges ≡ Ok network → network_with text edges ≡ network
@@ -71,31 +57,14 @@ read_limits limits given text network e =
     let (edges, joined_are, checks) = and_then-Ok (joined draft.bridges draft.stations 0 draft.links) (with_edges draft) network numbered in
     ap (λ (s : NetworkDomain). s.limits) (sym (with_these_edges draft edges network checks)) ∙ draft_limits limits given text draft read
 
--- streams are settled, whether or not an access link is full
-edges_settled : (network : NetworkDomain) (edge : EdgeStreamsText) (streams : List SettledStream) → settled_edges network edge ≡ Ok streams →
-    settled_of network edge.streams ≡ Ok streams
-edges_settled network edge streams e =
-    let (settled, are, rest) = and_then-Ok (or_line unsettled_line (settled_of network edge.streams)) (λ settled. refuse edge.full full_line (Ok settled)) streams e in
-    or_line-Ok unsettled_line (settled_of network edge.streams) streams (are ∙ (refuse-Ok edge.full full_line (Ok settled) streams rest).1)
-
 -- so the streams of an input are placed if there is room
 pub networks_are_placed : PlacedWhereThereIsRoom → NetworksArePlacedByRoom
 networks_are_placed law limits given input source cycle placed link_paths are e is_open placed_at =
-    let (parts, two, e1) = and_then-Ok (two_parts (parts_of input)) _ source e in
-    let (network, of_domain, e2) = and_then-Ok (or_line network_line (open_network_of_text limits given parts.0)) _ source e1 in
-    let (texts, of_streams, e3) = and_then-Ok (or_line flows_line (network_streams_of_text parts.1)) _ source e2 in
-    let (edge, of_edge, e4) = and_then-Ok (or_line unentered_line (edge_streams network texts)) _ source e3 in
-    let (streams, settled, e5) = and_then-Ok (settled_edges network edge) _ source e4 in
-    let made : PlanSource = record { domain = network; streams = streams; times = edge.times; domain_text = parts.0; streams_text = parts.1 } in
-    let same : made ≡ source = cc in
-    let found = or_line-Ok network_line (open_network_of_text limits given parts.0) network of_domain in
-    let is_network = read_is_network limits given parts.0 network are found in
-    let read = or_line-Ok flows_line (network_streams_of_text parts.1) texts of_streams in
-    let as_said : MayBePaths network.limits = subst MayBePaths (sym (read_limits limits given parts.0 network found)) link_paths in
-    let may_be : MayBePaths source.domain.limits = subst (λ (s : PlanSource). MayBePaths s.domain.limits) same as_said in
-    let is : IsNetwork source.domain = subst (λ (s : PlanSource). IsNetwork s.domain) same is_network in
-    law source.domain edge.streams source.streams cycle placed is may_be is_open
-    (edges_read network texts edge is_network.has_talkers (streams_read parts.1 texts read) (streams_written parts.1 texts read)
-    (or_line-Ok unentered_line (edge_streams network texts) edge of_edge))
-    (subst (λ (s : PlanSource). settled_of s.domain edge.streams ≡ Ok s.streams) same (edges_settled network edge streams settled))
-    placed_at.domain placed_at.placed_are
+    let parts = input_parts limits given input source e in
+    let is = read_is_network limits given source.domain_text source.domain are parts.domain_read in
+    let may_be : MayBePaths source.domain.limits =
+    subst MayBePaths (sym (read_limits limits given source.domain_text source.domain parts.domain_read)) link_paths in
+    law source.domain parts.edge.streams source.streams cycle placed is may_be is_open
+    (edges_read source.domain parts.wanted parts.edge is.has_talkers (streams_read source.streams_text parts.wanted parts.streams_read)
+    (streams_written source.streams_text parts.wanted parts.streams_read) parts.at_edges)
+    parts.settled placed_at.domain placed_at.placed_are

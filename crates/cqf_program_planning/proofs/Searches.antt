@@ -22,7 +22,7 @@ use Rattle.cqf_program_placing.proofs.InOrder.{length_in_order}
 use Rattle.cqf_program_planning.specs.declared.candidates.Candidate.{Candidate}
 use Rattle.cqf_program_planning.specs.declared.candidates.CandidateFault.{CandidateFault}
 use Rattle.cqf_program_planning.specs.declared.trying.Tried.{Tried}
-use Rattle.cqf_program_planning.specs.Judging.{ArePlacedAt, candidate_by, candidate_of, deadlines_placed, first_unplaced, rows_placed, shares_of, those_placed}
+use Rattle.cqf_program_planning.specs.Judging.{ArePlacedAt, candidate_by, candidate_of, deadlines_placed, first_misplaced, rows_placed, shares_of, those_placed}
 use Rattle.cqf_program_planning.specs.Orders.{AreRunIn, IsSearched, all_placed, all_placed_by, good_in, if_good, next_order, order_after, requests_in}
 use Rattle.cqf_program_planning.specs.Searching.{ComesOfRun, IsFoundTried, IsSearchedTried}
 use Rattle.cqf_program_planning.specs.Trying.{IsTried, IsTriedBy}
@@ -71,7 +71,7 @@ module _ (streams : List SettledStream) (d : Domain) (requests : List Asked) whe
   module _ (counted : SealsAreCounted) (rows : List Row) (held : HoldsAll d requests rows) (outcomes : List PlacedOr) (candidate : Candidate)
       (outcomes_are : outcomes ≡ map Placed requests)
       (is : candidate ≡ candidate_by d.cycle_time (length (those_placed streams outcomes)) (shares_of d rows)
-      (latencies_of d rows (deadlines_placed streams outcomes)) (first_unplaced streams outcomes)) where
+      (latencies_of d rows (deadlines_placed streams outcomes)) (first_misplaced streams outcomes)) where
     abbrev made : PlacedStreams
     made = record { domain = d; outcomes = map Placed requests; entries = held.entries }
 
@@ -80,7 +80,7 @@ module _ (streams : List SettledStream) (d : Domain) (requests : List Asked) whe
 
     judged : candidate ≡ candidate_of streams made
     judged = is ∙ (λ i. candidate_by d.cycle_time (length (those_placed streams (outcomes_are i))) (shares_of d (rows_are i))
-        (latencies_of d (rows_are i) (deadlines_placed streams (outcomes_are i))) (first_unplaced streams (outcomes_are i)))
+        (latencies_of d (rows_are i) (deadlines_placed streams (outcomes_are i))) (first_misplaced streams (outcomes_are i)))
 
     by_fault : good_of ≡ (if is_none candidate.fault then Some made else None)
     by_fault =

@@ -18,10 +18,12 @@ use Rattle.cqf_program_placing.specs.Placing.{PlacedStreams}
 use Rattle.cqf_program_placing.specs.Settled.{SettledStream}
 use Rattle.cqf_program_planning.specs.declared.choosing.Search.{Search}
 use Rattle.cqf_program_planning.specs.Choosing.{IsPlanned}
-use Rattle.cqf_program_planning.specs.Judging.{deadlines_placed, first_late, first_unplaced, flow_of, flows_placed, latencies_placed, those_placed}
-use Rattle.cqf_program_planning.specs.PlanLaws.{IsSoundPlan, ReservesEnough, WrittenPlanIsAdmitted, deadlines_of}
-use Rattle.cqf_program_planning.proofs.AllPlaced.{AreAllGranted, all_in_time, neither}
+use Rattle.cqf_program_planning.specs.Judging.{deadlines_placed, first_late, first_misplaced, first_touched, first_unplaced, flow_of, flows_placed, latencies_placed, those_placed}
+use Rattle.cqf_program_planning.specs.PlanLaws.{AreKeptApart, IsSoundPlan, ReservesEnough, WrittenPlanIsAdmitted, deadlines_of}
+use Rattle.cqf_program_planning.proofs.AllPlaced.{AreAllGranted, all_in_time, all_placed_there, neither}
+use Rattle.cqf_program_planning.proofs.KeptApart.{kept_apart_so}
 use Rattle.cqf_program_planning.proofs.Tried.{tried_known}
+use Rattle.cqf_program_planning.proofs.TriedLemmas.{length-placed}
 
 -- a stream that reserves enough lacks nothing
 lacks_nothing : (overhead cycle_time index octets : ℕ) (traffic : Option TrafficText) → ForSome traffic (λ (t : TrafficText). needed overhead cycle_time (promise_of t) ≤ octets) →
@@ -44,8 +46,9 @@ none_lacks overhead cycle_time index (flow ∷ flows) enough =
 sound_of : (streams : List SettledStream) (placed : PlacedStreams) →
     AreAllGranted placed.domain [] streams (flows_placed placed.domain.cycle_time streams placed.outcomes) placed.entries →
     first_late (latencies_placed streams placed) ≡ None →
+    AreKeptApart streams (flows_placed placed.domain.cycle_time streams placed.outcomes) →
     IsSoundPlan streams placed.domain (flows_placed placed.domain.cycle_time streams placed.outcomes)
-sound_of streams placed all in_time =
+sound_of streams placed all in_time apart =
     let d = placed.domain in
     let those = those_placed streams placed.outcomes in
     let flows = flows_placed d.cycle_time streams placed.outcomes in
@@ -56,6 +59,7 @@ sound_of streams placed all in_time =
     in_time in
     record {
       taken_over = all.taken_over;
+      apart = apart;
       entries = placed.entries;
       admitted = all.admitted 1;
       enough = all.enough;
@@ -69,8 +73,8 @@ planned_granted : SealsAreCounted → (network : NetworkDomain) (streams : List 
     AreAllGranted plan.placed.domain [] streams (flows_placed plan.placed.domain.cycle_time streams plan.placed.outcomes) plan.placed.entries
 planned_granted counted network streams search d flows plan =
     let placed = plan.placed in
-    let good = neither (first_unplaced streams placed.outcomes) (first_late (latencies_placed streams placed)) plan.good in
-    (tried_known network streams search.tries plan.cycle_time placed plan.are_placed).granted counted good.0
+    let good = neither (first_misplaced streams placed.outcomes) (first_late (latencies_placed streams placed)) plan.good in
+    (tried_known network streams search.tries plan.cycle_time placed plan.are_placed).granted counted (all_placed_there streams placed.outcomes good.0)
 
 pub plan_granted : SealsAreCounted → (network : NetworkDomain) (streams : List SettledStream) (search : Search) (d : Domain) (flows : List FlowText) →
     IsPlanned network streams search d flows → AreGranted d [] (map asked_in flows)
@@ -81,7 +85,10 @@ plan_granted counted network streams search d flows plan =
 pub written_plan_is_admitted : SealsAreCounted → WrittenPlanIsAdmitted
 written_plan_is_admitted counted network streams search d flows plan =
     let placed = plan.placed in
-    let good = neither (first_unplaced streams placed.outcomes) (first_late (latencies_placed streams placed)) plan.good in
+    let good = neither (first_misplaced streams placed.outcomes) (first_late (latencies_placed streams placed)) plan.good in
     let all = planned_granted counted network streams search d flows plan in
+    let both = neither (first_unplaced streams placed.outcomes) (first_touched streams placed.outcomes) good.0 in
+    let each = (tried_known network streams search.tries plan.cycle_time placed plan.are_placed).placed_each in
+    let apart = kept_apart_so placed.domain.cycle_time streams placed.outcomes (length-placed placed.domain streams placed.outcomes each) both.0 both.1 in
     subst (λ (there : Domain). IsSoundPlan streams there flows) (sym plan.domain_is)
-    (subst (λ (those : List FlowText). IsSoundPlan streams placed.domain those) (sym plan.flows_are) (sound_of streams placed all good.1))
+    (subst (λ (those : List FlowText). IsSoundPlan streams placed.domain those) (sym plan.flows_are) (sound_of streams placed all good.1 apart))

@@ -2,7 +2,7 @@
 use Rattle.std.proofs.Common.{◌≡◌, ◌∙◌, ◌<◌, ◌∷◌, [], ℕ, All, Bool, Contains, find, true, false, IfSome, List, Option, None, Ok, ap, arith, length, map, nat_lt, refl, subst, subst₂, sym, Result, slice_get, ◌≤◌, ◌++◌, length-append, is_some, Some, suc, if◌then◌else◌}
 use Rattle.std.specs.Prelude.{if◌then◌else◌, option_and_then, option_map}
 use Rattle.std.proofs.lemmas.Bool.{both_ways, lt-ltb}
-use Rattle.std.proofs.lemmas.List.Elements.{All-contains, Contains-append_right, All-head}
+use Rattle.std.proofs.lemmas.List.Elements.{All-contains, Contains-append_right, All-head, All-tail}
 use Rattle.cqf_lists.specs.Results.{and_then, refuse}
 use Rattle.cqf_lists.proofs.Members.{contains_here}
 use Rattle.cqf_laws_history.specs.StateLaws.{SealsAreCounted}
@@ -37,20 +37,25 @@ use Rattle.cqf_program_plans.specs.Reserving.{first_lack, flows_line, lack_line,
 use Rattle.cqf_admission.specs.Asking.{asked_by}
 use Rattle.cqf_program_offers.specs.OffersOutput.{asked_in}
 use Rattle.cqf_program_scenario.specs.Networks.{domain_of}
-use Rattle.cqf_program_placing.specs.Placing.{PlacedStreams}
-use Rattle.cqf_program_placing.specs.Settled.{SettledStream, open_domain, settled_after, settled_of}
+use Rattle.cqf_program_placing.specs.Placing.{PlacedStreams, Placed}
+use Rattle.cqf_program_placing.specs.Settled.{SettledStream, alone, open_domain, settled_after, settled_of}
 use Rattle.cqf_program_planning.specs.declared.choosing.Search.{Search}
 use Rattle.cqf_program_planning.specs.Choosing.{IsPlanned, IsBad, IsUnplanned}
-use Rattle.cqf_program_planning.specs.Judging.{first_late, first_unplaced, flows_placed, latencies_placed, ArePlacedAt, candidate_of}
+use Rattle.cqf_program_planning.specs.Judging.{first_late, first_misplaced, first_touched, first_unplaced, flows_placed, latencies_placed, ArePlacedAt, candidate_of}
 use Rattle.cqf_program_planning.specs.Orders.{AreJudgedBy, AreTriedAt}
 use Rattle.cqf_program_planning.specs.PlanLaws.{IsSoundPlan, deadlines_of}
-use Rattle.cqf_program_planning.specs.PlanOutput.{AreChoicesOf, IsPlanText, PlanSource, planning_input, planning_parts, IsChoiceOf, offset_before, offset_written, settled_edges, network_line, taken_by, unentered_line, unsettled_line}
+use Rattle.cqf_program_planning.specs.PlanOutput.{AreChoicesOf, IsPlanText, PlanSource, apart_line, planning_input, planning_parts, IsChoiceOf, offset_before, offset_written, settled_edges, network_line, taken_by, unentered_line, unsettled_line}
 use Rattle.cqf_program_planning.specs.ReadPlans.{ComeAsPlaced, IsGoodPlan, IsReadPlan, IsShallow, ReadsAs, WrittenPlansReadBack, PlansPlanThemselves, PlansTo}
 use Rattle.cqf_program_planning.specs.Steps.{IsTurned}
-use Rattle.cqf_program_planning.proofs.AllPlaced.{neither}
+use Rattle.cqf_program_placing.specs.Neighbors.{kept_apart}
+use Rattle.cqf_program_planning.proofs.Beside.{choices_alone, kept_alone}
+use Rattle.cqf_program_planning.proofs.Kept.{apart_kept}
+use Rattle.cqf_program_planning.proofs.Touched.{HaveSamePaths, own_paths, placed_twice, touched_alike}
+use Rattle.cqf_program_planning.proofs.AgainBeside.{AreKeptAgain, kept_again, names_of_flows, none_yet_again, same_names, settled_names}
+use Rattle.cqf_program_planning.proofs.AllPlaced.{all_placed_there, neither}
 use Rattle.cqf_program_planning.proofs.EndsRead.{streams_end}
 use Rattle.cqf_program_planning.proofs.Inputs.{AreEntered, IsInput, entered, parts_input}
-use Rattle.cqf_program_planning.proofs.Ones.{AreOnes, One, ones_by}
+use Rattle.cqf_program_planning.proofs.Ones.{AreOnes, IsOne, One, ones_by}
 use Rattle.cqf_program_planning.proofs.ReadBack.{all_at_edge, all_come, all_good, all_kept, all_left, all_read, all_turned, at_edge, domain_found, edges_found, entrances_of_ones, flows_found, flows_of, AreApart, again_of, all_again_read, all_apart, all_arriving, all_asked, all_enter, all_hand, all_settled, arriving, bounds_found, filled_of, hands_of}
 use Rattle.cqf_program_planning.proofs.ReadBack.{none_found_full, plain_edges, read_of, streams_of}
 use Rattle.cqf_program_planning.proofs.ReadNetworks.{read_is_network}
@@ -69,9 +74,9 @@ use Rattle.cqf_topology.specs.PacedText.{PacedText}
 use Rattle.cqf_traffic.specs.TrafficText.{TrafficText}
 use Rattle.cqf_program_placing.specs.ActiveCycles.{is_in_step}
 use Rattle.cqf_program_planning.specs.declared.candidates.Candidate.{Candidate}
-use Rattle.cqf_program_planning.proofs.Again.{flows_again, nothing_wrong, settled_flow, unplaced_again}
+use Rattle.cqf_program_planning.proofs.Again.{flows_again, nothing_wrong, settled_flow, unplaced_again, placed_all}
 use Rattle.cqf_program_planning.proofs.Tried.{IsTriedKnown, tried_first, tried_known}
-use Rattle.cqf_program_planning.proofs.TriedLemmas.{AreEachPlaced}
+use Rattle.cqf_program_planning.proofs.TriedLemmas.{AreEachPlaced, length-placed}
 use Rattle.cqf_program_planning.proofs.AgainTables.{AreAgain, IsAgain, network_unchanged}
 use Rattle.cqf_program_planning.proofs.ComesBack.{after_request}
 
@@ -143,9 +148,12 @@ strict_written network edge entries none_lacks admitted sure =
 
 -- ---- the steps of reading
 
+abbrev after_apart : List ℕ → List ℕ → NetworkDomain → EdgeStreamsText → List SettledStream → Result PlanSource (List ℕ)
+after_apart domain streams network edge all = Ok (record { domain = network; streams = all; times = edge.times; domain_text = domain; streams_text = streams })
+
 abbrev after_settled : List ℕ → List ℕ → NetworkDomain → EdgeStreamsText → List SettledStream → Result PlanSource (List ℕ)
 after_settled domain streams network edge settled =
-    Ok (record { domain = network; streams = settled; times = edge.times; domain_text = domain; streams_text = streams })
+    and_then (or_line apart_line (kept_apart streams settled)) (after_apart domain streams network edge)
 
 abbrev after_edges : List ℕ → List ℕ → NetworkDomain → EdgeStreamsText → Result PlanSource (List ℕ)
 after_edges domain streams network edge = and_then (settled_edges network edge) (after_settled domain streams network edge)
@@ -240,7 +248,7 @@ module _ (read_back : FilledNetworksReadBack) (counted : SealsAreCounted) (limit
       subst₂ (λ (fs : List FlowText) (ts : List (Option AccessTimes)). AreChoicesOf cycle_time source.streams fs ts plan.filled) same_flows same_times
       (subst (λ (x : Domain). AreChoicesOf x.cycle_time source.streams plan.flows source.times plan.filled) same_domain plan.chosen)
 
-  settles : settled_after network (open_domain network) [] (streams_at_edge network there.entrances passages parts.wanted) ≡ Ok source.streams
+  settles : settled_after network (open_domain network) [] (streams_at_edge network there.entrances passages parts.wanted) ≡ Ok (map alone source.streams)
   settles = ap (λ (x : EdgeStreamsText). settled_of network x.streams) (sym there.from) ∙ parts.settled
 
   indices : AreEachPlaced d source.streams planned.placed.outcomes
@@ -248,7 +256,8 @@ module _ (read_back : FilledNetworksReadBack) (counted : SealsAreCounted) (limit
 
   all : AreOnes network bounds (open_domain network) d parts.wanted there.entrances source.streams flows plan.filled
   all =
-      let none = (neither (first_unplaced source.streams planned.placed.outcomes) (first_late (latencies_placed source.streams planned.placed)) planned.good).0 in
+      let none = all_placed_there source.streams planned.placed.outcomes
+      (neither (first_misplaced source.streams planned.placed.outcomes) (first_late (latencies_placed source.streams planned.placed)) planned.good).0 in
       ones_by network bounds (open_domain network) d [] parts.wanted there.entrances source.streams planned.placed.outcomes plan.filled
       (streams_end source.streams_text parts.wanted parts.streams_read) there.are settles indices none chosen.one_each
       sound.taken_over.each chosen.each
@@ -394,8 +403,8 @@ module _ (read_back : FilledNetworksReadBack) (counted : SealsAreCounted) (limit
     full_again =
         ap (full_station network) bounds_again ∙ (ap (λ (x : EdgeStreamsText). x.full) (sym there.from) ∙ parts.none_full)
 
-    streams_again : edge_again.streams ≡ map (arriving network is_network.has_talkers cycle_time good bounds) ones
-    streams_again =
+    streams_arrive : edge_again.streams ≡ map (arriving network is_network.has_talkers cycle_time good bounds) ones
+    streams_arrive =
         (λ i. streams_at_edge network_again (entrances_of_ones ones) (map (passage_of network (bounds_again i)) (hand_again i))
         (map (again_of network is_network.has_talkers cycle_time good bounds) ones))
         ∙ all_arriving network is_network.has_talkers cycle_time good bounds ones all.each
@@ -408,7 +417,7 @@ module _ (read_back : FilledNetworksReadBack) (counted : SealsAreCounted) (limit
 
     apart : AreApart network is_network.has_talkers cycle_time good bounds [] ones
     apart =
-        all_apart network is_network.has_talkers cycle_time good bounds [] ones source.streams
+        all_apart network is_network.has_talkers cycle_time good bounds [] ones (map alone source.streams)
         (sym (λ i. settled_after network (open_domain network) [] (streams_at_edge network (all.entrances_are i) (map (passage_of network bounds)
         (handed_at_each network.overhead (all.wanted_are i) (all.entrances_are i))) (all.wanted_are i))) ∙ settles)
 
@@ -417,13 +426,54 @@ module _ (read_back : FilledNetworksReadBack) (counted : SealsAreCounted) (limit
 
     settled_is : settled_of network_again edge_again.streams ≡ Ok settled_list
     settled_is =
-        ap (settled_of network_again) streams_again
+        ap (settled_of network_again) streams_arrive
         ∙ ap (λ (x : Domain). settled_after network_again x [] (map (arriving network is_network.has_talkers cycle_time good bounds) ones))
         (domain_found network cycle_time planned.open_to)
         ∙ all_settled network is_network.has_talkers cycle_time good bounds [] ones [] some_cycle all.each turned granted_again apart
 
+    -- with the same neighbors
+    abbrev table_now : Members
+    table_now = filled_network cycle_time plan.filled written.domain_members written.streams_members
+
+    shallow_now : members_depth table_now ≤ 80
+    shallow_now =
+        network_shallow cycle_time plan.filled written.domain_members written.streams_members
+        (shallow_domain written.domain_members written.domain_read) (shallow_streams written.streams_members written.streams_read)
+
+    names_again : map (λ (s : SettledStream). s.name) source.streams ≡ map (λ (s : SettledStream). s.name) settled_list
+    names_again =
+        let edges = map (at_edge network is_network.has_talkers cycle_time good bounds) ones in
+        let asked = all_asked network is_network.has_talkers cycle_time good bounds ones some_cycle all.each turned in
+        ap (map (λ (s : SettledStream). s.name)) all.settled_are ∙ by ones all.each ∙ sym (names_of_flows edges (flows_of ones) asked)
+        ∙ sym (settled_names edges)
+      where
+        by : (rest : List One) → All (IsOne network bounds (open_domain network) d) rest →
+            map (λ (s : SettledStream). s.name) (map (λ (o : One). o.settled) rest) ≡ map (λ (flow : FlowText). flow.0.0.name) (flows_of rest)
+        by [] each = refl
+        by (o ∷ rest) each =
+            let own_name = sym (All-head (IsOne network bounds (open_domain network) d) o rest each).taken.name in
+            let later = by rest (All-tail (IsOne network bounds (open_domain network) d) o rest each) in
+            (λ i. own_name i ∷ later i)
+
+    kept : AreKeptAgain text settled_list source.streams
+    kept =
+        kept_again source.streams_text text source.streams settled_list source.streams
+        (apart_kept source.streams_text text cycle_time plan.filled written.domain_members written.streams_members written.streams_read (written.written shallow_now))
+        (same_names source.streams settled_list names_again) parts.kept
+
+    abbrev streams_again : List SettledStream
+    streams_again = kept.again
+
+    apart_again : kept_apart text settled_list ≡ Ok streams_again
+    apart_again = ap (kept_apart text) (sym (none_yet_again (map (at_edge network is_network.has_talkers cycle_time good bounds) ones))) ∙ kept.kept
+
+    same_again : map alone streams_again ≡ settled_list
+    same_again =
+        kept_alone text settled_list streams_again apart_again
+        ∙ none_yet_again (map (at_edge network is_network.has_talkers cycle_time good bounds) ones)
+
     abbrev source_again : PlanSource
-    source_again = record { domain = network_again; streams = settled_list; times = edge_again.times; domain_text = text; streams_text = text }
+    source_again = record { domain = network_again; streams = streams_again; times = edge_again.times; domain_text = text; streams_text = text }
 
     input_again : planning_input limits None own ≡ Ok source_again
     input_again =
@@ -433,32 +483,49 @@ module _ (read_back : FilledNetworksReadBack) (counted : SealsAreCounted) (limit
         ∙ ap (λ r. and_then (or_line unentered_line r) (after_edges text text network_again)) edges_again
         ∙ ap (λ r. and_then (and_then (or_line unsettled_line r) (λ settled. refuse edge_again.full full_line (Ok settled))) (after_settled text text network_again edge_again)) settled_is
         ∙ ap (λ o. and_then (refuse o full_line (Ok settled_list)) (after_settled text text network_again edge_again)) full_again
+        ∙ ap (λ r. and_then (or_line apart_line r) (after_apart text text network_again edge_again)) apart_again
 
     -- each time its streams are placed, nothing is wrong
     good_edge : IsGoodPlan d (map (at_edge network is_network.has_talkers cycle_time good bounds) ones)
     good_edge = subst (IsGoodPlan d) flows_are good_plan
 
-    granted_first : (first : PlacedStreams) → ArePlacedAt network_again settled_list cycle_time first → first_unplaced settled_list first.outcomes ≡ None
+    granted_first : (first : PlacedStreams) → ArePlacedAt network_again streams_again cycle_time first → first_unplaced streams_again first.outcomes ≡ None
     granted_first first at =
-        unplaced_again counted d (map (at_edge network is_network.has_talkers cycle_time good bounds) ones) good_edge granted_again first at.domain at.placed_are
+        unplaced_again counted d (map (at_edge network is_network.has_talkers cycle_time good bounds) ones) good_edge granted_again streams_again same_again
+        first at.domain at.placed_are
 
-    as_first : (tries : ℕ) (placed : PlacedStreams) → AreTriedAt network_again settled_list tries cycle_time placed →
-        ArePlacedAt network_again settled_list cycle_time placed
-    as_first tries placed tried = tried_first network_again settled_list tries cycle_time placed tried granted_first
+    -- and they are apart as they were
+    none_touched : first_touched streams_again (placed_all (map (at_edge network is_network.has_talkers cycle_time good bounds) ones)) ≡ None
+    none_touched =
+        let outcomes = planned.placed.outcomes in
+        let edges = map (at_edge network is_network.has_talkers cycle_time good bounds) ones in
+        let misplaced = (neither (first_misplaced source.streams outcomes) (first_late (latencies_placed source.streams planned.placed)) planned.good).0 in
+        let both = neither (first_unplaced source.streams outcomes) (first_touched source.streams outcomes) misplaced in
+        let each = length-placed planned.placed.domain source.streams outcomes known.placed_each in
+        let asked = all_asked network is_network.has_talkers cycle_time good bounds ones some_cycle all.each turned in
+        let own : HaveSamePaths outcomes (map Placed (map asked_in flows)) = own_paths cycle_time source.streams outcomes each both.0 in
+        let there : HaveSamePaths outcomes (placed_all edges) =
+        subst (HaveSamePaths outcomes) (ap (λ (fs : List FlowText). map Placed (map asked_in fs)) all.flows_are ∙ ap (map Placed) (sym asked) ∙ placed_twice edges) own in
+        sym (touched_alike outcomes (placed_all edges) there source.streams streams_again outcomes (placed_all edges) kept.beside there) ∙ both.1
 
-    fine : (tries : ℕ) (placed : PlacedStreams) → AreTriedAt network_again settled_list tries cycle_time placed → (candidate_of settled_list placed).fault ≡ None
+    as_first : (tries : ℕ) (placed : PlacedStreams) → AreTriedAt network_again streams_again tries cycle_time placed →
+        ArePlacedAt network_again streams_again cycle_time placed
+    as_first tries placed tried = tried_first network_again streams_again tries cycle_time placed tried granted_first
+
+    fine : (tries : ℕ) (placed : PlacedStreams) → AreTriedAt network_again streams_again tries cycle_time placed → (candidate_of streams_again placed).fault ≡ None
     fine tries placed tried =
         let at = as_first tries placed tried in
-        nothing_wrong counted d (map (at_edge network is_network.has_talkers cycle_time good bounds) ones) good_edge granted_again placed at.domain at.placed_are
+        nothing_wrong counted d (map (at_edge network is_network.has_talkers cycle_time good bounds) ones) good_edge granted_again streams_again same_again placed
+        at.domain at.placed_are none_touched
 
     -- so there is a plan
-    some_plan : (tries : ℕ) (line : List ℕ) → IsUnplanned network_again settled_list tries line → ⊥
+    some_plan : (tries : ℕ) (line : List ℕ) → IsUnplanned network_again streams_again tries line → ⊥
     some_plan tries line unplanned = one_bad unplanned.reported unplanned.judged unplanned.bad
       where
         some_fault : (candidate : Candidate) → candidate.fault ≡ None → IsBad candidate → ⊥
         some_fault candidate none bad = let both = sym (ap is_some none) ∙ bad in absurd cc
 
-        one_bad : (reported : List Candidate) → AreJudgedBy network_again settled_list tries (cycle_time ∷ []) reported → All IsBad reported → ⊥
+        one_bad : (reported : List Candidate) → AreJudgedBy network_again streams_again tries (cycle_time ∷ []) reported → All IsBad reported → ⊥
         one_bad [] judged bad = absurd judged
         one_bad (candidate ∷ []) judged bad =
             let (placed, at, is) = judged.0.open_to planned.open_to in
@@ -496,14 +563,6 @@ module _ (read_back : FilledNetworksReadBack) (counted : SealsAreCounted) (limit
         record { octets = ap (λ (r : PacedText). r.octets) first.request ∙ ap (λ (r : PacedText). r.octets) same; offset = first.offset ∙ never_chosen flow taken } in
         (is, all_chosen_again rest times filled t_rest f_rest (λ k. each (suc k)))
 
-    abbrev table_now : Members
-    table_now = filled_network cycle_time plan.filled written.domain_members written.streams_members
-
-    shallow_now : members_depth table_now ≤ 80
-    shallow_now =
-        network_shallow cycle_time plan.filled written.domain_members written.streams_members
-        (shallow_domain written.domain_members written.domain_read) (shallow_streams written.streams_members written.streams_read)
-
     times_again : length edge_again.times ≡ length ones
     times_again =
         length-map (map (passage_of network (bounds_of network (handed_at_each network.overhead (map (again_of network is_network.has_talkers cycle_time good bounds) ones) (entrances_of_ones ones))))
@@ -516,15 +575,18 @@ module _ (read_back : FilledNetworksReadBack) (counted : SealsAreCounted) (limit
     same_table another again other =
         let second = other.planned in
         let cycle : second.cycle_time ≡ cycle_time = only_one cycle_time second.cycle_time second.before second.following second.among in
-        let at : ArePlacedAt network_again settled_list cycle_time second.placed =
-        as_first another.tries second.placed (subst (λ (c : ℕ). AreTriedAt network_again settled_list another.tries c second.placed) cycle second.are_placed) in
+        let at : ArePlacedAt network_again streams_again cycle_time second.placed =
+        as_first another.tries second.placed (subst (λ (c : ℕ). AreTriedAt network_again streams_again another.tries c second.placed) cycle second.are_placed) in
         let domain : other.domain ≡ d = second.domain_is ∙ at.domain in
         let edges = map (at_edge network is_network.has_talkers cycle_time good bounds) ones in
         let flows_now : other.flows ≡ edges =
-        second.flows_are ∙ ap (λ (x : Domain). flows_placed x.cycle_time settled_list second.placed.outcomes) at.domain
-        ∙ flows_again counted d edges good_edge granted_again second.placed at.domain at.placed_are in
+        second.flows_are ∙ ap (λ (x : Domain). flows_placed x.cycle_time streams_again second.placed.outcomes) at.domain
+        ∙ flows_again counted d edges good_edge granted_again streams_again same_again second.placed at.domain at.placed_are in
+        let chosen_now : AreChoicesOf cycle_time streams_again edges edge_again.times other.filled =
+        subst₂ (λ (x : Domain) (fs : List FlowText). AreChoicesOf x.cycle_time streams_again fs edge_again.times other.filled) domain flows_now other.chosen in
         let choice : AreChoicesOf cycle_time settled_list edges edge_again.times other.filled =
-        subst₂ (λ (x : Domain) (fs : List FlowText). AreChoicesOf x.cycle_time settled_list fs edge_again.times other.filled) domain flows_now other.chosen in
+        subst (λ (ss : List SettledStream). AreChoicesOf cycle_time ss edges edge_again.times other.filled) same_again
+        (choices_alone cycle_time streams_again edges edge_again.times other.filled chosen_now) in
         let many : length other.filled ≡ length ones = choice.one_each ∙ length-map ones (at_edge network is_network.has_talkers cycle_time good bounds) in
         let unchanged : AreAgain other.filled (filled_of ones) = all_chosen_again ones edge_again.times other.filled times_again many choice.each in
         let own : AreAgain other.filled plan.filled = subst (AreAgain other.filled) (sym all.filled_are) unchanged in

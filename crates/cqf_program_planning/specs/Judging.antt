@@ -1,11 +1,11 @@
 -- The verdict on a candidate for the cycle time.
-use Rattle.std.specs.Prelude.{ℕ, ◌≡◌, ◌+◌, ◌*◌, ◌/◌, ◌%◌, ◌≤◌, ◌<◌, List, [], ◌∷◌, count_by, find, fold, if◌then◌else◌, length, map, max, nat_lt, option_map, suc, zero}
+use Rattle.std.specs.Prelude.{ℕ, ◌≡◌, ◌+◌, ◌*◌, ◌/◌, ◌%◌, ◌≤◌, ◌<◌, List, [], ◌∷◌, count_by, find, fold, if◌then◌else◌, length, map, max, nat_lt, not, option_map, suc, zero, ◌&&◌, Bool}
 use Rattle.std.specs.Prelude.{Option, Some, None, unwrap_or}
 use Rattle.std.specs.List.{flat_map}
 use Rattle.cqf_lists.specs.Lists.{each_below, or_else}
 use Rattle.cqf_model.specs.declared.topology.Row.{Row}
-use Rattle.cqf_model.specs.Domain.{Domain, budget}
-use Rattle.cqf_model.specs.History.{Asked, held_in, seals}
+use Rattle.cqf_model.specs.Domain.{Domain, budget, is_text}
+use Rattle.cqf_model.specs.History.{Asked, Branch, held_in, seals}
 use Rattle.cqf_admission.specs.Costs.{most_cost}
 use Rattle.cqf_network.specs.NetworkDomain.{NetworkDomain, domain_at}
 use Rattle.cqf_traffic.specs.FlowsText.{FlowText}
@@ -14,6 +14,7 @@ use Rattle.cqf_network.specs.declared.pacing.Pacing.{Pacing}
 use Rattle.cqf_program_plans.specs.declared.latency.latencies.Latency.{Latency}
 use Rattle.cqf_program_plans.specs.Latency.Text.{is_not_sure, latencies_of}
 use Rattle.cqf_program_placing.specs.declared.faults.PlanFault.TheVariants as fault
+use Rattle.cqf_program_placing.specs.Apart.{ApartFrom, are_apart}
 use Rattle.cqf_program_placing.specs.Placing.{ArePlaced, PlacedOr, PlacedStreams, Placed, Unplaced}
 use Rattle.cqf_program_placing.specs.Settled.{SettledStream}
 use Rattle.cqf_program_placing.specs.ActiveCycles.{is_in_step}
@@ -55,6 +56,42 @@ first_unplaced [] outcomes = None
 first_unplaced (stream ∷ streams) [] = None
 first_unplaced (stream ∷ streams) (Placed asked ∷ outcomes) = first_unplaced streams outcomes
 first_unplaced (stream ∷ streams) (Unplaced found ∷ outcomes) = Some (shut.Stream stream.name found)
+
+-- the branches of the placed stream of a name; none if no such stream is placed
+abbrev pub branches_if : List ℕ → PlacedOr → Option (List Branch)
+branches_if name (Placed asked) = if is_text name asked.name then Some asked.paths else None
+branches_if name (Unplaced found) = None
+
+abbrev pub branches_named : List PlacedOr → List ℕ → List Branch
+branches_named [] name = []
+branches_named (become ∷ outcomes) name = unwrap_or (branches_if name become) (branches_named outcomes name)
+
+abbrev pub branches_in : PlacedOr → List Branch
+branches_in (Placed asked) = asked.paths
+branches_in (Unplaced found) = []
+
+-- whether the path of a stream, with these branches, isn't apart from that of an earlier one that it names
+abbrev pub is_touched : List PlacedOr → List Branch → ApartFrom → Bool
+is_touched outcomes paths neighbor = not neighbor.is_later && not (are_apart (branches_named outcomes neighbor.name) paths)
+
+-- the first such stream
+abbrev pub touched_of : List PlacedOr → SettledStream → PlacedOr → Option CandidateFault
+touched_of outcomes stream become =
+    option_map (λ (neighbor : ApartFrom). shut.Stream stream.name (fault.NotApart neighbor.name))
+    (find (is_touched outcomes (branches_in become)) stream.apart)
+
+abbrev pub first_touched_in : List PlacedOr → List SettledStream → List PlacedOr → Option CandidateFault
+first_touched_in outcomes [] others = None
+first_touched_in outcomes (stream ∷ streams) [] = None
+first_touched_in outcomes (stream ∷ streams) (become ∷ others) =
+    or_else (touched_of outcomes stream become) (first_touched_in outcomes streams others)
+
+abbrev pub first_touched : List SettledStream → List PlacedOr → Option CandidateFault
+first_touched streams outcomes = first_touched_in outcomes streams outcomes
+
+-- the first stream that isn't placed; or else the first whose path isn't apart from that of another one as it has to be
+abbrev pub first_misplaced : List SettledStream → List PlacedOr → Option CandidateFault
+first_misplaced streams outcomes = or_else (first_unplaced streams outcomes) (first_touched streams outcomes)
 
 -- the rows of the streams that are placed; their deadlines; and how long their frames take to their listeners
 abbrev pub rows_placed : PlacedStreams → List Row
@@ -105,21 +142,21 @@ abbrev pub tightest_of : List Slack → Option Slack
 tightest_of slacks = fold tighter None slacks
 
 -- the verdict on a cycle time on which streams are placed, by how many they are, what links hold, how long frames take, and the first
--- stream that isn't placed
+-- stream that is misplaced
 abbrev pub candidate_by : ℕ → ℕ → List ℕ → List Latency → Option CandidateFault → Candidate
-candidate_by cycle_time placed shares latencies unplaced = record {
+candidate_by cycle_time placed shares latencies misplaced = record {
   cycle_time = cycle_time;
   placed = placed;
   used = greatest_of shares;
   late = count_by is_not_sure latencies;
   tightest = tightest_of (slacks_of latencies);
-  fault = or_else unplaced (first_late latencies);
+  fault = or_else misplaced (first_late latencies);
 }
 
 abbrev pub candidate_of : List SettledStream → PlacedStreams → Candidate
 candidate_of streams placed =
     candidate_by placed.domain.cycle_time (length (those_placed streams placed.outcomes)) (shares_of placed.domain (rows_placed placed))
-    (latencies_placed streams placed) (first_unplaced streams placed.outcomes)
+    (latencies_placed streams placed) (first_misplaced streams placed.outcomes)
 
 -- the verdict on a cycle time that isn't longer than every guard band: nothing is placed
 abbrev pub shut_candidate : ℕ → Candidate

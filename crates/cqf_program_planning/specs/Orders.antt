@@ -23,10 +23,11 @@ first_order count = each_below (λ k. k ∷ []) count
 abbrev pub is_open_at : List SettledStream → ℕ → Bool
 is_open_at streams index = option_map_or (λ (stream : SettledStream). is_open stream.path) (slice_get streams index) false
 
--- whether a fault is that links have no room
+-- whether a fault is that links have no room, or that they are shut by the paths of other streams
 abbrev pub is_of_room : PlanFault → Bool
 is_of_room (fault.Full listener cost from to left) = true
 is_of_room (fault.Short from to left) = true
+is_of_room (fault.NotApart other) = true
 is_of_room other = false
 
 -- whether a stream is placed

@@ -1,10 +1,10 @@
 -- What each plan that is written ensures.
-use Rattle.std.specs.Prelude.{ℕ, ◌≡◌, ◌+◌, ◌*◌, ◌%◌, ◌≤◌, List, [], All, IfSome, Option, Some, None, Ok, false, length, map, option_map, slice_get, true}
+use Rattle.std.specs.Prelude.{ℕ, ◌≡◌, ◌+◌, ◌*◌, ◌%◌, ◌≤◌, List, [], ◌∷◌, All, Contains, IfSome, Option, Some, None, Ok, false, if◌then◌else◌, length, map, option_map, slice_get, true}
 use Rattle.std.specs.Option.{ForSome}
 use Rattle.cqf_laws_timing.specs.Traffic.{needed}
 use Rattle.cqf_model.specs.declared.limits.Limits.{Limits}
-use Rattle.cqf_model.specs.Domain.{Domain}
-use Rattle.cqf_model.specs.History.{Recorded, held_in}
+use Rattle.cqf_model.specs.Domain.{Domain, is_text}
+use Rattle.cqf_model.specs.History.{Branch, Recorded, held_in}
 use Rattle.cqf_network.specs.declared.pacing.Pacing.TheVariants as pacing
 use Rattle.cqf_network.specs.NetworkDomain.{AreCandidates, IsOpenCycle, NetworkDomain}
 use Rattle.cqf_traffic.specs.FlowsText.{FlowText}
@@ -14,6 +14,7 @@ use Rattle.cqf_program_plans.specs.declared.latency.latencies.Latency.{Latency}
 use Rattle.cqf_program_plans.specs.Latency.Text.{is_not_sure, latencies_of}
 use Rattle.cqf_program_plans.specs.Reserving.{first_lack, planned_octets}
 use Rattle.cqf_program_offers.specs.OffersOutput.{asked_in}
+use Rattle.cqf_program_placing.specs.Apart.{ApartFrom, are_apart}
 use Rattle.cqf_program_placing.specs.Placing.{PlacedStreams, active_cycles_on, is_chosen_on}
 use Rattle.cqf_program_placing.specs.Room.{ArePlacedByRoom, MayBePaths}
 use Rattle.cqf_program_placing.specs.Settled.{SettledStream}
@@ -53,10 +54,22 @@ pub record AreTakenOver (cycle_time sync : ℕ) (streams : List SettledStream) (
 abbrev pub ReservesEnough : ℕ → ℕ → FlowText → Type 0
 ReservesEnough overhead cycle_time flow = ForSome flow.1 (λ (t : TrafficText). needed overhead cycle_time (promise_of t) ≤ flow.0.0.octets)
 
+-- the branches of the stream with a name; none if there is none
+abbrev pub paths_named : List FlowText → List ℕ → List Branch
+paths_named [] name = []
+paths_named (flow ∷ flows) name = if is_text name flow.0.0.name then flow.0.0.paths else paths_named flows name
+
+-- the path of each stream is apart from the paths of the earlier streams that it names
+pub record AreKeptApart (streams : List SettledStream) (flows : List FlowText) : Type 0 where
+  pub each : (index : ℕ) (stream : SettledStream) (flow : FlowText) (neighbor : ApartFrom) → slice_get streams index ≡ Some stream →
+      slice_get flows index ≡ Some flow → Contains stream.apart neighbor → neighbor.is_later ≡ false →
+      are_apart (paths_named flows neighbor.name) flow.0.0.paths ≡ true
+
 -- a plan of all of these streams, in their order. Each is admitted before cycle 0, and reserves what its talker needs in a cycle, so none
--- is refused for less. No frame of theirs may miss what is left of its deadline at its edge bridge
+-- is refused for less. No frame of theirs may miss what is left of its deadline at its edge bridge. Streams that have to be apart are
 pub record IsSoundPlan (streams : List SettledStream) (d : Domain) (flows : List FlowText) : Type 0 where
   pub taken_over : AreTakenOver d.cycle_time d.sync streams flows
+  pub apart : AreKeptApart streams flows
   pub entries : List Recorded
   pub admitted : admitted_from d [] 1 (map asked_in flows) ≡ Ok entries
   pub enough : All (ReservesEnough d.overhead d.cycle_time) flows

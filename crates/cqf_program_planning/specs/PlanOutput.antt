@@ -29,7 +29,10 @@ use Rattle.cqf_program_plans.specs.Edges.{full_line}
 use Rattle.cqf_program_plans.specs.Reserving.{flows_line}
 use Rattle.cqf_program_placing.specs.declared.settled.Unsettled.{Unsettled}
 use Rattle.cqf_program_placing.specs.declared.settled.Unsettled.TheVariants as unsettled
+use Rattle.cqf_program_placing.specs.declared.faults.ApartFault.{ApartFault}
+use Rattle.cqf_program_placing.specs.declared.faults.ApartFault.TheVariants as apart_fault
 use Rattle.cqf_program_placing.specs.Faults.{plan_fault_text}
+use Rattle.cqf_program_placing.specs.Neighbors.{kept_apart}
 use Rattle.cqf_program_placing.specs.Settled.{SettledStream, settled_of}
 use Rattle.cqf_program_placing.specs.Placing.{is_chosen_on}
 use Rattle.cqf_program_planning.specs.declared.candidates.Candidate.{Candidate}
@@ -69,15 +72,22 @@ abbrev pub settled_edges : NetworkDomain → EdgeStreamsText → Result (List Se
 settled_edges network edge =
     and_then (or_line unsettled_line (settled_of network edge.streams)) (λ settled. refuse edge.full full_line (Ok settled))
 
+-- the line of streams that can't be kept apart
+abbrev pub apart_line : ApartFault → List ℕ
+apart_line apart_fault.BadValue = fault_line (codes "streams") (codes "BadValue apart")
+apart_line (apart_fault.NotBefore stream other) = fault_line (codes "plan") (stream ++ (codes ": NotBefore " ++ other))
+apart_line apart_fault.Memory = []
+
 -- that of the texts of a domain and of streams, with candidates for the cycle time if they are given; or the line of the first fault: of the
--- domain, of the streams, of what no cycle time changes, and of the first access link that is full
+-- domain, of the streams, of what no cycle time changes, of the first access link that is full, and of the key `apart`
 abbrev pub planning_parts : Limits → Option (List ℕ) → List ℕ → List ℕ → Result PlanSource (List ℕ)
 planning_parts limits given domain_text streams_text =
     and_then (or_line network_line (open_network_of_text limits given domain_text)) (λ network.
     and_then (or_line flows_line (network_streams_of_text streams_text)) (λ wanted.
     and_then (or_line unentered_line (edge_streams network wanted)) (λ edge.
     and_then (settled_edges network edge) (λ settled.
-    Ok (record { domain = network; streams = settled; times = edge.times; domain_text = domain_text; streams_text = streams_text })))))
+    and_then (or_line apart_line (kept_apart streams_text settled)) (λ streams.
+    Ok (record { domain = network; streams = streams; times = edge.times; domain_text = domain_text; streams_text = streams_text }))))))
 
 -- that of an input with these two parts; or the line of the first fault
 abbrev pub planning_input : Limits → Option (List ℕ) → List ℕ → Result PlanSource (List ℕ)

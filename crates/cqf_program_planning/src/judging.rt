@@ -6,13 +6,14 @@ ghost use Rattle.cqf_lists.specs.Lists.{or_else};
 ghost use Rattle.cqf_program_placing.specs.Placing.{outcome_value};
 ghost use Rattle.cqf_program_placing.specs.Settled.{settled_value};
 ghost use Rattle.cqf_program_plans.specs.Latency.Text.{is_not_sure, latencies_of};
-ghost use Rattle.cqf_program_planning.specs.Judging.{candidate_by, deadlines_placed, first_late, first_unplaced, those_placed};
+ghost use Rattle.cqf_program_planning.specs.Judging.{candidate_by, deadlines_placed, first_late, first_misplaced, first_unplaced, those_placed};
 ghost use Rattle.cqf_program_planning.specs.Judging.{late_fault, shares_of};
 ghost use Rattle.cqf_program_planning.specs.Steps.{deadlines_by};
 
 use crate::candidates::{Candidate, CandidateFault};
 use crate::shares::greatest_share;
 use crate::slacks::tightest_of;
+use crate::touching::first_touched;
 use cqf_model::Row;
 use cqf_program_placing::{PlacingOutcome, PlanFault, Settled};
 use cqf_program_plans::{Latency, latencies_of_rows};
@@ -61,6 +62,7 @@ fn copied(fault: &PlanFault) -> PlanFault
         PlanFault::NoTalker => PlanFault::NoTalker,
         PlanFault::NoListener(name) => PlanFault::NoListener(name.copied()),
         PlanFault::NoWay(name) => PlanFault::NoWay(name.copied()),
+        PlanFault::NotApart(name) => PlanFault::NotApart(name.copied()),
         PlanFault::TooSoon => PlanFault::TooSoon,
         PlanFault::BadInStep => PlanFault::BadInStep,
         PlanFault::TooMuch(needed) => PlanFault::TooMuch(*needed),
@@ -108,6 +110,17 @@ fn first_unplaced(streams: &[Settled], outcomes: &[PlacingOutcome]) -> Option<Ca
     None
 }
 
+/// Returns the first stream that isn't placed; or else the first whose path isn't apart from that of another one as it has to be.
+fn first_misplaced(streams: &[Settled], outcomes: &[PlacingOutcome]) -> Option<CandidateFault>
+    requires { length outcomes.now ≡ length streams.now }
+    ensures { result ≡ first_misplaced (map settled_value streams.now) (map outcome_value outcomes.now) }
+{
+    match first_unplaced(streams, outcomes) {
+        Some(fault) => Some(fault),
+        None => first_touched(streams, outcomes),
+    }
+}
+
 /// Returns the fault that the frames of a latency may be late.
 fn late_fault(latency: &Latency) -> CandidateFault
     ensures { result ≡ late_fault latency.now }
@@ -140,11 +153,11 @@ fn late_count(latencies: &[Latency]) -> usize
         .count()
 }
 
-/// Returns the first stream that isn't placed; or else the first whose frames may be late.
-fn first_fault(unplaced: Option<CandidateFault>, latencies: &[Latency]) -> Option<CandidateFault>
-    ensures { result ≡ or_else unplaced (first_late latencies.now) }
+/// Returns the first stream that is misplaced; or else the first whose frames may be late.
+fn first_fault(misplaced: Option<CandidateFault>, latencies: &[Latency]) -> Option<CandidateFault>
+    ensures { result ≡ or_else misplaced (first_late latencies.now) }
 {
-    match unplaced {
+    match misplaced {
         Some(fault) => Some(fault),
         None => first_late(latencies),
     }
@@ -163,18 +176,18 @@ pub(crate) fn candidate_of(
     requires good { AreOfGoodPaces rows.now }
     ensures { let those = map settled_value streams.now in let become = map outcome_value outcomes.now in IfOk result (λ candidate. candidate
         ≡ candidate_by domain.now.cycle_time (length (those_placed those become)) (shares_of domain.now rows.now)
-        (latencies_of domain.now rows.now (deadlines_placed those become)) (first_unplaced those become)) }
+        (latencies_of domain.now rows.now (deadlines_placed those become)) (first_misplaced those become)) }
 {
     let deadlines = deadlines_placed(alloc, streams, outcomes)?;
     let latencies = latencies_of_rows(alloc, domain, rows, deadlines.as_slice())?;
     let used = greatest_share(alloc, domain, rows)?;
-    let unplaced = first_unplaced(streams, outcomes);
+    let misplaced = first_misplaced(streams, outcomes);
     Ok(Candidate {
         cycle_time: domain.cycle_time().0 as u32,
         placed: deadlines.len(),
         used,
         late: late_count(latencies.as_slice()),
         tightest: tightest_of(latencies.as_slice()),
-        fault: first_fault(unplaced, latencies.as_slice()),
+        fault: first_fault(misplaced, latencies.as_slice()),
     })
 }

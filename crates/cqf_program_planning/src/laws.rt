@@ -11,7 +11,8 @@ use cqf_traffic::offers_come_in_active_cycles;
 /// A plan that is written has all streams of its network file, in their order, each with its name, its deadline, the cycles in which it is
 /// to be offered and what its talker promises. It has all of their traffic, but a stream whose phase is chosen begins in the first of its
 /// cycles. All streams are admitted before cycle 0, each reserves what its talker needs in a cycle, and none may have a frame that misses
-/// what is left of its deadline at its edge bridge.
+/// what is left of its deadline at its edge bridge. The path of each stream is apart from those of the streams that it names at `apart`: it passes
+/// no link of theirs, and no bridge of theirs but as its first or its last.
 pub fn written_plan_is_admitted()
     ensures { WrittenPlanIsAdmitted }
 {

@@ -18,6 +18,7 @@ mod searching;
 mod shares;
 mod slacks;
 mod table;
+mod touching;
 mod trying;
 
 pub use choosing::Search;

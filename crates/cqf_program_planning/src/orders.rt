@@ -23,11 +23,14 @@ pub(crate) fn first_order(alloc: Global, count: usize) -> Result<Vec<usize>, Mem
     Ok(order)
 }
 
-/// Returns whether the fault is that links have no room.
+/// Returns whether the fault is that links have no room, or that they are shut by the paths of other streams.
 fn is_of_room(fault: &PlanFault) -> bool
     ensures { result ≡ is_of_room fault.now }
 {
-    matches!(fault, PlanFault::Full { .. } | PlanFault::Short { .. })
+    matches!(
+        fault,
+        PlanFault::Full { .. } | PlanFault::Short { .. } | PlanFault::NotApart(_)
+    )
 }
 
 /// Returns whether another order may help the stream: it is placed, or it is to find its path and finds no room.

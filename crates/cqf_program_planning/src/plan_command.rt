@@ -4,15 +4,16 @@ ghost use Rattle.cqf_program_plans.specs.Edges.{EndsAsFull, full_line};
 ghost use Rattle.cqf_program_plans.specs.Reserving.{flows_line};
 ghost use Rattle.cqf_edge.specs.EdgeStreams.{IsWrittenStream, edge_streams};
 ghost use Rattle.cqf_edge.specs.EdgeValues.{edge_streams_text};
+ghost use Rattle.cqf_program_placing.specs.Neighbors.{kept_apart};
 ghost use Rattle.cqf_program_placing.specs.Settled.{settled_of, settled_value};
 ghost use Rattle.cqf_output.specs.Stops.{EndsWith, IsRefused, or_line};
-ghost use Rattle.cqf_network.specs.NetworkDomain.{AreCandidates, open_network_of_text};
+ghost use Rattle.cqf_network.specs.NetworkDomain.{AreCandidates, NetworkDomain as ANetwork, open_network_of_text};
 ghost use Rattle.cqf_network.specs.StreamsText.{network_streams_of_text, stream_text};
 ghost use Rattle.cqf_program_placing.specs.Placing.{BeginsEarly, outcome_value};
 ghost use Rattle.cqf_program_planning.specs.Choosing.{IsBad, line_of_nearest};
 ghost use Rattle.cqf_program_planning.specs.Judging.{flows_placed};
 ghost use Rattle.cqf_program_planning.specs.PlanOutput.{IsCandidatesText, IsPartsRefusal, IsPlanOf, IsPlanOfParts, IsPlanRefusal, IsPlanText, IsWrittenOf, IsWrittenRefusal};
-ghost use Rattle.cqf_program_planning.specs.PlanOutput.{planning_input, planning_parts, network_line, unentered_line, unsettled_line};
+ghost use Rattle.cqf_program_planning.specs.PlanOutput.{apart_line, planning_input, planning_parts, network_line, unentered_line, unsettled_line};
 ghost use Rattle.cqf_program_planning.specs.Steps.{AreSettled, AreTurned};
 ghost use Rattle.cqf_program_planning.specs.Writing.{IsTriedText, IsWritable, source_of};
 
@@ -26,7 +27,7 @@ use cqf_model::{Limits, Refused};
 use cqf_network::{NetworkDomain, NetworkFault, Stream, read_network_streams};
 use cqf_network_text::write_network;
 use cqf_output::{REFUSED, Stop};
-use cqf_program_placing::{PlanFault, Settled, Unsettled, settle};
+use cqf_program_placing::{ApartFault, PlanFault, Settled, Unsettled, keep_apart, settle};
 use cqf_program_plans::{flows_stop, stream_stop};
 use cqf_program_scenario::two_parts;
 use cqf_topology::DomainFault;
@@ -170,6 +171,50 @@ fn edges_wanted(
     }
 }
 
+/// Returns the line of a stream that is to be apart from one that isn't before it.
+fn line_of_not_before(alloc: Global, stream: &Name, other: &Name) -> Result<String, Memory>
+    ensures { IfOk result (λ line. string_bytes line ≡ apart_line (ApartFault.NotBefore stream.now other.now)) }
+{
+    let line = format!(in alloc; "cqf: plan: {stream}: NotBefore {other}\n")?;
+    Ok(line)
+}
+
+/// Returns the line of a bad value at the key `apart`.
+fn line_of_bad_apart(alloc: Global) -> Result<String, Memory>
+    ensures { IfOk result (λ line. string_bytes line ≡ apart_line ApartFault.BadValue) }
+{
+    let line = String::from_str(alloc, "cqf: streams: BadValue apart\n")?;
+    Ok(line)
+}
+
+/// Returns the end if streams of a network file can't be kept apart.
+fn apart_stop(alloc: Global, fault: ApartFault) -> Stop
+    ensures refused { fault ≢ ApartFault.Memory → EndsWith 1 (apart_line fault) result }
+    ensures memory { fault ≡ ApartFault.Memory → EndsWith 3 [] result }
+{
+    match fault {
+        ApartFault::BadValue => Stop::with_text(alloc, REFUSED, line_of_bad_apart(alloc)),
+        ApartFault::NotBefore(stream, other) => {
+            Stop::with_text(alloc, REFUSED, line_of_not_before(alloc, &stream, &other))
+        }
+        ApartFault::Memory => Stop::memory(alloc),
+    }
+}
+
+/// Returns the settled streams of a text, each with those from which it is to be apart. Returns `Err` with status 1 and the line of the first
+/// fault; with status 3 if an allocation fails.
+fn apart_part(alloc: Global, text: &[u8], streams: Vec<Settled>) -> Result<Vec<Settled>, Stop>
+    ensures ok { IfOk result (λ all. kept_apart text.now (map settled_value streams.items) ≡ Ok (map settled_value all.items)) }
+    ensures settled { IfOk result (λ all. (network : ANetwork) → AreSettled network (map settled_value streams.items)
+        → AreSettled network (map settled_value all.items)) }
+    ensures err { IfErr result (IsRefused (or_line apart_line (kept_apart text.now (map settled_value streams.items)))) }
+{
+    match keep_apart(alloc, text, streams) {
+        Ok(all) => Ok(all),
+        Err(fault) => Err(apart_stop(alloc, fault)),
+    }
+}
+
 /// Refuses a network if one of its access links is full, with status 1 and the line of the first one's station.
 fn refuse_full(alloc: Global, full: Option<Name>) -> Result<(), Stop>
     ensures ok { OnOk result (full ≡ None) }
@@ -184,8 +229,8 @@ fn refuse_full(alloc: Global, full: Option<Name>) -> Result<(), Stop>
 /// Returns the domain and the settled streams of two texts, read within some limits.
 ///
 /// # Errors
-/// With status 1 and the line of the first fault: of the domain, of the streams, of what no cycle time changes, or of the access links; with
-/// status 3 if an allocation fails.
+/// With status 1 and the line of the first fault: of the domain, of the streams, of what no cycle time changes, of the access links, or of the
+/// key `apart`; with status 3 if an allocation fails.
 fn read_parts<'t>(
     alloc: Global,
     limits: Limits,
@@ -203,6 +248,7 @@ fn read_parts<'t>(
     let edge = edges_wanted(alloc, &domain, wanted)?;
     let streams = settled_part(alloc, &domain, edge.streams)?;
     refuse_full(alloc, edge.full)?;
+    let streams = apart_part(alloc, streams_text, streams)?;
     Ok(PlanInput {
         domain,
         streams,

@@ -11,7 +11,7 @@ use Rattle.cqf_program_words.specs.Options.{gives_value, option_rule, rule_for}
 
 -- the commands
 abbrev pub all_commands : List Subcommand
-all_commands = Port ∷ Line ∷ Compile ∷ Load ∷ Latency ∷ Run ∷ Report ∷ Deliveries ∷ Check ∷ Summary ∷ Hops ∷ Offers ∷ Plan ∷ Diff ∷ []
+all_commands = Plan ∷ Load ∷ Latency ∷ Compile ∷ Diff ∷ Offers ∷ Check ∷ Run ∷ Summary ∷ Report ∷ Hops ∷ Deliveries ∷ Port ∷ Line ∷ []
 
 -- their names
 abbrev pub name_of : Subcommand → Text

@@ -51,20 +51,20 @@ pub(crate) enum Subcommand {
 
 /// The commands, in the order of the help.
 const COMMANDS: [Subcommand; 14] = [
-    Subcommand::Port,
-    Subcommand::Line,
-    Subcommand::Compile,
+    Subcommand::Plan,
     Subcommand::Load,
     Subcommand::Latency,
-    Subcommand::Run,
-    Subcommand::Report,
-    Subcommand::Deliveries,
-    Subcommand::Check,
-    Subcommand::Summary,
-    Subcommand::Hops,
-    Subcommand::Offers,
-    Subcommand::Plan,
+    Subcommand::Compile,
     Subcommand::Diff,
+    Subcommand::Offers,
+    Subcommand::Check,
+    Subcommand::Run,
+    Subcommand::Summary,
+    Subcommand::Report,
+    Subcommand::Hops,
+    Subcommand::Deliveries,
+    Subcommand::Port,
+    Subcommand::Line,
 ];
 
 impl Subcommand {

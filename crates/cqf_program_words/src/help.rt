@@ -1,32 +1,34 @@
 //! The help of each command about its input, its output and its work.
 
 /// The help of `port` about standard input.
-pub(crate) const PORT_INPUT: &str = r"Standard input has two parts with a line of %% between them:
+pub(crate) const PORT_INPUT: &str = r"The input is two files:
+  cqf port --until 1000000 list.txt arrivals.csv
+Without files, standard input has both with a line of %% between them:
   a gate list    80 120000
   arrivals       at,class,octets,frame
-                 10,6,64,1
-Two files can be given instead:
-  cqf port --until 1000000 list.txt arrivals.csv";
+                 10,6,64,1";
 
 /// The help of `line` about standard input.
-pub(crate) const LINE_INPUT: &str = r"Standard input, or a file, has one part:
+pub(crate) const LINE_INPUT: &str = r"A file, or standard input, has one part:
   offers         at,bridge,stream,octets
                  0,a,x,1000
   cqf line --cycles 2 offers.csv";
 
-/// The help of a command that reads only a domain and its streams about standard input, followed by more help.
+/// The help of a command that reads only a domain and its streams about its input: with one more example of a call, and followed by more
+/// help.
 macro_rules! network_input {
-    ($command:literal, $more:literal) => {
+    ($command:literal, $example:literal, $more:literal) => {
         concat!(
-            r#"Standard input is a plan in two parts with a line of %% between them:
-  a domain       links = [{ from = "a", to = "s", rate = 1000, delay = 500 }]
-  its streams    streams = [{ name = "x", octets = 1500, path = ["a", "s"] }]
-One file with both can be given instead, or 2 to 16 files named *.toml:
-  cqf "#,
+            "The input is a plan: one file, or 2 to 16 files named *.toml, or - for standard\ninput:\n  cqf ",
             $command,
             " plan.toml\n  cqf ",
             $command,
             " domain.toml streams.toml",
+            $example,
+            r#"
+Without files, standard input has it in two parts with a line of %% between:
+  a domain       links = [{ from = "a", to = "s", rate = 1000, delay = 500 }]
+  its streams    streams = [{ name = "x", octets = 1500, path = ["a", "s"] }]"#,
             $more
         )
     };
@@ -35,8 +37,8 @@ One file with both can be given instead, or 2 to 16 files named *.toml:
 /// The help of `compile` about standard input and its output.
 pub(crate) const COMPILE_INPUT: &str = network_input!(
     "compile",
+    "\n  cqf compile --format tc plan.toml",
     r"
-  cqf compile --format tc plan.toml
 
 With --format tc the output is a shell script that sets the same gates in Linux
 with its command tc. Run it as root on each bridge, with the bridge's name as
@@ -58,6 +60,7 @@ Remove there the gates that an earlier script has set."
 /// The help of `load` about standard input and its output.
 pub(crate) const LOAD_INPUT: &str = network_input!(
     "load",
+    "",
     r"
 
 The output has a line for each link: its rate in Mb/s, its budget, how much of
@@ -77,8 +80,8 @@ first."
 /// The help of `latency` about standard input and its output.
 pub(crate) const LATENCY_INPUT: &str = network_input!(
     "latency",
+    "\n  cqf latency --strict plan.toml",
     r#"
-  cqf latency --strict plan.toml
 A stream may have a deadline, in ns:
   { name = "x", octets = 1500, path = ["a", "s"], deadline = 500000 }
 
@@ -98,7 +101,12 @@ first line with the verdict late or may-be-late then goes to standard error."#
 
 /// The help of `run` about standard input and its work.
 pub(crate) const RUN_INPUT: &str =
-    r#"Standard input has four or five parts with lines of %% between them:
+    r#"The input is files: a plan, and after it in this order calls, offers and
+background frames, if any:
+  cqf run --cycles 5 plan.toml calls.txt offers.csv background.csv
+calls.txt may have empty lines, and comments: lines that begin with #. A line @N
+comes before the calls of cycle N.
+Without files, standard input has four or five parts with lines of %% between:
   a domain       links = [{ from = "a", to = "s", rate = 1000, delay = 500 }]
   its streams    streams = [{ name = "x", octets = 1500, path = ["a", "s"] }]
   a script       0 admit x
@@ -108,10 +116,6 @@ pub(crate) const RUN_INPUT: &str =
                  0,a,x,64
   background     at,from,to,class,octets
                  120000,a,s,0,1522
-Files can be given instead, with the domain and its streams in one:
-  cqf run --cycles 5 plan.toml calls.txt offers.csv background.csv
-calls.txt may have empty lines, and comments: lines that begin with #. A line @N
-comes before the calls of cycle N.
 
 The output is the history of the calls, a line of %%, and the book, which has
 every transmission and drop. A run keeps its input and the outcome of each offer
@@ -126,7 +130,7 @@ the history."#;
 
 /// The help of `report` about standard input and its work.
 pub(crate) const REPORT_INPUT: &str =
-    r"Standard input has the four or five parts of cqf run, or files are given:
+    r"The input is files, as for cqf run, or their parts on standard input:
   cqf report --cycles 5 plan.toml calls.txt offers.csv
 
 The output has a line for each link: the frames that it carries, their octets,
@@ -134,7 +138,7 @@ and the most octets that start in one cycle. Background frames don't count.";
 
 /// The help of `deliveries` about standard input and its output.
 pub(crate) const DELIVERIES_INPUT: &str =
-    r"Standard input has the four or five parts of cqf run, or files are given:
+    r"The input is files, as for cqf run, or their parts on standard input:
   cqf deliveries --cycles 5 plan.toml calls.txt offers.csv
 
 The output has a line for each offered frame and each listener of its stream:
@@ -149,7 +153,7 @@ have no line.";
 
 /// The help of `check` about standard input and its statuses.
 pub(crate) const CHECK_INPUT: &str =
-    r"Standard input has the four or five parts of cqf run, or files are given:
+    r"The input is files, as for cqf run, or their parts on standard input:
   cqf check --cycles 5 plan.toml calls.txt offers.csv
 
 The status is 0 if
@@ -178,12 +182,13 @@ frame takes that a reservation covers.";
 
 /// The help of `offers` about standard input and its output.
 pub(crate) const OFFERS_INPUT: &str =
-    r#"Standard input is a plan in two parts with a line of %% between them:
+    r#"The input is a plan: one file, or 2 to 16 files named *.toml, or - for standard
+input:
+  cqf offers --cycles 5 plan.toml
+Without files, standard input has it in two parts with a line of %% between:
   a domain       links = [{ from = "a", to = "s", rate = 1000, delay = 500 }]
   its streams    streams = [{ name = "x", octets = 64, path = ["a", "s"],
                    interval = 125000, size = 64 }]
-One file with both can be given instead, or 2 to 16 files named *.toml:
-  cqf offers --cycles 5 plan.toml
 
 The output is offers for the command run, within N cycles. Each stream with
 traffic offers its frames together, once in each interval, the first time at its
@@ -194,7 +199,7 @@ interval. The same seed gives the same offers."#;
 
 /// The help of `summary` about standard input and its output.
 pub(crate) const SUMMARY_INPUT: &str =
-    r"Standard input has the four or five parts of cqf run, or files are given:
+    r"The input is files, as for cqf run, or their parts on standard input:
   cqf summary --cycles 5 plan.toml calls.txt offers.csv
 
 The output has a line for each stream and each of its listeners, with
@@ -211,7 +216,7 @@ Background frames and offers of later cycles don't count.";
 
 /// The help of `hops` about standard input and its output.
 pub(crate) const HOPS_INPUT: &str =
-    r"Standard input has the four or five parts of cqf run, or files are given:
+    r"The input is files, as for cqf run, or their parts on standard input:
   cqf hops --cycles 5 --stream x plan.toml calls.txt offers.csv
 
 The output is the book of the run by frame. It has a line for each start of a
@@ -225,14 +230,15 @@ have no line.";
 
 /// The help of `plan` about standard input and its output.
 pub(crate) const PLAN_INPUT: &str =
-    r#"Standard input is a network file in two parts with a line of %% between them:
+    r#"The input is a network: one file, or 2 to 16 files named *.toml, or - for
+standard input:
+  cqf plan network.toml
+Without files, standard input has it in two parts with a line of %% between:
   a domain       cycle = [250000, 125000]
                  links = [{ from = "a", to = "s", rate = 1000, delay = 500 },
                    { from = "t", to = "a", rate = 100, delay = 500 }]
   its streams    streams = [{ name = "x", from = "t", to = ["s"],
                    interval = 125000, size = 256, deadline = 500000 }]
-One file with both can be given instead, or 2 to 16 files named *.toml:
-  cqf plan network.toml
 
 A network file may leave open what a plan decides. cycle may be an array of
 cycle times to try, in order of preference. --cycle N gives one instead, and
@@ -264,10 +270,9 @@ theirs. With --verbose notes on the plan go to standard error even if it isn't a
 terminal."#;
 
 /// The help of `diff` about standard input and its output.
-pub(crate) const DIFF_INPUT: &str =
-    r"Standard input has two plans, an old and a new one, with a line of %% between
-them. Two files can be given instead:
+pub(crate) const DIFF_INPUT: &str = r"The input is two files, an old and a new plan:
   cqf diff old.toml new.toml
+Without files, standard input has both with a line of %% between them.
 
 The output is what differs, by name: the domain, its links and its streams; then
 the latencies of streams and the loads of links that differ. The status is 1 if

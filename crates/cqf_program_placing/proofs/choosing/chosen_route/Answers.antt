@@ -18,8 +18,8 @@ returns-then-is_roomy-clause-ok c =
     let rows = held_in d c.args.admission.now.entries (seals c.args.admission.now.entries) in
     let stations = c.args.stations.now in
     let is = c.in-Ok.ensures.ok in
-    takes_chosen d rows c.args.every c.args.cost c.args.bridge stations c.in-Ok.route is
-    (roomy_by d rows (Chosen c.args.every) c.args.cost (Between c.args.bridge stations) c.in-Ok.route true is (sym c.if-is_roomy.true ∙ c.is_roomy.ensures))
+    takes_chosen d rows c.args.every c.args.cost c.args.bridge stations c.args.shut.now c.in-Ok.route is
+    (roomy_by d rows (Chosen c.args.every) c.args.cost (Between c.args.bridge stations c.args.shut.now) c.in-Ok.route true is (sym c.if-is_roomy.true ∙ c.is_roomy.ensures))
 
 -- or else in the first phase in which it does
 pub returns-in_ok-first-in-Ok-clause-ok : goal.returns-in_ok-first-in-Ok-clause-ok
@@ -28,14 +28,14 @@ returns-in_ok-first-in-Ok-clause-ok c =
     let rows = held_in d c.args.admission.now.entries (seals c.args.admission.now.entries) in
     let stations = c.args.stations.now in
     let is = c.in-Ok.ensures.ok in
-    let none = roomy_by d rows (Chosen c.args.every) c.args.cost (Between c.args.bridge stations) c.in-Ok.route false is
+    let none = roomy_by d rows (Chosen c.args.every) c.args.cost (Between c.args.bridge stations c.args.shut.now) c.in-Ok.route false is
     (sym c.if-is_roomy.false ∙ c.is_roomy.ensures) in
-    subst (λ (route : Route). IsTakenRoute d rows (Chosen c.args.every) c.args.cost (Between c.args.bridge stations) route) (sym c.unwrap_or.ensures)
-    (takes_either d rows c.args.every c.args.cost c.args.bridge stations c.in_ok-first-in-Ok.first c.in-Ok.route is none c.in_ok-first-in-Ok.ensures)
+    subst (λ (route : Route). IsTakenRoute d rows (Chosen c.args.every) c.args.cost (Between c.args.bridge stations c.args.shut.now) route) (sym c.unwrap_or.ensures)
+    (takes_either d rows c.args.every c.args.cost c.args.bridge stations c.args.shut.now c.in_ok-first-in-Ok.first c.in-Ok.route is none c.in_ok-first-in-Ok.ensures)
 
 -- there are no paths by the emptiest phases
 pub returns-in-Err-clause-err : goal.returns-in-Err-clause-err
 returns-in-Err-clause-err c =
     let d = c.args.domain.now in
     let rows = held_in d c.args.admission.now.entries (seals c.args.admission.now.entries) in
-    fails_chosen d rows c.args.every c.args.cost c.args.bridge c.args.stations.now c.in-Err.unrouted c.in-Err.ensures.err
+    fails_chosen d rows c.args.every c.args.cost c.args.bridge c.args.stations.now c.args.shut.now c.in-Err.unrouted c.in-Err.ensures.err

@@ -11,5 +11,5 @@ roomy_route-requires-clause-good c = is_good_pace c.args.every c.loop-phase.phas
 pub loop-phase-preserved : goal.loop-phase-preserved
 loop-phase-preserved c =
     let rows = held_in c.args.domain.now c.args.admission.now.entries (seals c.args.admission.now.entries) in
-    no_route c.args.domain.now rows c.args.every c.args.cost (Between c.args.bridge c.args.stations.now) c.loop-phase.phase c.in_ok-found.found
+    no_route c.args.domain.now rows c.args.every c.args.cost (Between c.args.bridge c.args.stations.now c.args.shut.now) c.loop-phase.phase c.in_ok-found.found
     c.in_default.not-Some c.in_ok-found.ensures c.loop-phase.invariant

@@ -9,4 +9,4 @@ use Rattle.cqf_program_placing.proofs.choosing.first_route.Given as goal
 abbrev pub invariant-loop-phase : goal.invariant-loop-phase
 invariant-loop-phase l =
     let rows = held_in l.domain l.admission.entries (seals l.admission.entries) in
-    (other : ℕ) → other < l.phase → FindsRoom l.domain rows (Given l.every other) l.cost (Between l.bridge l.stations) false
+    (other : ℕ) → other < l.phase → FindsRoom l.domain rows (Given l.every other) l.cost (Between l.bridge l.stations l.shut) false

@@ -9,4 +9,4 @@ branches_between-requires-clause-left c =
     let d = c.args.domain.now in
     let rows = held_in d c.args.admission.now.entries (seals c.args.admission.now.entries) in
     let are = c.in_ok-left.ensures in
-    ap length (c.as_slice.ensures.value ∙ are.left_is) ∙ length-singles (left_where d rows c.pace_by.result are.hops) (length d.links)
+    ap length (c.as_slice.ensures.value ∙ are.left_is) ∙ length-singles (left_where d rows c.args.shut.now c.pace_by.result are.hops) (length d.links)

@@ -19,8 +19,8 @@ returns-in_ok-paths-in-Ok-clause-ok c =
     (c.in_ok-paths-in-Ok.ensures ∙ ap (map (λ (path : ArrayVec ℕ). names_along d c.args.bridge path.items)) c.as_slice.ensures.value)
 
 -- the first station to which no path has room
-pub full_to-full-requires-clause-reached : goal.full_to-full-requires-clause-reached
-full_to-full-requires-clause-reached c =
+pub full_to-requires-clause-reached : goal.full_to-requires-clause-reached
+full_to-requires-clause-reached c =
     let links = c.args.room.links.now in
     let room = has_room c.args.room.left.now c.args.room.cost in
     let stations = c.args.stations.now in
@@ -28,8 +28,8 @@ full_to-full-requires-clause-reached c =
     let without = subst (IsPathsFault links room (Bridge c.args.bridge) stations) c.in-NoWay.is c.in-Err.ensures.fault in
     c.requires.reached index (get_or stations index 0) (stands_there links room (Bridge c.args.bridge) stations index without)
 
-pub full_to-full-requires-clause-none : goal.full_to-full-requires-clause-none
-full_to-full-requires-clause-none c =
+pub full_to-requires-clause-none : goal.full_to-requires-clause-none
+full_to-requires-clause-none c =
     let links = c.args.room.links.now in
     let room = has_room c.args.room.left.now c.args.room.cost in
     let stations = c.args.stations.now in
@@ -45,5 +45,5 @@ returns-in-NoWay-clause-err c =
     let stations = c.args.stations.now in
     let index = c.in-NoWay.index in
     let without = subst (IsPathsFault links room (Bridge c.args.bridge) stations) c.in-NoWay.is c.in-Err.ensures.fault in
-    first_full c.args.domain.now links c.args.room.left.now c.args.room.cost c.args.bridge stations index (get_or stations index 0) c.full_to-full.result
-    c.requires.links without (stands_there links room (Bridge c.args.bridge) stations index without) c.full_to-full.ensures
+    first_full c.args.domain.now links c.args.shut.now c.args.room.left.now c.args.room.cost c.args.bridge stations index (get_or stations index 0) c.full_to.result
+    c.requires.links without (stands_there links room (Bridge c.args.bridge) stations index without) c.full_to.ensures

@@ -9,7 +9,7 @@ use Rattle.cqf_program_plans.specs.Latency.Text.{latencies_of}
 use Rattle.cqf_program_placing.specs.Placing.{Placed, outcome_value}
 use Rattle.cqf_program_placing.specs.Settled.{settled_value}
 use Rattle.cqf_program_planning.specs.declared.trying.Tried.{Tried}
-use Rattle.cqf_program_planning.specs.Judging.{candidate_by, deadlines_placed, first_unplaced, shares_of, those_placed}
+use Rattle.cqf_program_planning.specs.Judging.{candidate_by, deadlines_placed, first_misplaced, shares_of, those_placed}
 use Rattle.cqf_program_planning.specs.Searching.{AreHeldRows, AreRowsOf}
 use Rattle.cqf_program_planning.proofs.Searches.{good_again, late_again, refused_again}
 use Rattle.cqf_program_planning.proofs.searching.tried_with.Goals as goal
@@ -60,7 +60,7 @@ returns-then-is_some c =
     late_again those d asked c.state_follows_history.ensures.counted c.in-Some.rows.items known.held (map outcome_value c.in_ok-outcomes.outcomes.items)
     c.in_ok-candidate.candidate c.in_ok-outcomes.ensures
     (c.in_ok-candidate.ensures ∙ (λ i. candidate_by d.cycle_time (length (those_placed those (map outcome_value (outcomes i)))) (shares_of d (rows i))
-    (latencies_of d (rows i) (deadlines_placed those (map outcome_value (outcomes i)))) (first_unplaced those (map outcome_value (outcomes i)))))
+    (latencies_of d (rows i) (deadlines_placed those (map outcome_value (outcomes i)))) (first_misplaced those (map outcome_value (outcomes i)))))
     (sym c.is_some.ensures ∙ c.if-is_some.true)
 
 -- or none may be
@@ -77,6 +77,6 @@ returns c =
     good_again those d asked c.state_follows_history.ensures.counted c.in-Some.rows.items known.held (map outcome_value c.in_ok-outcomes.outcomes.items)
     c.in_ok-candidate.candidate c.in_ok-outcomes.ensures
     (c.in_ok-candidate.ensures ∙ (λ i. candidate_by d.cycle_time (length (those_placed those (map outcome_value (outcomes i)))) (shares_of d (rows i))
-    (latencies_of d (rows i) (deadlines_placed those (map outcome_value (outcomes i)))) (first_unplaced those (map outcome_value (outcomes i)))))
+    (latencies_of d (rows i) (deadlines_placed those (map outcome_value (outcomes i)))) (first_misplaced those (map outcome_value (outcomes i)))))
     tried (sym c.is_some.ensures ∙ c.if-is_some.false)
     refl refl refl

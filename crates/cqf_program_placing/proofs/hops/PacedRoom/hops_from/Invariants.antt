@@ -8,4 +8,4 @@ abbrev pub invariant-loop-before : goal.invariant-loop-before
 invariant-loop-before l =
     let d = l.self.domain.now in
     let rows = held_in d l.self.admission.now.entries (seals l.self.admission.now.entries) in
-    AreHopsSoFar d.links (has_room_after d rows l.self.pace l.self.cost) l.bridge l.before l.hops
+    AreHopsSoFar d.links (has_room_after d rows l.self.shut.now l.self.pace l.self.cost) l.bridge l.before l.hops

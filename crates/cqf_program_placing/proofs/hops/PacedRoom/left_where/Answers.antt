@@ -10,12 +10,12 @@ returns-in-Some c =
     let d = c.args.self.domain.now in
     let rows = held_in d c.args.self.admission.now.entries (seals c.args.self.admission.now.entries) in
     c.left_after.ensures
-    ∙ ap (λ (o : Option ℕ). option_map_or (λ k. left_after d rows c.args.self.pace k c.args.link) o 0)
+    ∙ ap (λ (o : Option ℕ). option_map_or (λ k. left_after d rows c.args.self.shut.now c.args.self.pace k c.args.link) o 0)
     (c.in-Some.ensures ∙ ap (hop_of c.args.hops.now) (sym (bridge_of_link d c.args.link c.link-it.result c.link-it.ensures)))
 
 pub returns-in-None : goal.returns-in-None
 returns-in-None c =
     let d = c.args.self.domain.now in
     let rows = held_in d c.args.self.admission.now.entries (seals c.args.self.admission.now.entries) in
-    ap (λ (o : Option ℕ). option_map_or (λ k. left_after d rows c.args.self.pace k c.args.link) o 0)
+    ap (λ (o : Option ℕ). option_map_or (λ k. left_after d rows c.args.self.shut.now c.args.self.pace k c.args.link) o 0)
     (c.in-None.ensures ∙ ap (hop_of c.args.hops.now) (sym (bridge_of_link d c.args.link c.link-it.result c.link-it.ensures)))

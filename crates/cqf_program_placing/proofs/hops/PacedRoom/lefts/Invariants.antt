@@ -9,4 +9,4 @@ abbrev pub invariant-loop-link : goal.invariant-loop-link
 invariant-loop-link l =
     let d = l.self.domain.now in
     let rows = held_in d l.self.admission.now.entries (seals l.self.admission.now.entries) in
-    l.left.items ≡ each_below (λ k. left_where d rows l.self.pace l.hops k ∷ []) l.link
+    l.left.items ≡ each_below (λ k. left_where d rows l.self.shut.now l.self.pace l.hops k ∷ []) l.link

@@ -7,4 +7,4 @@ abbrev pub invariant-loop-link : goal.invariant-loop-link
 invariant-loop-link l =
     let d = l.self.domain.now in
     let rows = held_in d l.self.admission.now.entries (seals l.self.admission.now.entries) in
-    AreReachedBy d.links (has_room_after d rows l.self.pace l.self.cost) l.before l.link l.fn.hops l.hops
+    AreReachedBy d.links (has_room_after d rows l.self.shut.now l.self.pace l.self.cost) l.before l.link l.fn.hops l.hops
