@@ -1,17 +1,22 @@
 //! The files that the words name.
 
 ghost use Rattle.std.specs.Prelude.{◌≤◌, ◌<◌, ◌^◌, IfOk, OnOk, length};
+ghost use Rattle.cqf_program_engine.specs.Given.{MayRun};
+ghost use Rattle.cqf_program_engine.specs.Run.{IsWithin};
 
 use crate::terminal::hint;
 use cqf_model::Limits;
 use cqf_output::{CheckedSink, DONE, FAULT, REFUSED, Sink, Stop, write_out, written_text};
-use cqf_program_engine::{Heard, Texts, engine, most_bytes, write};
+use cqf_program_engine::{Texts, engine_of_input, engine_of_run, most_bytes, write};
 use cqf_program_explanations::{NamedFile, explanation, notes, plan_notes, standard_explanation};
-use cqf_program_files::{Front, cycles_of, front_of, renumbered};
-use cqf_program_offers::made_input;
+use cqf_program_files::{Front, cycles_of, front_of};
+use cqf_program_offers::made_run;
+use cqf_program_runs::PlannedGiven;
+use cqf_program_scenario::Input;
 use cqf_program_words::{
     Job, Operands, STANDARD, check_files, limits_of, read_words, stop_of_file,
 };
+use cqf_topology::Document;
 use std::alloc::{AllocError, Global};
 use std::fs::File;
 use std::io;
@@ -22,6 +27,15 @@ use std::thread::Threads;
 
 /// Room for each line that the engine prints about a fault, allocated before it runs.
 const ROOM: usize = 65_536;
+
+/// What is made from the files: an input, and whether its third part is a file of calls.
+#[derive(Drop)]
+struct Prepared<'t> {
+    input: Vec<u8>,
+    has_calls: bool,
+    /// The network's file, parsed, if it is one.
+    known: Option<Document<'t>>,
+}
 
 /// The input of a run with files: its words, the job that they mean, the limits within which plans are read, and the files' texts.
 #[derive(Clone, Copy)]
@@ -116,17 +130,19 @@ pub(crate) fn end(rt: &HostRuntime, stop: &Stop) -> ExitCode {
     ExitCode::from(write(stop, &mut output, &mut faults))
 }
 
-/// Returns the files that the words name, with their texts.
+/// Returns the files that the words name, with their texts; the first of them are parsed.
 fn sources_of<'t>(
     alloc: Global,
     names: &[&'t str],
     texts: &[&'t [u8]],
+    documents: &'t [Document<'t>],
 ) -> Result<Vec<NamedFile<'t>>, AllocError> {
     let mut sources = Vec::new(alloc);
     for index in 0..names.len().min(texts.len()) {
         sources.push(NamedFile {
             name: names[index],
             text: texts[index],
+            document: documents.get(index),
         })?;
     }
     Ok(sources)
@@ -148,7 +164,7 @@ fn explain(rt: &HostRuntime, given: &FilesInput<'_>, line: &[u8]) {
     let Some(command) = given.operands.words().first() else {
         return;
     };
-    let Ok(sources) = sources_of(given.alloc, given.operands.files(), given.texts) else {
+    let Ok(sources) = sources_of(given.alloc, given.operands.files(), given.texts, &[]) else {
         return;
     };
     let Some(cycle_times) = cycle_times_of(given.alloc, given.job) else {
@@ -188,9 +204,10 @@ pub(crate) fn explain_parts<F: Sink>(
 
 /// Returns the notes on a plan, which are written unless the run refuses it; none if an allocation fails. They are made before the run, which
 /// allocates no memory once its output has begun.
-fn notes_of(given: &FilesInput<'_>) -> Option<Vec<u8>> {
+fn notes_of(given: &FilesInput<'_>, documents: &[Document<'_>]) -> Option<Vec<u8>> {
     let command = given.operands.words().first()?;
-    let Ok(sources) = sources_of(given.alloc, given.operands.files(), given.texts) else {
+    let names = given.operands.files();
+    let Ok(sources) = sources_of(given.alloc, names, given.texts, documents) else {
         return None;
     };
     match notes(given.alloc, command, given.limits, sources.as_slice(), b"") {
@@ -234,20 +251,44 @@ struct Ended {
 fn run(
     rt: &HostRuntime,
     threads: &(impl Threads + Wait + Sync),
-    alloc: Global,
-    words: &[&str],
-    input: &[u8],
-) -> Result<Ended, AllocError> {
+    given: &FilesInput<'_>,
+    input: Input<'_>,
+) -> Result<Ended, AllocError>
+    requires { IsWithin given.now.job.now }
+{
+    let (alloc, limits) = (given.alloc, given.limits);
     let mut reported = CheckedSink::new(Vec::with_capacity(alloc, ROOM)?);
-    let (mut heard, mut output) = (Heard::new(alloc, input), CheckedSink::new(rt.stdout()));
-    let status = engine(
+    let mut output = CheckedSink::new(rt.stdout());
+    let status = engine_of_input(
         threads,
         alloc,
-        words,
-        &mut heard,
+        limits,
+        given.job,
+        input,
         &mut output,
         &mut reported,
     );
+    Ok(Ended {
+        status,
+        reported,
+        plan_notes: None,
+    })
+}
+
+/// Runs the engine on a run that was made from the files. Returns an error if an allocation fails before the run has begun.
+fn run_made(
+    rt: &HostRuntime,
+    threads: &(impl Threads + Wait + Sync),
+    given: &FilesInput<'_>,
+    made: PlannedGiven,
+) -> Result<Ended, AllocError>
+    requires within { IsWithin given.now.job.now }
+    requires may { MayRun given.now.job.now made }
+{
+    let alloc = given.alloc;
+    let mut reported = CheckedSink::new(Vec::with_capacity(alloc, ROOM)?);
+    let mut output = CheckedSink::new(rt.stdout());
+    let status = engine_of_run(threads, alloc, given.job, made, &mut output, &mut reported);
     Ok(Ended {
         status,
         reported,
@@ -265,7 +306,7 @@ fn wants_plan_notes<F: IsTerminal>(job: &Job, faults: &F) -> bool {
 
 /// Returns the notes on a plan that was made; none if an allocation fails.
 fn plan_notes_of(given: &FilesInput<'_>, plan: &[u8]) -> Option<Vec<u8>> {
-    let Ok(sources) = sources_of(given.alloc, given.operands.files(), given.texts) else {
+    let Ok(sources) = sources_of(given.alloc, given.operands.files(), given.texts, &[]) else {
         return None;
     };
     plan_notes(given.alloc, given.limits, sources.as_slice(), plan).ok()
@@ -277,12 +318,22 @@ fn run_plan(
     rt: &HostRuntime,
     threads: &(impl Threads + Wait + Sync),
     given: &FilesInput<'_>,
-    input: &[u8],
-) -> Result<Ended, AllocError> {
-    let (alloc, words) = (given.alloc, given.operands.words());
+    input: Input<'_>,
+) -> Result<Ended, AllocError>
+    requires { IsWithin given.now.job.now }
+{
+    let (alloc, limits) = (given.alloc, given.limits);
     let mut reported = CheckedSink::new(Vec::with_capacity(alloc, ROOM)?);
-    let (mut heard, mut plan) = (Heard::new(alloc, input), CheckedSink::new(Vec::new(alloc)));
-    let status = engine(threads, alloc, words, &mut heard, &mut plan, &mut reported);
+    let mut plan = CheckedSink::new(Vec::new(alloc));
+    let status = engine_of_input(
+        threads,
+        alloc,
+        limits,
+        given.job,
+        input,
+        &mut plan,
+        &mut reported,
+    );
     let text = written_text(plan)?;
     if status != DONE {
         return Ok(Ended {
@@ -301,63 +352,63 @@ fn run_plan(
     })
 }
 
-/// Returns the line about a run that ended with this status. In a refusal, after which no output was written, a line's number in the script
-/// is replaced by that in the file of calls. Returns an error if an allocation fails.
-fn line_written(
-    alloc: Global,
-    front: &Front,
-    status: u8,
-    reported: Vec<u8>,
-) -> Result<Vec<u8>, AllocError> {
-    match &front.numbers {
-        Some(numbers) if status == REFUSED => {
-            renumbered(alloc, numbers.as_slice(), reported.as_slice())
-        }
-        _ => Ok(reported),
-    }
-}
-
-/// Runs the input that is made from the files, and explains a refusal.
+/// Runs the engine on the input that is made from the files; if the input lacks parts or has a file of calls, on the run that is made of it.
+/// Returns `Err` if no run is made of it; a run that has begun writes its own end.
 fn run_front(
     rt: &HostRuntime,
     threads: &(impl Threads + Wait + Sync),
     given: &FilesInput<'_>,
-    front: &Front,
-) -> ExitCode {
-    let (alloc, input) = (given.alloc, front.input.as_slice());
-    let notes = notes_of(given);
-    let ended = if wants_plan_notes(given.job, &rt.stderr()) {
-        run_plan(rt, threads, given, input)
+    prepared: Prepared<'_>,
+) -> Result<Ended, Stop>
+    requires { IsWithin given.now.job.now }
+{
+    let alloc = given.alloc;
+    let Prepared {
+        input,
+        has_calls,
+        known,
+    } = prepared;
+    let mut known = known;
+    let bytes = input.as_slice();
+    let made = made_run(alloc, given.limits, given.job, &mut known, bytes, has_calls)?;
+    let ended = if let Some(made) = made {
+        run_made(rt, threads, given, made)
+    } else if wants_plan_notes(given.job, &rt.stderr()) {
+        run_plan(rt, threads, given, Input::with_known(bytes, known))
     } else {
-        run(rt, threads, alloc, given.operands.words(), input)
+        run(rt, threads, given, Input::with_known(bytes, known))
     };
-    let Ok(
-        Ended {
-            status,
-            reported,
-            plan_notes,
-        },
-    ) = ended
-    else {
-        return end(rt, &Stop::memory(alloc));
-    };
-    let line = line_written(alloc, front, status, reported.into_writer());
-    let Ok(line) = line else {
-        return end(rt, &Stop::memory(alloc));
-    };
+    match ended {
+        Ok(ended) => Ok(ended),
+        Err(_) => Err(Stop::memory(alloc)),
+    }
+}
+
+/// Prints the line of a run that has ended, and explains a refusal. The notes on the network are printed if the network was accepted.
+fn end_run(
+    rt: &HostRuntime,
+    given: &FilesInput<'_>,
+    notes: &Option<Vec<u8>>,
+    ended: Ended,
+) -> ExitCode {
+    let Ended {
+        status,
+        reported,
+        plan_notes,
+    } = ended;
+    let line = reported.into_writer();
     write_out(&mut CheckedSink::new(rt.stderr()), line.as_slice());
     if status == REFUSED && !line.is_empty() {
         explain(rt, given, line.as_slice());
     }
     if has_accepted(status, line.as_slice()) {
-        write_notes(rt, &notes);
+        write_notes(rt, notes);
         write_notes(rt, &plan_notes);
     }
     ExitCode::from(status)
 }
 
-/// Runs words that name files. Its line of a refusal is the engine's, except that a line of a file of calls has the file's number; the
-/// explanation follows it.
+/// Runs words that name files. The explanation follows the line of a refusal.
 pub(crate) fn run_files(
     rt: &HostRuntime,
     threads: &(impl Threads + Wait + Sync),
@@ -398,14 +449,52 @@ fn run_texts(
     rt: &HostRuntime,
     threads: &(impl Threads + Wait + Sync),
     given: &FilesInput<'_>,
-) -> ExitCode {
+) -> ExitCode
+    requires { IsWithin given.now.job.now }
+{
     let names = given.operands.files();
     if names.len() != given.texts.len() {
         return end(rt, &Stop::memory(given.alloc));
     }
     match front_of(given.alloc, given.job, names, given.texts) {
-        Ok(front) => run_made(rt, threads, given, front),
+        Ok(front) => run_of_front(rt, threads, given, front),
         Err(stop) => refuse(rt, given, &stop),
+    }
+}
+
+/// Runs what is made from the files.
+fn run_of_front(
+    rt: &HostRuntime,
+    threads: &(impl Threads + Wait + Sync),
+    given: &FilesInput<'_>,
+    front: Front<'_>,
+) -> ExitCode
+    requires { IsWithin given.now.job.now }
+{
+    let Front {
+        input,
+        has_calls,
+        documents,
+    } = front;
+    let notes = notes_of(given, documents.as_slice());
+    let prepared = Prepared {
+        input,
+        has_calls,
+        known: only_of(documents),
+    };
+    match run_front(rt, threads, given, prepared) {
+        Ok(ended) => end_run(rt, given, &notes, ended),
+        Err(stop) => refuse(rt, given, &stop),
+    }
+}
+
+/// Returns the only document; none if there are several, which are another text together.
+fn only_of(documents: Vec<Document<'_>>) -> Option<Document<'_>> {
+    let mut documents = documents;
+    if documents.len() == 1 {
+        documents.pop()
+    } else {
+        None
     }
 }
 
@@ -416,31 +505,4 @@ fn refuse(rt: &HostRuntime, given: &FilesInput<'_>, stop: &Stop) -> ExitCode {
         explain(rt, given, stop.text.as_slice());
     }
     ended
-}
-
-/// Prints the end and explains a refusal, as [`refuse`] does. If its line is about a line of the script that is made from a file of calls, it
-/// gets the file's line number.
-fn refuse_made(rt: &HostRuntime, given: &FilesInput<'_>, front: &Front, stop: Stop) -> ExitCode {
-    let Stop { status, text } = stop;
-    match line_written(given.alloc, front, status, text) {
-        Ok(text) => refuse(rt, given, &Stop { status, text }),
-        Err(_) => end(rt, &Stop::memory(given.alloc)),
-    }
-}
-
-/// Runs the input that is made from the files, with calls and offers made if they aren't given.
-fn run_made(
-    rt: &HostRuntime,
-    threads: &(impl Threads + Wait + Sync),
-    given: &FilesInput<'_>,
-    front: Front,
-) -> ExitCode {
-    match made_input(given.alloc, given.limits, given.job, front.input.as_slice()) {
-        Ok(None) => run_front(rt, threads, given, &front),
-        Ok(Some(input)) => {
-            let Front { numbers, .. } = front;
-            run_front(rt, threads, given, &Front { input, numbers })
-        }
-        Err(stop) => refuse_made(rt, given, &front, stop),
-    }
 }

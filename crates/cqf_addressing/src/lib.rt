@@ -5,7 +5,8 @@
 //!   of an interface of a bridge.
 //! - **Read.** [`read_stream_addresses`] returns a [`StreamAddress`] for each stream of a text, [`read_link_interfaces`] a
 //!   [`LinkInterfaces`] for each link, or an [`AddressingFault`], the first fault, with an [`AddressKey`]. [`interfaces_part`] and
-//!   [`addresses_part`] do so for the parts of a command's input, and end with the line of the fault.
+//!   [`addresses_part`] do so for the parts of a command's input, and end with the line of the fault. [`addresses_of_document`],
+//!   [`interfaces_of_document`], [`interfaces_in_part`] and [`addresses_in_part`] read texts that were parsed before.
 //! - **By number.** [`gate_index`] is the index of a stream's gate, [`mac_of_stream`] and [`vlan_of_stream`] are its frames' address and
 //!   VLAN. [`near_interface`] and [`far_interface`] are the interfaces at the two ends of a link.
 //! - **Written.** [`put_mac`] and [`put_interface`] write an address and a name as texts.
@@ -42,10 +43,13 @@ pub use faults::AddressingFault;
 pub use interfaces::{InterfaceName, put_interface};
 pub use keys::AddressKey;
 pub use laws::{gate_indexes_are_apart, macs_read_back};
-pub use links::{LinkInterfaces, far_interface, near_interface, read_link_interfaces};
+pub use links::{
+    LinkInterfaces, far_interface, interfaces_of_document, near_interface, read_link_interfaces,
+};
 pub use macs::{MacAddress, put_mac};
-pub use parts::{addresses_part, interfaces_part};
+pub use parts::{addresses_in_part, addresses_part, interfaces_in_part, interfaces_part};
 pub use streams::{
-    StreamAddress, gate_index, mac_of_stream, read_stream_addresses, vlan_of_stream,
+    StreamAddress, addresses_of_document, gate_index, mac_of_stream, read_stream_addresses,
+    vlan_of_stream,
 };
 pub use vlans::VlanId;

@@ -10,7 +10,7 @@ ghost use Rattle.cqf_addressing.specs.Links.{interfaces_of_text, is_duplex, is_n
 
 use crate::values::interface_at;
 use crate::{AddressKey, AddressingFault, InterfaceName};
-use cqf_topology::{Key, TomlFault, are_all_tables, array_at, read_document, value_at};
+use cqf_topology::{Document, Key, TomlFault, are_all_tables, array_at, value_at, whole_table};
 use std::alloc::Global;
 use toml::{Table, Value};
 
@@ -209,8 +209,19 @@ pub fn read_link_interfaces(
 ) -> Result<Vec<LinkInterfaces>, AddressingFault>
     ensures { Gives (AddressingFault.Text TomlFault.Memory) (λ list. list.items) result (interfaces_of_text text.now) }
 {
-    let table = read_document(alloc, text, &[Key::Links], Key::Links, &[])?;
-    interfaces_of_table(alloc, &table)
+    let document = Document::read(alloc, text)?;
+    interfaces_of_document(alloc, &document)
+}
+
+/// Returns the interfaces of the links of a document's text. Errors are those of [`read_link_interfaces`].
+pub fn interfaces_of_document(
+    alloc: Global,
+    document: &Document<'_>,
+) -> Result<Vec<LinkInterfaces>, AddressingFault>
+    ensures { Gives (AddressingFault.Text TomlFault.Memory) (λ list. list.items) result (interfaces_of_text document.now) }
+{
+    let table = whole_table(document, &[Key::Links], Key::Links, &[])?;
+    interfaces_of_table(alloc, table)
 }
 
 /// Returns the interface at the `from` end of a link, if the text names it.

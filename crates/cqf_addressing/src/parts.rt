@@ -7,11 +7,11 @@ ghost use Rattle.cqf_addressing.specs.Links.{interfaces_of_text};
 ghost use Rattle.cqf_addressing.specs.Streams.{addresses_of_text};
 
 use crate::{
-    AddressingFault, LinkInterfaces, StreamAddress, read_link_interfaces, read_stream_addresses,
+    AddressingFault, LinkInterfaces, StreamAddress, addresses_of_document, interfaces_of_document,
 };
 use cqf_model::Limits;
 use cqf_output::Stop;
-use cqf_topology::TomlFault;
+use cqf_topology::{Document, TomlFault};
 use std::alloc::Global;
 
 /// Returns the early end of a run whose part is refused for its keys of addressing.
@@ -33,7 +33,21 @@ pub fn interfaces_part(alloc: Global, text: &[u8]) -> Result<Vec<LinkInterfaces>
     ensures ok { IfOk result (λ links. interfaces_of_text text.now ≡ Ok links.items) }
     ensures err { IfErr result (IsRefused (or_line interfaces_line (interfaces_of_text text.now))) }
 {
-    match read_link_interfaces(alloc, text) {
+    match Document::read(alloc, text) {
+        Ok(document) => interfaces_in_part(alloc, &document),
+        Err(_) => Err(Stop::memory(alloc)),
+    }
+}
+
+/// Returns the interfaces of the links of a domain part that was parsed before. Errors are those of [`interfaces_part`].
+pub fn interfaces_in_part(
+    alloc: Global,
+    document: &Document<'_>,
+) -> Result<Vec<LinkInterfaces>, Stop>
+    ensures ok { IfOk result (λ links. interfaces_of_text document.now ≡ Ok links.items) }
+    ensures err { IfErr result (IsRefused (or_line interfaces_line (interfaces_of_text document.now))) }
+{
+    match interfaces_of_document(alloc, document) {
         Ok(links) => Ok(links),
         Err(fault) => Err(addressing_stop(alloc, "domain", fault)),
     }
@@ -51,7 +65,22 @@ pub fn addresses_part(
     ensures ok { IfOk result (λ addresses. addresses_of_text limits text.now ≡ Ok addresses.items) }
     ensures err { IfErr result (IsRefused (or_line stream_addresses_line (addresses_of_text limits text.now))) }
 {
-    match read_stream_addresses(alloc, limits, text) {
+    match Document::read(alloc, text) {
+        Ok(document) => addresses_in_part(alloc, limits, &document),
+        Err(_) => Err(Stop::memory(alloc)),
+    }
+}
+
+/// Returns the addresses of the streams of a streams part that was parsed before. Errors are those of [`addresses_part`].
+pub fn addresses_in_part(
+    alloc: Global,
+    limits: Limits,
+    document: &Document<'_>,
+) -> Result<Vec<StreamAddress>, Stop>
+    ensures ok { IfOk result (λ addresses. addresses_of_text limits document.now ≡ Ok addresses.items) }
+    ensures err { IfErr result (IsRefused (or_line stream_addresses_line (addresses_of_text limits document.now))) }
+{
+    match addresses_of_document(alloc, limits, document) {
         Ok(addresses) => Ok(addresses),
         Err(fault) => Err(addressing_stop(alloc, "streams", fault)),
     }

@@ -11,7 +11,7 @@ use crate::twice::first_gate_twice;
 use crate::values::{gate_at, mac_at, vlan_at};
 use crate::{AddressingFault, MacAddress, VlanId};
 use cqf_model::Limits;
-use cqf_topology::{Key, TomlFault, are_all_tables, array_at, read_document};
+use cqf_topology::{Document, Key, TomlFault, are_all_tables, array_at, whole_table};
 use std::alloc::Global;
 use toml::{Table, Value};
 
@@ -94,9 +94,22 @@ pub fn read_stream_addresses(
 ) -> Result<Vec<StreamAddress>, AddressingFault>
     ensures { Gives (AddressingFault.Text TomlFault.Memory) (λ list. list.items) result (addresses_of_text limits text.now) }
 {
-    let table = read_document(alloc, text, &[Key::Streams], Key::Streams, &[])?;
+    let document = Document::read(alloc, text)?;
+    addresses_of_document(alloc, limits, &document)
+}
+
+/// Returns the addresses of the streams of a document's text, one for each stream, in its order. Errors are those of
+/// [`read_stream_addresses`].
+pub fn addresses_of_document(
+    alloc: Global,
+    limits: Limits,
+    document: &Document<'_>,
+) -> Result<Vec<StreamAddress>, AddressingFault>
+    ensures { Gives (AddressingFault.Text TomlFault.Memory) (λ list. list.items) result (addresses_of_text limits document.now) }
+{
+    let table = whole_table(document, &[Key::Streams], Key::Streams, &[])?;
     let most = limits.streams_within() as u16;
-    let addresses = addresses_of_table(alloc, &table, most)?;
+    let addresses = addresses_of_table(alloc, table, most)?;
     match first_gate_twice(addresses.as_slice()) {
         Some((stream, gate)) => Err(AddressingFault::GateTwice(stream, gate)),
         None => Ok(addresses),

@@ -24,23 +24,21 @@ use std::alloc::Global;
 use std::sync::Arc;
 
 /// The position of a line: its number, from 1, and how many Seals and other calls are before it.
-#[derive(Clone, Copy)]
-struct ScriptPosition {
-    line: u64,
-    sealed: u64,
-    called: u64,
+#[derive(Clone, Copy, Debug)]
+pub struct ScriptPosition {
+    pub line: u64,
+    pub sealed: u64,
+    pub called: u64,
 }
 
 impl ScriptPosition {
-    /// Returns the position of the line after this one.
-    fn following(self, line: &[u8]) -> ScriptPosition
-        requires counted { self.sealed + self.called < self.line }
-        requires room { self.line + 1 < 2 ^ 64 }
-        ensures line { result.line ≡ self.line + 1 }
+    /// Returns the position of the next line, which has this number, after a line at this one.
+    pub fn next_at(self, number: u64, line: &[u8]) -> ScriptPosition
+        requires { self.sealed + self.called + 1 < 2 ^ 64 }
+        ensures line { result.line ≡ number }
         ensures sealed { result.sealed ≡ sealed_after self.sealed line.now }
         ensures called { result.called ≡ called_after self.called line.now }
     {
-        let number = self.line + 1;
         if is_seal_line(line) {
             ScriptPosition {
                 line: number,
@@ -55,10 +53,21 @@ impl ScriptPosition {
             }
         }
     }
+
+    /// Returns the position of the line after this one.
+    fn following(self, line: &[u8]) -> ScriptPosition
+        requires counted { self.sealed + self.called < self.line }
+        requires room { self.line + 1 < 2 ^ 64 }
+        ensures line { result.line ≡ self.line + 1 }
+        ensures sealed { result.sealed ≡ sealed_after self.sealed line.now }
+        ensures called { result.called ≡ called_after self.called line.now }
+    {
+        self.next_at(self.line + 1, line)
+    }
 }
 
 /// Returns one more than the number of the administrator whose order the line is, or 0 if it is nobody's order.
-fn seats_up_to(line: &[u8]) -> u16
+pub fn seats_up_to(line: &[u8]) -> u16
     ensures value { result ≡ seats_up_to (order_of_line line.now) }
     ensures small { result ≤ 8 }
 {
@@ -119,8 +128,8 @@ fn place_order(
     })
 }
 
-/// Returns the Seal of a line.
-fn place_seal(seat: u16, cycles: u32, position: ScriptPosition) -> Result<Ordered, ScriptFault>
+/// Returns the Seal of a line, or `TooMany` if there are as many before it as cycles.
+pub fn place_seal(seat: u16, cycles: u32, position: ScriptPosition) -> Result<Ordered, ScriptFault>
     ensures value { (requests : List Asked) (text : List ℕ) →
         Gives ScriptFault.Memory (ordered_in requests text) result (call_of_seal seat cycles position.line position.sealed) }
     ensures seal { IfOk result (λ ordered. ordered.what ≡ What.Seal) }
@@ -134,8 +143,8 @@ fn place_seal(seat: u16, cycles: u32, position: ScriptPosition) -> Result<Ordere
     })
 }
 
-/// Returns the order of a line that ends at index `end` of the script's text.
-fn place_line(
+/// Returns the order of a line that ends at index `end` of the script's text, or the line's fault.
+pub fn place_line(
     names: &Names<'_>,
     seat: u16,
     cycles: u32,

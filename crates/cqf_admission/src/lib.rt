@@ -21,8 +21,10 @@
 //!   Seals. [`read_paced_script`] reads those for streams that are offered in some cycles. [`read_orders`] reads the same without a copy of
 //!   what is named: an [`Ordered`] says [`What`] is called for by an index, among the requests, which [`Names`] finds by their names, or in
 //!   the text, from which [`word_of`] reads it. [`calls_of`] returns the calls of such orders. [`is_order`] and [`is_seal_line`] recognize
-//!   the forms of a line. A [`ScriptFault`] is why a script is refused, and at which line. [`script_is_its_lines`] is a law, a function
-//!   that does nothing: there is one call for each line, or the fault of the first line with a fault.
+//!   the forms of a line. [`place_line`] and [`place_seal`] return the order of a single line at a [`ScriptPosition`], and [`seats_up_to`]
+//!   says which administrators there are if the line is an order. A [`ScriptFault`] is why a script is refused, and at which line.
+//!   [`script_is_its_lines`] is a law, a function that does nothing: there is one call for each line, or the fault of the first line with a
+//!   fault.
 //!
 //! With a budget of 15,000 octets per cycle on each link:
 //!
@@ -84,7 +86,10 @@ mod trees;
 pub use admission::Admission;
 pub use branches::count_indices;
 pub use budgets::{budget_on, guard_on};
-pub use calls::{administrators, calls_of, read_orders, read_paced_script, read_script};
+pub use calls::{
+    ScriptPosition, administrators, calls_of, place_line, place_seal, read_orders,
+    read_paced_script, read_script, seats_up_to,
+};
 pub use cqf_model::{
     LEAST_OCTETS, MOST_CALLS, MOST_OCTETS, MOST_SEALS, MOST_STREAMS, Receipt, Refused, Reply, Row,
 };

@@ -8,10 +8,10 @@ ghost use Rattle.cqf_network.specs.NetworkDomain.{EdgeInside, checked, link_of, 
 
 use crate::NetworkFault;
 use crate::checks::check;
-use crate::draft::{NetworkDraft, read_draft, read_one_draft};
+use crate::draft::{NetworkDraft, draft_of_document, one_draft_of_document};
 use crate::ends::{JoinedEdge, join_edges};
 use cqf_model::{Limits, Link};
-use cqf_topology::{Domain, DomainFault, LinkList, NameList, numbered_names};
+use cqf_topology::{Document, Domain, DomainFault, LinkList, NameList, numbered_names};
 use cqf_units::{Memory, Name, Rate};
 use std::alloc::Global;
 use std::marker::Model;
@@ -192,7 +192,7 @@ impl NetworkDomain {
     /// 10,000,000 ns. Unknown keys are ignored.
     ///
     /// # Errors
-    /// The first fault of reading, as for [`read_draft`], then the first of these checks that fails. Each check is made over the whole text
+    /// The first fault of reading, as for [`draft_of_document`], then the first of these checks that fails. Each check is made over the whole text
     /// before the next:
     /// - `NameTaken`: a name is the same as one before it, bridges before stations;
     /// - `UnknownName`: `from` names no node; `to` names no other node; or `from` names a station, and `to` no bridge;
@@ -217,7 +217,22 @@ impl NetworkDomain {
         ensures { Gives (NetworkFault.Domain DomainFault.Memory) (λ domain. domain) result
             (open_network_of_text limits (option_map (λ cycles. cycles.items) given) text.now) }
     {
-        let draft = read_draft(alloc, text, limits, given)?;
+        let document = Document::read(alloc, text)?;
+        NetworkDomain::of_document(alloc, &document, limits, given)
+    }
+
+    /// Returns the domain of the text of a network file's document. What is read, and errors, are those of [`NetworkDomain::read`].
+    pub fn of_document(
+        alloc: Global,
+        document: &Document<'_>,
+        limits: Limits,
+        given: Option<Vec<u32>>,
+    ) -> Result<NetworkDomain, NetworkFault>
+        requires { IfSome given (λ cycles. AreCandidates cycles.items) }
+        ensures { Gives (NetworkFault.Domain DomainFault.Memory) (λ domain. domain) result
+            (open_network_of_text limits (option_map (λ cycles. cycles.items) given) document.now) }
+    {
+        let draft = draft_of_document(alloc, document, limits, given)?;
         NetworkDomain::of_draft(alloc, &draft)
     }
 
@@ -233,7 +248,19 @@ impl NetworkDomain {
     ) -> Result<NetworkDomain, NetworkFault>
         ensures { Gives (NetworkFault.Domain DomainFault.Memory) (λ domain. domain) result (network_of_text limits text.now) }
     {
-        let draft = read_one_draft(alloc, text, limits)?;
+        let document = Document::read(alloc, text)?;
+        NetworkDomain::one_of_document(alloc, &document, limits)
+    }
+
+    /// Returns the domain of a document's text whose cycle time is one number. Errors are those of [`NetworkDomain::read_one`].
+    pub fn one_of_document(
+        alloc: Global,
+        document: &Document<'_>,
+        limits: Limits,
+    ) -> Result<NetworkDomain, NetworkFault>
+        ensures { Gives (NetworkFault.Domain DomainFault.Memory) (λ domain. domain) result (network_of_text limits document.now) }
+    {
+        let draft = one_draft_of_document(alloc, document, limits)?;
         NetworkDomain::of_draft(alloc, &draft)
     }
 

@@ -14,8 +14,8 @@ use crate::cycles::{SHORTEST_CYCLE, candidates_at, one_cycle};
 use crate::frames::{LONGEST_FRAME, frame_octets};
 use cqf_model::{LONGEST_CYCLE, Limits};
 use cqf_topology::{
-    DomainFault, Key, LinkTimes, TomlFault, are_all_tables, array_at, name_at, names_at, number_at,
-    overhead_at, read_document, sync_at, times_at,
+    Document, DomainFault, Key, LinkTimes, TomlFault, are_all_tables, array_at, name_at, names_at,
+    number_at, overhead_at, sync_at, times_at, whole_table,
 };
 use cqf_units::Name;
 use std::alloc::Global;
@@ -333,38 +333,38 @@ fn owed_keys(keys: &[Key; 5], given: bool) -> &[Key]
     if given { &keys[1..] } else { &keys[..] }
 }
 
-/// Returns what the text of a network file's domain says, to be checked within given limits, or the first fault of
+/// Returns what the document of a network file's domain says, to be checked within given limits, or the first fault of
 /// reading it. If candidates for the cycle time are given, the text's `cycle` isn't read. Unknown keys are ignored.
 ///
 /// # Errors
 /// `NotToml`, `Missing` and `BadValue` as for the text of a plan's domain, except that `cycle` may be an array of 1 to 1,000 cycle times.
 /// After a link's other keys, `BadDuplex` if `duplex` isn't a boolean, and `BadOther` if `other` isn't an integer from 64 to 1,522.
 /// `Memory` if an allocation fails.
-pub fn read_draft(
+pub fn draft_of_document(
     alloc: Global,
-    text: &[u8],
+    document: &Document<'_>,
     limits: Limits,
     given: Option<Vec<u32>>,
 ) -> Result<NetworkDraft, NetworkFault>
     ensures { Gives (NetworkFault.Domain DomainFault.Memory) (λ draft. draft) result
-        (draft_of_text limits (option_map (λ cycles. cycles.items) given) text.now) }
+        (draft_of_text limits (option_map (λ cycles. cycles.items) given) document.now) }
 {
     let keys = owed_keys(&KEYS, given.is_some());
-    let table = read_document(alloc, text, keys, Key::Links, &LINK_KEYS)?;
-    read_table(alloc, &table, limits, given)
+    let table = whole_table(document, keys, Key::Links, &LINK_KEYS)?;
+    read_table(alloc, table, limits, given)
 }
 
-/// Returns what the text of a domain says if its cycle time isn't open, but one number.
+/// Returns what the document of a domain says if its cycle time isn't open, but one number.
 ///
 /// # Errors
-/// As for [`read_draft`], except that an array at `cycle` is `BadValue`.
-pub fn read_one_draft(
+/// As for [`draft_of_document`], except that an array at `cycle` is `BadValue`.
+pub fn one_draft_of_document(
     alloc: Global,
-    text: &[u8],
+    document: &Document<'_>,
     limits: Limits,
 ) -> Result<NetworkDraft, NetworkFault>
-    ensures { Gives (NetworkFault.Domain DomainFault.Memory) (λ draft. draft) result (one_of_text limits text.now) }
+    ensures { Gives (NetworkFault.Domain DomainFault.Memory) (λ draft. draft) result (one_of_text limits document.now) }
 {
-    let table = read_document(alloc, text, &KEYS, Key::Links, &LINK_KEYS)?;
-    read_one_table(alloc, &table, limits)
+    let table = whole_table(document, &KEYS, Key::Links, &LINK_KEYS)?;
+    read_one_table(alloc, table, limits)
 }

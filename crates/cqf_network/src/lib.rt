@@ -2,11 +2,13 @@
 //!
 //! - **Domains.** [`NetworkDomain::read`] returns the domain that a text describes, with the candidates for its cycle time and each
 //!   [`TalkerLink`], an access link of a station; or a [`NetworkFault`], the first fault. `cycle` may be an array of candidates, a link may
-//!   be `duplex`, and it may begin at a station. `read_draft` only reads the text, as a `NetworkDraft` of `NetworkLink`s, and checks
+//!   be `duplex`, and it may begin at a station. `draft_of_document` only reads the document, as a `NetworkDraft` of `NetworkLink`s, and checks
 //!   neither names nor ends.
 //! - **Streams.** [`read_network_streams`] returns those of a text, or the first fault ([`FlowsFault`]). Each is a [`Stream`] with its traffic, its
 //!   deadline, its [`Pacing`], and its [`WantedPath`]: given branches, or the ends between which they go. [`read_network_flows`] returns streams
 //!   that leave nothing open, each a [`NetworkFlow`] from its [`Talker`] on.
+//! - **Documents.** [`NetworkDomain::of_document`], [`NetworkDomain::one_of_document`], [`network_streams_of_document`] and
+//!   [`network_flows_of_document`] read a text that was parsed before.
 //! - **Paths.** A [`Room`] has the links of a network, what each has left, and what a stream costs. [`first_path`] finds the first of the shortest
 //!   paths from a bridge to a node on which each link has room, if there is one. [`first_paths`] finds those to several stations, which are the
 //!   branches of a tree ([`first_paths_are_a_tree`]), or a [`PathsFault`]. If there is none for want of room, [`first_short`] names the link that
@@ -75,9 +77,9 @@ pub use faults::NetworkFault;
 pub use laws::{first_paths_are_a_tree, full_paths_have_a_short_link};
 pub use link_paths::{first_path, first_short};
 pub use listeners::{PathsFault, first_paths};
-pub use network_flows::{NetworkFlow, read_network_flows};
+pub use network_flows::{NetworkFlow, network_flows_of_document, read_network_flows};
 pub use pacing::Pacing;
 pub use room::Room;
-pub use streams::{Stream, read_network_streams};
+pub use streams::{Stream, network_streams_of_document, read_network_streams};
 pub use talkers::Talker;
 pub use wanted::WantedPath;

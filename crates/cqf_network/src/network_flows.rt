@@ -7,7 +7,7 @@ ghost use Rattle.cqf_topology.specs.Fields.{Gives};
 ghost use Rattle.cqf_network.specs.NetworkFlows.{network_flow_from, network_flow_text, network_flows_from, network_flows_in, network_flows_of_text};
 
 use crate::talkers::{Talker, read_listeners, read_shortest, read_talker};
-use cqf_topology::{Key, StreamsFault, are_all_tables, array_at, read_document};
+use cqf_topology::{Document, Key, StreamsFault, are_all_tables, array_at, whole_table};
 use cqf_traffic::{Flow, FlowsFault, first_flow_lack, read_flow};
 use cqf_units::Name;
 use std::alloc::Global;
@@ -84,9 +84,22 @@ fn network_flows_of_table(alloc: Global, table: &Table) -> Result<Vec<NetworkFlo
 pub fn read_network_flows(alloc: Global, text: &[u8]) -> Result<Vec<NetworkFlow>, FlowsFault>
     ensures { Gives (FlowsFault.Streams StreamsFault.Memory) (λ flows. map network_flow_text flows.items) result (network_flows_of_text text.now) }
 {
-    let table = read_document(alloc, text, &[Key::Streams], Key::Streams, &[])?;
-    match first_flow_lack(&table) {
+    let document = Document::read(alloc, text)?;
+    network_flows_of_document(alloc, &document)
+}
+
+/// The streams of a document's text with nothing left to plan, in its order, as their talkers have them. Errors are those of
+/// [`read_network_flows`].
+pub fn network_flows_of_document(
+    alloc: Global,
+    document: &Document<'_>,
+) -> Result<Vec<NetworkFlow>, FlowsFault>
+    ensures { Gives (FlowsFault.Streams StreamsFault.Memory) (λ flows. map network_flow_text flows.items) result
+        (network_flows_of_text document.now) }
+{
+    let table = whole_table(document, &[Key::Streams], Key::Streams, &[])?;
+    match first_flow_lack(table) {
         Some(fault) => Err(fault),
-        None => network_flows_of_table(alloc, &table),
+        None => network_flows_of_table(alloc, table),
     }
 }

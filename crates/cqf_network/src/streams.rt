@@ -12,8 +12,8 @@ use crate::pacing::{Pacing, read_pacing};
 use crate::talkers::{Talker, read_listeners, read_shortest, read_talker};
 use crate::wanted::{WantedPath, path_by, read_branches};
 use cqf_topology::{
-    Key, StreamsFault, are_all_tables, array_at, deadline_of, number_at, read_document, text_at,
-    value_at,
+    Document, Key, StreamsFault, are_all_tables, array_at, deadline_of, number_at, text_at,
+    value_at, whole_table,
 };
 use cqf_traffic::{FlowsFault, Traffic, traffic_of};
 use cqf_units::Name;
@@ -148,9 +148,21 @@ fn streams_of_table(alloc: Global, table: &Table) -> Result<Vec<Stream>, FlowsFa
 pub fn read_network_streams(alloc: Global, text: &[u8]) -> Result<Vec<Stream>, FlowsFault>
     ensures { Gives (FlowsFault.Streams StreamsFault.Memory) (λ streams. map stream_text streams.items) result (network_streams_of_text text.now) }
 {
-    let table = read_document(alloc, text, &[Key::Streams], Key::Streams, &[])?;
-    match first_lack_of(&table) {
+    let document = Document::read(alloc, text)?;
+    network_streams_of_document(alloc, &document)
+}
+
+/// Returns the streams of the text of a network file's document, in its order. Errors are those of [`read_network_streams`].
+pub fn network_streams_of_document(
+    alloc: Global,
+    document: &Document<'_>,
+) -> Result<Vec<Stream>, FlowsFault>
+    ensures { Gives (FlowsFault.Streams StreamsFault.Memory) (λ streams. map stream_text streams.items) result
+        (network_streams_of_text document.now) }
+{
+    let table = whole_table(document, &[Key::Streams], Key::Streams, &[])?;
+    match first_lack_of(table) {
         Some(fault) => Err(fault),
-        None => streams_of_table(alloc, &table),
+        None => streams_of_table(alloc, table),
     }
 }

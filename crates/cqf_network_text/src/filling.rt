@@ -1,5 +1,5 @@
 //! Fills what is open in a network file with what was chosen.
-ghost use Rattle.std.specs.Prelude.{◌≡◌, IfOk, IsSome, OnOk, Some, is_some, option_map, slice_get, string_bytes};
+ghost use Rattle.std.specs.Prelude.{◌≡◌, ◌↔◌, IfOk, IsSome, OnOk, Some, is_some, option_map, slice_get, string_bytes, true};
 ghost use Rattle.toml.specs.View.{items_view, table_view, view};
 ghost use Rattle.toml.specs.Data.{array, get_member};
 ghost use Rattle.cqf_topology.specs.Fields.{value_at};
@@ -148,6 +148,26 @@ fn table_of(alloc: Global, text: &[u8]) -> Result<Table, Memory>
     }
 }
 
+/// Returns whether two texts are the same.
+fn is_same(one: &[u8], other: &[u8]) -> bool
+    ensures { (result ≡ true) ↔ (one.now ≡ other.now) }
+{
+    one == other
+}
+
+/// The table of a text that is TOML, given that of another one, which may be the same text. Fails only if memory is refused.
+fn next_table(alloc: Global, first: &[u8], table: Table, text: &[u8]) -> Result<Table, Memory>
+    requires first { table_of first.now ≡ Some (table_view table) }
+    requires text { IsSome (table_of text.now) }
+    ensures { IfOk result (λ table. table_of text.now ≡ Some (table_view table)) }
+{
+    if is_same(first, text) {
+        return Ok(table);
+    }
+    drop(table);
+    table_of(alloc, text)
+}
+
 /// Returns the text of a planned network: the top and the links of one text, and the streams of another, with the cycle time in nanoseconds
 /// and with what was chosen for each stream, in order. Both texts are TOML. All other keys are unchanged. Every reader finds what was
 /// chosen in the text ([`crate::filled_networks_read_back`]).
@@ -165,9 +185,9 @@ pub fn write_network(
     requires streams { IsSome (table_of streams.now) }
     ensures { IfOk result (λ text. IsFilledText domain.now streams.now cycle_time filled.now (string_bytes text)) }
 {
-    let mut table = table_of(alloc, domain)?;
     let read = table_of(alloc, streams)?;
     let all = filled_values(alloc, elements_at(&read, Key::Streams.as_str()), filled)?;
+    let mut table = next_table(alloc, streams, read, domain)?;
     put_number(alloc, &mut table, Key::Cycle.as_str(), cycle_time)?;
     put_value(alloc, &mut table, Key::Streams.as_str(), all)?;
     text_of_network(alloc, &table)

@@ -13,7 +13,8 @@ use crate::forms::Form;
 use crate::kinds::Kind;
 use cqf_model::Limits;
 use cqf_output::{REFUSED, Stop};
-use cqf_program_scenario::two_parts;
+use cqf_program_scenario::{Input, document_part, parsed_parts};
+use cqf_topology::Document;
 use cqf_units::Memory;
 use std::alloc::Global;
 
@@ -206,12 +207,12 @@ fn description_in(
     alloc: Global,
     limits: Limits,
     which: &str,
-    text: &[u8],
+    document: Document<'_>,
 ) -> Result<DescribedNetwork, Stop>
-    ensures ok { IfOk result (λ found. or_line (file_line which.now) (description_of limits text.now) ≡ Ok (description found)) }
-    ensures err { IfErr result (IsRefused (or_line (file_line which.now) (description_of limits text.now))) }
+    ensures ok { IfOk result (λ found. or_line (file_line which.now) (description_of limits document.entry) ≡ Ok (description found)) }
+    ensures err { IfErr result (IsRefused (or_line (file_line which.now) (description_of limits document.entry))) }
 {
-    match description_of(alloc, limits, text) {
+    match description_of(alloc, limits, document) {
         Ok(found) => Ok(found),
         Err(stop) => Err(file_stop(alloc, which, stop)),
     }
@@ -258,13 +259,14 @@ pub fn diff_output(
     alloc: Global,
     limits: Limits,
     quiet: bool,
-    input: &[u8],
+    input: Input<'_>,
 ) -> Result<Vec<u8>, Stop>
-    ensures ok { IfOk result (λ output. diff_of_input limits quiet input.now ≡ Ok output.items) }
-    ensures err { IfErr result (IsRefused (diff_of_input limits quiet input.now)) }
+    ensures ok { IfOk result (λ output. diff_of_input limits quiet input.entry ≡ Ok output.items) }
+    ensures err { IfErr result (IsRefused (diff_of_input limits quiet input.entry)) }
 {
-    let (old, new) = two_parts(alloc, input)?;
+    let (old, new) = parsed_parts(alloc, input)?;
     let before = description_in(alloc, limits, "old", old)?;
+    let new = document_part(alloc, new)?;
     let after = description_in(alloc, limits, "new", new)?;
     output_of(alloc, quiet, &before, &after)
 }

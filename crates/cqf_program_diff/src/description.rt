@@ -19,7 +19,7 @@ use cqf_network::NetworkDomain;
 use cqf_output::Stop;
 use cqf_program_plans::{access_loads, open_edges_part, requests_at, rows_of_cycle_0};
 use cqf_program_scenario::{domain_of, network_part};
-use cqf_topology::{Domain, PacedRequest};
+use cqf_topology::{Document, Domain, PacedRequest};
 use cqf_units::Memory;
 use std::alloc::Global;
 
@@ -127,20 +127,20 @@ fn described_from(
     Ok(DescribedNetwork { own, figures })
 }
 
-/// Returns the description of the text of a plan, which is read within some limits.
+/// Returns the description of the document of a plan, which is read within some limits.
 ///
 /// # Errors
-/// With status 1 and the line of the first fault of the text, as of the command `latency`. With status 3 if an allocation fails.
+/// With status 1 and the line of the first fault of its text, as of the command `latency`. With status 3 if an allocation fails.
 pub(crate) fn description_of(
     alloc: Global,
     limits: Limits,
-    text: &[u8],
+    document: Document<'_>,
 ) -> Result<DescribedNetwork, Stop>
-    ensures ok { IfOk result (λ found. description_of limits text.now ≡ Ok (description found)) }
-    ensures err { IfErr result (IsRefused (description_of limits text.now)) }
+    ensures ok { IfOk result (λ found. description_of limits document.entry ≡ Ok (description found)) }
+    ensures err { IfErr result (IsRefused (description_of limits document.entry)) }
 {
-    let network = network_part(alloc, limits, text)?;
+    let network = network_part(alloc, limits, &document)?;
     let domain = domain_of(alloc, &network)?;
-    let edge = open_edges_part(alloc, &network, text)?;
+    let edge = open_edges_part(alloc, &network, document)?;
     described_from(alloc, &network, &domain, edge)
 }

@@ -1,3 +1,4 @@
 pub mod Edge
 pub mod Prepared
 pub mod Run
+pub mod Given

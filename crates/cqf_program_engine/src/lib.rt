@@ -1,7 +1,8 @@
 //! A run of the program, from its words and its input to its output, over any reader and any writers.
 //!
-//! - [`engine`] runs it, and returns the exit status. [`write`] ends a run before it has begun. `VERSION` is the
-//!   program's version.
+//! - [`engine`] runs it, and returns the exit status. [`write`] ends a run before it has begun. `VERSION` is the program's version.
+//! - If the words and the files were read before, [`engine_of_input`] runs a job for an input, and [`engine_of_run`] for a scenario that was
+//!   read or made.
 //! - [`run_unless_threaded`] is all of the engine except for a run on threads, which it returns as a [`ThreadedRun`].
 //!   It has no handle that may wait, so it returns if each read and each write does; [`engine_ends`] says for which
 //!   words no run on threads is left.
@@ -19,7 +20,8 @@
 //! `specs/Edge.antt` defines what was read (`Reading`), and that of `cqf_output` what was written (`Writing`,
 //! `IsWritten`). `specs/Prepared.antt` defines the text of an output (`IsTextOf`). `specs/Run.antt` defines the results
 //! of a run (`IsDone`, `IsRefusedRun`, `IsMisuse`, `IsFailedRun`), when a run on threads is left to be made
-//! (`LeavesThreads`), and what holds after the engine has run, by its status (`Ends`).
+//! (`LeavesThreads`), and what holds after the engine has run, by its status (`Ends`). `specs/Given.antt` defines
+//! the result of a job whose words and files were read before (`EndsGiven`, `EndsRun`).
 //!
 //! ```text
 //! let mut input = Heard::new(alloc, b"links = []\n".as_slice());
@@ -30,6 +32,7 @@
 
 mod begun;
 mod filled;
+mod given;
 mod heard;
 mod inputs;
 mod laws;
@@ -41,6 +44,7 @@ mod texts;
 
 pub use begun::ThreadedRun;
 pub use cqf_output::{CheckedSink, Sink};
+pub use given::{engine_of_input, engine_of_run};
 pub use heard::Heard;
 pub use inputs::{MOST_BYTES, MOST_BYTES_OF_LARGE, most_bytes, read_input};
 pub use laws::{engine_ends, fault_in_memory_is_of_threads_or_memory};

@@ -36,6 +36,7 @@ use cqf_program_plans::{
     compile_output, latency_output, load_output, load_streams_output, port_output,
 };
 use cqf_program_runs::{check_output, deliveries_output, line_output, report_output, run_output};
+use cqf_program_scenario::Input;
 use cqf_program_summary::{FrameFilter, hops_output, summary_output};
 use cqf_program_tc::{env_output, tc_output};
 use cqf_program_threads::threads_output;
@@ -56,11 +57,11 @@ fn prepare_variables(
     limits: Limits,
     edge_gates: bool,
     bridge: &Name,
-    input: &[u8],
+    input: Input<'_>,
 ) -> Result<PreparedOutput, Stop>
-    ensures ok { IfOk result (HasText (λ output. env_of_input limits edge_gates bridge.now input.now ≡ Ok output)) }
+    ensures ok { IfOk result (HasText (λ output. env_of_input limits edge_gates bridge.now input.entry ≡ Ok output)) }
     ensures of_diff { IfOk result (λ output. is_of_diff output ≡ false) }
-    ensures err { IfErr result (IsRefused (env_of_input limits edge_gates bridge.now input.now)) }
+    ensures err { IfErr result (IsRefused (env_of_input limits edge_gates bridge.now input.entry)) }
 {
     Ok(PreparedOutput::Variables(env_output(alloc, limits, edge_gates, bridge.as_str(), input)?))
 }
@@ -73,11 +74,11 @@ fn prepare_compiled(
     limits: Limits,
     format: &Format,
     edge_gates: bool,
-    input: &[u8],
+    input: Input<'_>,
 ) -> Result<PreparedOutput, Stop>
-    ensures ok { IfOk result (HasText (IsOutput limits (Job.Compile format.now edge_gates) input.now)) }
+    ensures ok { IfOk result (HasText (IsOutput limits (Job.Compile format.now edge_gates) input.entry)) }
     ensures of_diff { IfOk result (λ output. is_of_diff output ≡ false) }
-    ensures err { IfErr result (IsRefusal limits (Job.Compile format.now edge_gates) input.now) }
+    ensures err { IfErr result (IsRefusal limits (Job.Compile format.now edge_gates) input.entry) }
 {
     match *format {
         Format::List => Ok(PreparedOutput::Config(compile_output(
@@ -97,11 +98,11 @@ fn prepare_load(
     alloc: Global,
     limits: Limits,
     streams: bool,
-    input: &[u8],
+    input: Input<'_>,
 ) -> Result<PreparedOutput, Stop>
-    ensures ok { IfOk result (HasText (IsOutput limits (Job.Load streams) input.now)) }
+    ensures ok { IfOk result (HasText (IsOutput limits (Job.Load streams) input.entry)) }
     ensures of_diff { IfOk result (λ output. is_of_diff output ≡ false) }
-    ensures err { IfErr result (IsRefusal limits (Job.Load streams) input.now) }
+    ensures err { IfErr result (IsRefusal limits (Job.Load streams) input.entry) }
 {
     if streams {
         return Ok(PreparedOutput::StreamLoads(load_streams_output(alloc, limits, input)?));
@@ -110,7 +111,7 @@ fn prepare_load(
 }
 
 /// Returns the name, if there is one.
-fn name_of(name: &Option<String>) -> Option<&str>
+pub(crate) fn name_of(name: &Option<String>) -> Option<&str>
     ensures { option_map (λ text. text.now) result ≡ option_map string_bytes name.now }
 {
     match *name {
@@ -127,12 +128,12 @@ fn prepare_hops(
     cycles: u32,
     stream: &Option<String>,
     frame: Option<u32>,
-    input: &[u8],
+    input: Input<'_>,
 ) -> Result<PreparedOutput, Stop>
     requires { cycles ≤ most_cycles }
-    ensures ok { IfOk result (HasText (IsHopsOutput limits cycles (wanted_of stream.now frame) input.now)) }
+    ensures ok { IfOk result (HasText (IsHopsOutput limits cycles (wanted_of stream.now frame) input.entry)) }
     ensures of_diff { IfOk result (λ output. is_of_diff output ≡ false) }
-    ensures err { IfErr result (IsRefused (wanted_scenario limits cycles (wanted_of stream.now frame) input.now)) }
+    ensures err { IfErr result (IsRefused (wanted_scenario limits cycles (wanted_of stream.now frame) input.entry)) }
 {
     let choice = FrameFilter {
         stream: name_of(stream),
@@ -170,10 +171,10 @@ fn planned(
     alloc: Global,
     limits: Limits,
     options: &PlanOptions,
-    input: &[u8],
+    input: Input<'_>,
 ) -> Result<Vec<u8>, Stop>
-    ensures ok { IfOk result (λ text. IsPlanWithout limits options.now.table (search_of options.now) (option_map times_of options.now.given) options.now.without.items input.now (Ok text.items)) }
-    ensures err { IfErr result (IsRefusalWithout limits options.now.table (search_of options.now) (option_map times_of options.now.given) options.now.without.items input.now) }
+    ensures ok { IfOk result (λ text. IsPlanWithout limits options.now.table (search_of options.now) (option_map times_of options.now.given) options.now.without.items input.entry (Ok text.items)) }
+    ensures err { IfErr result (IsRefusalWithout limits options.now.table (search_of options.now) (option_map times_of options.now.given) options.now.without.items input.entry) }
 {
     let search = search_of(options);
     let links = options.without.as_slice();
@@ -193,19 +194,26 @@ fn prepare(
     alloc: Global,
     limits: Limits,
     job: &Job,
-    input: &[u8],
+    input: Input<'_>,
 ) -> Result<PreparedOutput, Stop>
     requires within { IsWithin job.now }
     requires unthreaded { is_threaded job.now ≡ false }
-    ensures ok { IfOk result (HasText (IsOutput limits job.now input.now)) }
+    ensures ok { IfOk result (HasText (IsOutput limits job.now input.entry)) }
     ensures of_diff { IfOk result (λ output. is_of_diff output ≡ is_diff job.now) }
-    ensures err { IfErr result (IsRefusal limits job.now input.now) }
+    ensures err { IfErr result (IsRefusal limits job.now input.entry) }
 {
     match *job {
         Job::Port { until, rate } => Ok(PreparedOutput::Port(port_output(
-            alloc, until, rate, input,
+            alloc,
+            until,
+            rate,
+            input.bytes(),
         )?)),
-        Job::Line { cycles } => Ok(PreparedOutput::Line(line_output(alloc, cycles, input)?)),
+        Job::Line { cycles } => Ok(PreparedOutput::Line(line_output(
+            alloc,
+            cycles,
+            input.bytes(),
+        )?)),
         Job::Compile {
             ref format,
             edge_gates,
@@ -274,7 +282,7 @@ pub fn answer(
     ensures ok { IfOk result (λ output. IsOutput limits job.now input.now output.items) }
     ensures err { IfErr result (IsRefusal limits job.now input.now) }
 {
-    let output = prepare(rt, alloc, limits, job, input)?;
+    let output = prepare(rt, alloc, limits, job, Input::of_bytes(input))?;
     match text_written(alloc, output) {
         Ok(text) => Ok(text),
         Err(_) => Err(Stop::memory(alloc)),
@@ -282,7 +290,7 @@ pub fn answer(
 }
 
 /// Returns the number of cycles of a run on threads, if the job is one.
-fn threaded_cycles(job: &Job) -> Option<u32>
+pub(crate) fn threaded_cycles(job: &Job) -> Option<u32>
     ensures { MatchOption result (is_threaded job.now ≡ false) (λ cycles. job.now ≡ Job.Run cycles true) }
 {
     match *job {
@@ -299,16 +307,16 @@ fn threaded_cycles(job: &Job) -> Option<u32>
 ///
 /// # Errors
 /// Those of [`prepare`].
-fn output_of(
+pub(crate) fn output_of(
     rt: &(impl Threads + Sync),
     alloc: Global,
     limits: Limits,
     job: &Job,
-    input: &[u8],
+    input: Input<'_>,
 ) -> Result<Begun, Stop>
     requires { IsWithin job.now }
-    ensures ok { IfOk result (Begins (IsResult limits job.now input.now) (IsRunOf limits job.now)) }
-    ensures err { IfErr result (IsRefusal limits job.now input.now) }
+    ensures ok { IfOk result (Begins (IsResult limits job.now input.entry) (IsRunOf limits job.now)) }
+    ensures err { IfErr result (IsRefusal limits job.now input.entry) }
 {
     match threaded_cycles(job) {
         Some(cycles) => Ok(Begun::Threads(ThreadedRun { limits, cycles })),
@@ -392,7 +400,13 @@ fn run_given<R: Source>(
     if let Err(stop) = read_input(alloc, most_bytes(words), input) {
         return Err(stop);
     }
-    output_of(rt, alloc, limits_of(words), &job, input.bytes())
+    output_of(
+        rt,
+        alloc,
+        limits_of(words),
+        &job,
+        Input::of_bytes(input.bytes()),
+    )
 }
 
 /// Returns the first line of the bytes, and what follows it.
@@ -440,7 +454,13 @@ fn run_line(rt: &(impl Threads + Sync), alloc: Global, bytes: &[u8]) -> Result<B
         Ok(job) => job,
         Err(stop) => return Err(stop),
     };
-    output_of(rt, alloc, limits_of(words.as_slice()), &job, rest)
+    output_of(
+        rt,
+        alloc,
+        limits_of(words.as_slice()),
+        &job,
+        Input::of_bytes(rest),
+    )
 }
 
 /// Runs the words with which the input begins. A run on threads isn't made.
@@ -510,7 +530,7 @@ fn hand_over<O: Sink, F: Sink>(
 }
 
 /// Writes all of an output. Returns the status: that of the output, or 4 if the writer refuses some of it.
-fn write_output<O: Sink, F: Sink>(
+pub(crate) fn write_output<O: Sink, F: Sink>(
     prepared: PreparedOutput,
     output: &mut CheckedSink<O>,
     faults: &mut CheckedSink<F>,
@@ -593,7 +613,7 @@ fn input_of<'b>(words: &[&str], bytes: &'b [u8]) -> &'b [u8]
 /// # Errors
 /// With status 1 and the line of the first fault of the input. With status 3 if an allocation fails. With status 4 if
 /// the run fails.
-fn prepare_threads(
+pub(crate) fn prepare_threads(
     rt: &(impl Threads + Wait + Sync),
     alloc: Global,
     threaded: ThreadedRun,

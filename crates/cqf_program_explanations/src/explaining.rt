@@ -26,13 +26,15 @@ use crate::stream_faults::{
 use crate::table_faults::{InputTable, report_table};
 use crate::toml_faults::{report_bad_value, report_missing, report_not_toml};
 use cqf_model::Limits;
+use cqf_topology::Document;
 use std::alloc::{AllocError, Global};
 
-/// A file that the words name, with its text; the name `-` is standard input.
-#[derive(Clone, Copy, Debug)]
+/// A file that the words name, with its text, and what that means if it was parsed; the name `-` is standard input.
+#[derive(Clone, Copy)]
 pub struct NamedFile<'a> {
     pub name: &'a str,
     pub text: &'a [u8],
+    pub document: Option<&'a Document<'a>>,
 }
 
 /// Reports why a domain or the streams are refused.

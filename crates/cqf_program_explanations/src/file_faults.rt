@@ -105,7 +105,7 @@ fn put_top<'p>(
     file_number: usize,
     file: &'p NetworkFile<'_>,
 ) -> Result<(), AllocError> {
-    let Some(table) = &file.table else {
+    let Some(table) = file.table() else {
         return Ok(());
     };
     let first = UnknownKey {

@@ -25,6 +25,7 @@ mod forms;
 mod given;
 mod hints;
 mod inline;
+mod key_faults;
 mod lexer;
 mod lines;
 mod link_faults;

@@ -3,13 +3,16 @@
 use crate::explaining::NamedFile;
 use cqf_program_files::MOST_FILES;
 use cqf_text::parts;
+use cqf_topology::Document;
 use std::alloc::{AllocError, Global};
 
 /// A text that is one part of the input, or a file of a plan of several.
-#[derive(Clone, Copy, Debug)]
+#[derive(Clone, Copy)]
 pub(crate) struct InputPart<'a> {
     pub file: &'a str,
     pub text: &'a [u8],
+    /// What the text means, if it was parsed.
+    pub document: Option<&'a Document<'a>>,
     /// How many lines of the file are before it.
     pub before: u64,
     /// Whether it is the whole file.
@@ -81,6 +84,7 @@ pub(crate) fn put_parts<'a>(
         found.push(InputPart {
             file: source.name,
             text,
+            document: if is_whole { source.document } else { None },
             before,
             is_whole,
             is_first,
@@ -102,6 +106,7 @@ fn all_parts<'a>(
             found.push(InputPart {
                 file: source.name,
                 text: source.text,
+                document: source.document,
                 before: 0,
                 is_whole: true,
                 is_first: place == 0,

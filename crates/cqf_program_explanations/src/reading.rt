@@ -5,6 +5,7 @@ ghost use Rattle.cqf_network.specs.StreamsText.{stream_text};
 
 use crate::forms::are_names;
 use crate::given::CommandInput;
+use crate::key_faults::{KeyFault, is_bad_value, is_missing, key_fault_of};
 use crate::planning::is_planning;
 use crate::written::{KeyOwner, WrittenItem, number_of};
 use cqf_addressing::{read_link_interfaces, read_stream_addresses};
@@ -13,11 +14,10 @@ use cqf_model::{LEAST_OCTETS, LONGEST_CYCLE};
 use cqf_network::{
     FlowsFault, NetworkDomain, NetworkFault, Stream, read_network_flows, read_network_streams,
 };
-use cqf_program_files::{joint_of, tables_of};
+use cqf_program_files::joint_of;
 use cqf_topology::{Domain, DomainFault, PacedRequest, StreamsFault, branches_of};
 use cqf_traffic::Traffic;
 use std::alloc::{AllocError, Global};
-use std::fmt;
 use toml::{Table, Value};
 
 /// A network without links or stations, which the readers accept.
@@ -73,13 +73,13 @@ fn put_cycles(given: &CommandInput<'_>, plan: &mut Table) -> Result<(), AllocErr
 
 /// Returns the text of the part of a plan that has a key of the top level, of all files together; `None` if a file isn't TOML.
 fn part_with(given: &CommandInput<'_>, key: &str) -> Result<Option<String>, AllocError> {
-    let mut texts = Vec::new(given.alloc);
+    let mut tables = Vec::new(given.alloc);
     for file in given.written.files_of(key) {
-        texts.push(file.part.text)?;
+        let Some(table) = file.table() else {
+            return Ok(None);
+        };
+        tables.push(table)?;
     }
-    let Some(tables) = tables_of(given.alloc, texts.as_slice())? else {
-        return Ok(None);
-    };
     let mut plan = joint_of(given.alloc, tables.as_slice())?;
     put_cycles(given, &mut plan)?;
     text_of(given.alloc, &plan)
@@ -190,55 +190,53 @@ pub(crate) fn request_of(
     })
 }
 
-/// Returns the line of a reader's fault; an empty one if it has none.
-fn line_of<T: Drop, F: fmt::Display + Drop>(
-    alloc: Global,
-    read: Result<T, F>,
-) -> Result<String, AllocError> {
-    let Err(fault) = read else {
-        return Ok(String::new(alloc));
-    };
-    let line = format!(in alloc; "{fault}")?;
-    if line.as_str() == "Memory" {
-        return Err(AllocError);
-    }
-    Ok(line)
-}
-
-/// Returns the line of the fault for which the reader of a text that has the key refuses it; an empty one if it has none.
-fn line_by_reader(
+/// Returns why the reader of texts with the key refuses a text; `None` if it reads the text.
+fn fault_by_reader(
     given: &CommandInput<'_>,
     kind: KeyOwner,
     key: &str,
     text: &[u8],
-) -> Result<String, AllocError> {
+) -> Result<Option<KeyFault>, AllocError> {
     let (alloc, limits) = (given.alloc, given.limits);
     match (kind, key) {
         (KeyOwner::Link, "interface" | "far-interface") => {
-            line_of(alloc, read_link_interfaces(alloc, text))
+            key_fault_of(read_link_interfaces(alloc, text))
         }
-        (KeyOwner::Link, _) => line_of(alloc, NetworkDomain::read_one(alloc, text, limits)),
+        (KeyOwner::Link, _) => key_fault_of(NetworkDomain::read_one(alloc, text, limits)),
         (KeyOwner::Stream, "mac" | "vlan" | "x-gate") => {
-            line_of(alloc, read_stream_addresses(alloc, limits, text))
+            key_fault_of(read_stream_addresses(alloc, limits, text))
         }
         (KeyOwner::Stream, _) if is_planning(given) => {
-            line_of(alloc, read_network_streams(alloc, text))
+            key_fault_of(read_network_streams(alloc, text))
         }
-        (KeyOwner::Stream, _) => line_of(alloc, read_network_flows(alloc, text)),
+        (KeyOwner::Stream, _) => key_fault_of(read_network_flows(alloc, text)),
         (KeyOwner::Top, _) if is_planning(given) => {
-            line_of(alloc, NetworkDomain::read(alloc, text, limits, None))
+            key_fault_of(NetworkDomain::read(alloc, text, limits, None))
         }
-        (KeyOwner::Top, _) => line_of(alloc, NetworkDomain::read_one(alloc, text, limits)),
+        (KeyOwner::Top, _) => key_fault_of(NetworkDomain::read_one(alloc, text, limits)),
     }
 }
 
-/// Returns the line of the fault for which a network with this link or stream alone is refused.
-fn line_of_element(
+/// Returns why the reader of texts with the key refuses a network's table; `None` if it reads it, or no text writes the table.
+fn fault_of_table(
+    given: &CommandInput<'_>,
+    kind: KeyOwner,
+    key: &str,
+    network: &Table,
+) -> Result<Option<KeyFault>, AllocError> {
+    match text_of(given.alloc, network)? {
+        Some(text) => fault_by_reader(given, kind, key, text.as_bytes()),
+        None => Ok(None),
+    }
+}
+
+/// Returns why a network with this link or stream alone is refused.
+fn fault_of_element(
     given: &CommandInput<'_>,
     kind: KeyOwner,
     key: &str,
     element: Value,
-) -> Result<String, AllocError> {
+) -> Result<Option<KeyFault>, AllocError> {
     let (alloc, name) = (
         given.alloc,
         if kind == KeyOwner::Link {
@@ -251,10 +249,7 @@ fn line_of_element(
     let mut elements = Vec::new(alloc);
     elements.push(element)?;
     put(alloc, &mut plan, name, Value::Array(elements))?;
-    match text_of(alloc, &plan)? {
-        Some(text) => line_by_reader(given, kind, key, text.as_bytes()),
-        None => Ok(String::new(alloc)),
-    }
+    fault_of_table(given, kind, key, &plan)
 }
 
 /// Returns the keys on which what may be at a key depends.
@@ -302,8 +297,8 @@ pub(crate) fn has_bad_value(
         return Ok(!are_names(value));
     }
     let element = element_with(given.alloc, item, key)?;
-    let line = line_of_element(given, item.kind, key, element)?;
-    Ok(line.as_str().strip_prefix("BadValue ") == Some(key))
+    let fault = fault_of_element(given, item.kind, key, element)?;
+    Ok(is_bad_value(fault, key))
 }
 
 /// Returns whether a link or a stream is refused first because it lacks a key.
@@ -315,8 +310,8 @@ pub(crate) fn lacks(
     if !item.value.is_table() || item.get(key).is_some() {
         return Ok(false);
     }
-    let line = line_of_element(given, item.kind, key, item.value.clone()?)?;
-    Ok(line.as_str().strip_prefix("Missing ") == Some(key))
+    let fault = fault_of_element(given, item.kind, key, item.value.clone()?)?;
+    Ok(is_missing(fault, key))
 }
 
 /// Returns whether a network is refused for a value at a key of its top level.
@@ -328,11 +323,6 @@ pub(crate) fn is_bad_at_top(
     let alloc = given.alloc;
     let mut plan = table_of(alloc, EMPTY_NETWORK)?;
     put(alloc, &mut plan, key, value.clone()?)?;
-    match text_of(alloc, &plan)? {
-        Some(text) => {
-            let line = line_by_reader(given, KeyOwner::Top, key, text.as_bytes())?;
-            Ok(line.as_str().strip_prefix("BadValue ") == Some(key))
-        }
-        None => Ok(false),
-    }
+    let fault = fault_of_table(given, KeyOwner::Top, key, &plan)?;
+    Ok(is_bad_value(fault, key))
 }

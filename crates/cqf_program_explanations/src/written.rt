@@ -5,16 +5,23 @@ use crate::outline::{Element, KeyLine, Outline, outline_of};
 use crate::parts::InputPart;
 use crate::places::Place;
 use crate::words::shortened;
-use cqf_topology::{LinkTimes, times_at};
+use cqf_topology::{Document, LinkTimes, times_at};
 use std::alloc::{AllocError, Global};
 use toml::{Table, Value};
+
+/// What the text of a file means: as it was parsed before, or parsed for the explanation; nothing if it isn't TOML, or isn't parsed.
+#[derive(Drop)]
+pub(crate) enum Meaning<'a> {
+    Lent(&'a Table),
+    Own(Table),
+    Nothing,
+}
 
 /// A file of a plan, or a part of one.
 #[derive(Drop)]
 pub(crate) struct NetworkFile<'a> {
     pub part: InputPart<'a>,
-    /// What its text means, if it is TOML.
-    pub table: Option<Table>,
+    meaning: Meaning<'a>,
     pub outline: Outline<'a>,
 }
 
@@ -59,12 +66,22 @@ pub(crate) struct FoundKey<'p> {
     pub text: &'p [u8],
 }
 
-/// Returns the table of a text, if it is TOML.
-fn table_of(alloc: Global, text: &[u8]) -> Result<Option<Table>, AllocError> {
-    match toml::table_from_slice(alloc, text) {
-        Ok(table) => Ok(Some(table)),
-        Err(error) if error.is_memory() => Err(AllocError),
-        Err(_) => Ok(None),
+/// Returns what a text means that wasn't parsed before.
+fn parsed(alloc: Global, text: &[u8]) -> Result<Meaning<'_>, AllocError> {
+    match Document::read(alloc, text)?.into_table() {
+        Ok(table) => Ok(Meaning::Own(table)),
+        Err(_) => Ok(Meaning::Nothing),
+    }
+}
+
+/// Returns what the text of a part means.
+fn meaning_of(alloc: Global, part: InputPart<'_>) -> Result<Meaning<'_>, AllocError> {
+    match part.document {
+        Some(document) => match document.table() {
+            Ok(table) => Ok(Meaning::Lent(table)),
+            Err(_) => Ok(Meaning::Nothing),
+        },
+        None => parsed(alloc, part.text),
     }
 }
 
@@ -82,9 +99,18 @@ fn text_after<'p>(line: Option<&'p KeyLine<'p>>) -> &'p [u8] {
 }
 
 impl<'a> NetworkFile<'a> {
+    /// Returns the table of its text, if that is TOML and was parsed.
+    pub(crate) fn table(&self) -> Option<&Table> {
+        match &self.meaning {
+            Meaning::Lent(table) => Some(*table),
+            Meaning::Own(table) => Some(table),
+            Meaning::Nothing => None,
+        }
+    }
+
     /// Returns the value at a key of the top level.
     pub(crate) fn get(&self, key: &str) -> Option<&Value> {
-        match &self.table {
+        match self.table() {
             Some(table) => table.get(key),
             None => None,
         }
@@ -126,11 +152,11 @@ impl<'a> NetworkFile<'a> {
 
 /// Returns a file of a plan, read.
 fn network_file(alloc: Global, part: InputPart<'_>) -> Result<NetworkFile<'_>, AllocError> {
-    let table = table_of(alloc, part.text)?;
+    let meaning = meaning_of(alloc, part)?;
     let outline = outline_of(alloc, part.text, part.before)?;
     Ok(NetworkFile {
         part,
-        table,
+        meaning,
         outline,
     })
 }
@@ -224,7 +250,7 @@ impl<'a> WrittenNetwork<'a> {
         for part in parts {
             files.push(NetworkFile {
                 part: *part,
-                table: None,
+                meaning: Meaning::Nothing,
                 outline: outline_of(alloc, &[], 0)?,
             })?;
         }

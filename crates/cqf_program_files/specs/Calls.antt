@@ -1,12 +1,25 @@
--- The script that is made from a file of calls, and that the program reads.
-use Rattle.std.specs.Prelude.{ℕ, ◌≡◌, ◌==◌, ◌&&◌, ◌+◌, ◌-◌, Bool, true, List, [], ◌∷◌, ◌++◌, Option, Some, None, codes, if◌then◌else◌, is_some}
+-- The script that a file of calls means, and its calls.
+use Rattle.std.specs.Prelude.{ℕ, ◌≡◌, ◌≢◌, ◌≤◌, ◌==◌, ◌&&◌, ◌+◌, ◌-◌, All, Bool, true, List, [], ◌∷◌, ◌++◌, Option, Some, None, Result, Ok, Err}
+use Rattle.std.specs.Prelude.{codes, if◌then◌else◌, is_some}
 use Rattle.std.specs.Prelude.{length, map, max, min, nat_eq, nat_le, nat_lt, replicate, take}
-use Rattle.std.specs.List.{ends_with, flat_map}
+use Rattle.std.specs.List.{ends_with}
 use Rattle.cqf_text.specs.Decimal.{decimal_in}
 use Rattle.cqf_text.specs.Lines.{lines_of}
-use Rattle.cqf_output.specs.Stops.{line_of}
+use Rattle.cqf_lists.specs.Results.{and_then}
+use Rattle.cqf_model.specs.History.{Asked}
+use Rattle.cqf_model.specs.Limits.{most_calls}
+use Rattle.cqf_topology.specs.Fields.{and_first}
+use Rattle.cqf_admission.specs.Asking.{asked_paced}
 use Rattle.cqf_admission.specs.Lines.{is_seal_line, order_of_line}
-use Rattle.cqf_program_files.specs.declared.calls.CallsScript.{CallsScript}
+use Rattle.cqf_admission.specs.Orders.{StandsIn, ordered_in}
+use Rattle.cqf_admission.specs.Script.{Called, administrators, call_of_line, called_after, sealed_after}
+use Rattle.cqf_admission.specs.declared.faults.ScriptFault.{ScriptFault}
+use Rattle.cqf_admission.specs.declared.faults.ScriptFault.TheVariants.{Memory}
+use Rattle.cqf_admission.specs.declared.orders.Ordered.{Ordered}
+use Rattle.cqf_program_files.specs.declared.calls.CallsReader.{CallsReader}
+use Rattle.cqf_program_files.specs.declared.calls.LineMeaning.{LineMeaning}
+use Rattle.cqf_program_files.specs.declared.calls.LineMeaning.TheVariants as meaning
+use Rattle.cqf_program_files.specs.declared.calls.OrdersSoFar.{OrdersSoFar}
 
 -- a line without the carriage return before its line feed
 abbrev pub bare : List ℕ → List ℕ
@@ -69,14 +82,50 @@ script_lines cycles number reached (line ∷ lines) =
 abbrev pub script_of_calls : ℕ → List ℕ → List (ℕ × List ℕ)
 script_of_calls cycles text = script_lines cycles 1 0 (lines_of text)
 
--- its text, and the numbers
-abbrev pub text_of_script : List (ℕ × List ℕ) → List ℕ
-text_of_script lines = flat_map (λ line. line_of line.1) lines
+-- the lines of the script for a line of the file that means some Seals, or itself
+abbrev pub lines_meant : List ℕ → LineMeaning → List (List ℕ)
+lines_meant line (meaning.Seals count) = replicate count (codes "seal")
+lines_meant line meaning.Itself = line ∷ []
 
-abbrev pub numbers_of_script : List (ℕ × List ℕ) → List ℕ
-numbers_of_script lines = map (λ line. line.0) lines
+-- the number of administrators: the seat of the Seals
+abbrev pub administrators_of : List (ℕ × List ℕ) → ℕ
+administrators_of lines = administrators (map (λ line. line.1) lines)
 
--- lines were appended to a script, with their numbers
-pub record HasPut (old new : CallsScript) (lines : List (ℕ × List ℕ)) : Type 0 where
-  pub text : new.text.items ≡ old.text.items ++ text_of_script lines
-  pub numbers : new.numbers.items ≡ old.numbers.items ++ numbers_of_script lines
+-- the calls of numbered lines, after `sealed` Seals and `called` other calls; or the fault of the first line with a fault, at the file's line
+abbrev pub calls_numbered : List Asked → ℕ → ℕ → ℕ → ℕ → List (ℕ × List ℕ) → Result (List Called) ScriptFault
+calls_numbered requests seat cycles sealed called [] = Ok []
+calls_numbered requests seat cycles sealed called (line ∷ lines) =
+    and_first (call_of_line requests seat cycles line.0 sealed called line.1)
+    (calls_numbered requests seat cycles (sealed_after sealed line.1) (called_after called line.1) lines)
+
+-- the calls of a file of calls for this number of cycles, given the streams that may be admitted; or its first fault
+abbrev pub calls_of_lines : List Asked → ℕ → List (ℕ × List ℕ) → Result (List Called) ScriptFault
+calls_of_lines requests cycles lines = calls_numbered requests (administrators_of lines) cycles 0 0 lines
+
+abbrev pub calls_of_file : List Asked → ℕ → List ℕ → Result (List Called) ScriptFault
+calls_of_file requests cycles text = calls_of_lines requests cycles (script_of_calls cycles text)
+
+-- the streams that may be admitted
+abbrev pub asked_by_reader : CallsReader → List Asked
+asked_by_reader reader = map asked_paced reader.names.now
+
+-- the calls of lines that follow the orders so far
+abbrev pub calls_after : CallsReader → OrdersSoFar → List (ℕ × List ℕ) → Result (List Called) ScriptFault
+calls_after reader found lines = calls_numbered (asked_by_reader reader) reader.seat reader.cycles found.sealed found.called lines
+
+-- the Seals among the orders so far are no more than the cycles, and the others no more than a script may have
+pub record AreCounted (cycles : ℕ) (found : OrdersSoFar) : Type 0 where
+  pub seals : found.sealed ≤ cycles
+  pub others : found.called ≤ most_calls
+
+-- the orders of these lines of a text were appended: with any lines after them, the calls of all are those of the new orders and the rest
+pub record HasOrdered (reader : CallsReader) (text : List ℕ) (lines : List (ℕ × List ℕ)) (old new : OrdersSoFar) : Type 0 where
+  pub more : List Ordered
+  pub put : new.orders.items ≡ old.orders.items ++ more
+  pub stand : All (λ (ordered : Ordered). StandsIn (asked_by_reader reader) text ordered.what) more
+  pub read : (rest : List (ℕ × List ℕ)) → calls_after reader old (lines ++ rest)
+      ≡ and_then (calls_after reader new rest) (λ calls. Ok (map (ordered_in (asked_by_reader reader) text) more ++ calls))
+
+-- one of these lines has a fault, the first of the lines after the orders so far
+abbrev pub IsFaultAt : CallsReader → List (ℕ × List ℕ) → OrdersSoFar → ScriptFault → Type 0
+IsFaultAt reader lines old fault = fault ≢ Memory → (rest : List (ℕ × List ℕ)) → calls_after reader old (lines ++ rest) ≡ Err fault

@@ -151,10 +151,11 @@ files_fault_line it = fault_line (part_of_fault it) (files_fault_text it)
 abbrev pub files_line : List ℕ → List ℕ
 files_line text = fault_line (codes "plant") text
 
+abbrev pub strange_line : Option (List ℕ) → Option (List ℕ)
+strange_line found = option_map (λ key. files_line (unknown_text (shown_key key))) found
+
 abbrev pub texts_refusal : List (List ℕ) → Option (List ℕ)
-texts_refusal texts =
-    option_or (option_map (λ line. files_line (long_text line)) (first_long_among texts))
-    (option_map (λ key. files_line (unknown_text (shown_key key))) (first_strange_among texts))
+texts_refusal texts = option_or (option_map (λ line. files_line (long_text line)) (first_long_among texts)) (strange_line (first_strange_among texts))
 
 -- a first text is that of a domain or a plan by itself, though its name doesn't say so: no line divides it. The octets of its lines don't
 -- count
@@ -163,8 +164,11 @@ is_plain name text = not (is_toml name) && is_undivided text
 
 abbrev pub plain_fault : List ℕ → Option (List ℕ)
 plain_fault text =
-    option_or (option_map (λ line. files_line (long_text line)) (first_long_line false text))
-    (option_map (λ key. files_line (unknown_text (shown_key key))) (strange_in text))
+    option_or (option_map (λ line. files_line (long_text line)) (first_long_line false text)) (strange_line (strange_in text))
+
+abbrev pub plain_text : List (List ℕ) → List (List ℕ) → Option (List ℕ)
+plain_text (name ∷ names) (text ∷ texts) = if is_plain name text then Some text else None
+plain_text names texts = None
 
 abbrev pub first_refusal : List (List ℕ) → List (List ℕ) → Option (List ℕ)
 first_refusal (name ∷ names) (text ∷ texts) = if is_plain name text then plain_fault text else None
@@ -183,8 +187,11 @@ joint_refusal None = Some not_toml_line
 joint_refusal (Some tables) = tables_refusal tables
 
 -- the line of the first fault of a plan's files, if there is one
+abbrev pub several_by : Bool → List (List ℕ) → Option (List ℕ)
+several_by several texts = if several then joint_refusal (tables_of texts) else None
+
 abbrev pub several_refusal : List (List ℕ) → List (List ℕ) → Option (List ℕ)
-several_refusal names texts = if are_several names then joint_refusal (tables_of (take (leading names) texts)) else None
+several_refusal names texts = several_by (are_several names) (take (leading names) texts)
 
 abbrev pub files_refusal : List (List ℕ) → List (List ℕ) → Option (List ℕ)
 files_refusal names texts = option_or (texts_refusal (toml_texts names texts)) (option_or (first_refusal names texts) (several_refusal names texts))
@@ -238,6 +245,19 @@ IsJointText true texts (Some text) = IsNetworkText texts text
 pub record IsCheckedJoint (names texts : List (List ℕ)) (joint : Option (List ℕ)) : Type 0 where
   pub sound : files_refusal names texts ≡ None
   pub text : IsJointText (are_several names) (take (leading names) texts) joint
+
+-- those of a network's texts that are its files: as many of the TOML files as come first, or where there are none, the plain one
+abbrev pub list_of : Option (List ℕ) → List (List ℕ)
+list_of None = []
+list_of (Some text) = text ∷ []
+
+abbrev pub documents_by : ℕ → List (List ℕ) → Option (List ℕ) → List (List ℕ)
+documents_by count texts plain = if nat_lt 0 count then take count texts else list_of plain
+
+-- several texts of one network, if there are several, are refused, or have a date that no text writes
+abbrev pub EndsSeveral : Bool → List (List ℕ) → Stop → Type 0
+EndsSeveral several texts = EndsFor (λ line. (several_by several texts ≡ Some line)
+    ⊎ ((several_by several texts ≡ None) × (several ≡ true) × IsUnwritable texts line))
 
 -- the files are refused by the line of the first fault; or several are one plan with a date that no text writes
 abbrev pub EndsFiles : List (List ℕ) → List (List ℕ) → Stop → Type 0

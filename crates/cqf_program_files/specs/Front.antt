@@ -1,7 +1,6 @@
 -- The input that the program reads, made from the texts of files for a job.
-use Rattle.std.specs.Prelude.{ℕ, ◌≡◌, ◌⊎◌, ◌==◌, ◌-◌, ◌&&◌, ◌||◌, Bool, true, false, nat_eq, nat_le, not, List, [], ◌∷◌, Option, Some, None, Vec, codes, drop, if◌then◌else◌, is_some, length, option_and_then, option_map}
+use Rattle.std.specs.Prelude.{ℕ, ◌≡◌, ◌⊎◌, ◌==◌, ◌-◌, ◌&&◌, ◌||◌, Bool, true, false, nat_eq, nat_le, not, List, [], ◌∷◌, Option, Some, None, codes, drop, if◌then◌else◌, is_some, length}
 use Rattle.std.specs.Option.{option_or}
-use Rattle.std.specs.declared.alloc.Global.{Global}
 use Rattle.cqf_output.specs.Stops.{fault_line}
 use Rattle.cqf_output.specs.declared.stops.Stop.{Stop}
 use Rattle.cqf_program_words.specs.declared.words.Job.{Job}
@@ -9,8 +8,8 @@ use Rattle.cqf_program_words.specs.declared.words.Job.TheVariants as job
 use Rattle.cqf_program_words.specs.Composing.{composed_of, is_network, is_undivided}
 use Rattle.cqf_program_words.specs.Words.{takes_domain}
 use Rattle.cqf_program_files.specs.declared.front.Front.{Front}
-use Rattle.cqf_program_files.specs.Calls.{numbers_of_script, script_of_calls, text_of_script}
-use Rattle.cqf_program_files.specs.Opening.{closed_refusal}
+use Rattle.cqf_program_files.specs.declared.front.Gathered.{Gathered}
+use Rattle.cqf_program_files.specs.Opening.{closed_refusal, documents_for}
 use Rattle.cqf_program_files.specs.Files.{EndsBy, EndsFor, EndsFiles, alone_refusal, IsCheckedJoint, leading}
 
 -- the cycles of a job that reads a script
@@ -46,42 +45,34 @@ abbrev pub begins_as_offers : List ℕ → Bool
 begins_as_offers [] = false
 begins_as_offers (first ∷ more) = not (is_mark first) && has_fields (not (is_digit first)) (first ∷ more)
 
--- the script of the file of calls, if there is one: the file directly follows a plan, no line divides it, and it isn't a table of offers
-abbrev pub called_script : Job → List (List ℕ) → List ℕ → List ℕ → ℕ → Option (List (ℕ × List ℕ))
-called_script it names first second cycles =
-    if is_network it names first && (is_undivided second && not (begins_as_offers second)) then Some (script_of_calls cycles second) else None
+-- the second text is a file of calls: it directly follows a plan, no line divides it, and it isn't a table of offers
+abbrev pub is_of_calls : Job → List (List ℕ) → List ℕ → List ℕ → Bool
+is_of_calls it names first second = is_network it names first && (is_undivided second && not (begins_as_offers second))
 
-abbrev pub script_at : Job → List (List ℕ) → List ℕ → List (List ℕ) → Option (List (ℕ × List ℕ))
-script_at it names first [] = None
-script_at it names first (second ∷ more) = option_and_then (called_script it names first second) (cycles_of it)
+-- a file of calls follows the first text, for a job that reads a script
+abbrev pub has_calls : Job → List (List ℕ) → List ℕ → List (List ℕ) → Bool
+has_calls it names first [] = false
+has_calls it names first (second ∷ more) = is_some (cycles_of it) && is_of_calls it names first second
 
--- the texts after the first, with that file replaced by its script
-abbrev pub with_first : List (List ℕ) → List ℕ → List (List ℕ)
-with_first [] script = []
-with_first (second ∷ more) script = script ∷ more
+-- the input that is made from a first text and others after it, and whether its third part is a file of calls
+pub record IsGathered (it : Job) (names : List (List ℕ)) (first : List ℕ) (rest : List (List ℕ)) (made : Gathered) : Type 0 where
+  pub input : made.input.items ≡ composed_of it names (first ∷ rest)
+  pub calls : made.has_calls ≡ has_calls it names first rest
 
-abbrev pub called_texts : List (List ℕ) → Option (List (ℕ × List ℕ)) → List (List ℕ)
-called_texts texts None = texts
-called_texts texts (Some script) = with_first texts (text_of_script script)
-
--- a script's text and its numbers
-abbrev pub parts_of_script : List (ℕ × List ℕ) → List ℕ × List ℕ
-parts_of_script lines = (text_of_script lines, numbers_of_script lines)
-
--- the input and the line numbers that are made from a first text and others after it
-pub record IsGathered (it : Job) (names : List (List ℕ)) (first : List ℕ) (rest : List (List ℕ)) (front : Front) : Type 0 where
-  pub input : front.input.items ≡ composed_of it names (first ∷ called_texts rest (script_at it names first rest))
-  pub numbers : option_map (λ (numbers : Vec ℕ Global). numbers.items) front.numbers ≡ option_map numbers_of_script (script_at it names first rest)
+-- no texts make an empty input
+pub record IsNothing (made : Gathered) : Type 0 where
+  pub input : made.input.items ≡ []
+  pub calls : made.has_calls ≡ false
 
 -- if the first names are those of one plan, it has the last of these names
 abbrev pub joint_names : List (List ℕ) → List (List ℕ)
 joint_names names = drop (leading names - 1) names
 
--- the input that is made from texts; the first of them are those of one plan with this text, if there is one. No texts make an empty input
-abbrev pub IsGatheredWith : Job → List (List ℕ) → List (List ℕ) → Option (List ℕ) → Front → Type 0
-IsGatheredWith it names texts (Some joint) front = IsGathered it (joint_names names) joint (drop (leading names) texts) front
-IsGatheredWith it names (first ∷ rest) None front = IsGathered it names first rest front
-IsGatheredWith it names [] None front = front.input.items ≡ []
+-- the input that is made from texts; the first of them are those of one plan with this text, if there is one
+abbrev pub IsGatheredWith : Job → List (List ℕ) → List (List ℕ) → Option (List ℕ) → Gathered → Type 0
+IsGatheredWith it names texts (Some joint) made = IsGathered it (joint_names names) joint (drop (leading names) texts) made
+IsGatheredWith it names (first ∷ rest) None made = IsGathered it names first rest made
+IsGatheredWith it names [] None made = IsNothing made
 
 -- an empty text is the only one after a plan, of a job that reads a script: it is a text of offers that lacks their header
 abbrev pub lacks_header : Job → List (List ℕ) → List ℕ → List (List ℕ) → Bool
@@ -109,14 +100,19 @@ abbrev pub compared_refusal : Job → List (List ℕ) → List (List ℕ) → Op
 compared_refusal (job.Diff quiet) names texts = pair_refusal names texts
 compared_refusal other names texts = None
 
--- the input that is made from files for a job
+-- what is gathered in a front
+abbrev pub gathered_in : Front → Gathered
+gathered_in front = record { input = front.input; has_calls = front.has_calls }
+
+-- the input that is made from files for a job, and the network's texts, which were parsed
 pub record IsFrontOf (it : Job) (names texts : List (List ℕ)) (front : Front) : Type 0 where
   pub joint : Option (List ℕ)
   pub is_joint : IsJointFor (takes_domain it) names texts joint
   pub compared : compared_refusal it names texts ≡ None
   pub none_open : closed_refusal it names texts ≡ None
   pub headed : is_headless it names texts joint ≡ false
-  pub gathered : IsGatheredWith it names texts joint front
+  pub gathered : IsGatheredWith it names texts joint (gathered_in front)
+  pub documents : front.documents.items ≡ documents_for (takes_domain it) names texts
 
 -- the end if a plan's files are refused: only those of a job that takes a domain are; for any other job an allocation failed
 abbrev pub EndsJoint : Bool → List (List ℕ) → List (List ℕ) → Stop → Type 0

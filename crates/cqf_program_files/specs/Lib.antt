@@ -3,5 +3,4 @@ pub mod Keys
 pub mod Files
 pub mod Calls
 pub mod Front
-pub mod Numbers
 pub mod Opening

@@ -72,9 +72,10 @@ count_of_network names texts = if nat_lt 0 (leading names) then leading names el
 abbrev pub network_texts : List (List ℕ) → List (List ℕ) → List (List ℕ)
 network_texts names texts = take (count_of_network names texts) texts
 
--- the line of what is open first in these, if each is TOML
-abbrev pub open_refusal_of : List (List ℕ) → List (List ℕ) → Option (List ℕ)
-open_refusal_of names texts = option_and_then open_refusal (tables_of (network_texts names texts))
+-- the texts that are parsed for a job: those of a network, if it takes a domain
+abbrev pub documents_for : Bool → List (List ℕ) → List (List ℕ) → List (List ℕ)
+documents_for true names texts = network_texts names texts
+documents_for false names texts = []
 
 -- a job for which nothing may be open: it takes a domain, and isn't `plan`
 abbrev pub is_plan : Job → Bool
@@ -84,5 +85,8 @@ is_plan other = false
 abbrev pub takes_closed : Job → Bool
 takes_closed it = takes_domain it && not (is_plan it)
 
+abbrev pub closed_by : Bool → List (List ℕ) → Option (List ℕ)
+closed_by closed texts = if closed then option_and_then open_refusal (tables_of texts) else None
+
 abbrev pub closed_refusal : Job → List (List ℕ) → List (List ℕ) → Option (List ℕ)
-closed_refusal it names texts = if takes_closed it then open_refusal_of names texts else None
+closed_refusal it names texts = closed_by (takes_closed it) (network_texts names texts)

@@ -1,18 +1,27 @@
-//! Files of calls.
-ghost use Rattle.std.specs.Prelude.{◌≡◌, ◌+◌, ◌≤◌, ◌^◌, ◌∷◌, [], IfOk, OnOk, codes, replicate};
-ghost use Rattle.cqf_program_files.specs.Calls.{HasPut, bare, cycle_written, is_silent, last_written, lines_called, lines_for, lines_written, numbered};
-ghost use Rattle.cqf_program_files.specs.Calls.{numbers_of_script, reached_after, script_of_calls, seals_between, text_of_script, written_after};
+//! The orders of a file of calls.
+ghost use Rattle.std.specs.Prelude.{ℕ, ◌≡◌, ◌≤◌, ◌<◌, ◌+◌, ◌++◌, ◌^◌, ◌∷◌, [], All, IfErr, IfOk, List, None, OnOk, codes, length, map, replicate};
+ghost use Rattle.cqf_topology.specs.Fields.{Gives};
+ghost use Rattle.cqf_admission.specs.Asking.{asked_paced};
+ghost use Rattle.cqf_admission.specs.Orders.{StandsIn, ordered_in};
+ghost use Rattle.cqf_admission.specs.Placed.{LineEnds};
+ghost use Rattle.cqf_admission.specs.Script.{AreFew, administrators, called_after, sealed_after};
+ghost use Rattle.cqf_admission.specs.declared.orders.Ordered.{Ordered as AnOrdered};
+ghost use Rattle.cqf_program_files.specs.Calls.{AreCounted, HasOrdered, IsFaultAt, administrators_of, bare, calls_of_file, cycle_written, is_silent, last_written};
+ghost use Rattle.cqf_program_files.specs.Calls.{lines_called, lines_for, lines_meant, numbered, reached_after, script_of_calls, seals_between, written_after};
 
-use cqf_admission::{is_order, is_seal_line};
+use cqf_admission::{
+    Names, Ordered, ScriptFault, ScriptPosition, is_order, is_seal_line, place_line, place_seal,
+    seats_up_to,
+};
 use cqf_text::{read_decimal, split_line};
-use cqf_units::Memory;
 use std::alloc::Global;
 
-/// The script that is made from a file of calls, with the number of the file's line for each of its lines.
+/// The orders of a file of calls, and the seat of the Seals that follow them.
 #[derive(Debug, Drop)]
-pub struct CallsScript {
-    pub(crate) text: Vec<u8>,
-    pub(crate) numbers: Vec<u64>,
+pub struct CallsRead {
+    /// Each order refers to what it names by the index of a request or by a position in the file's text.
+    pub orders: Vec<Ordered>,
+    pub sealer: u16,
 }
 
 /// The last cycle that a line may state; cycles are counted up to it.
@@ -81,72 +90,11 @@ fn written_after(reached: u64, reported: Option<u64>) -> u64
     }
 }
 
-impl CallsScript {
-    /// Appends a line for the file's line of this number. Returns `Memory` if an allocation fails.
-    fn put(&mut self, number: u64, line: &[u8]) -> Result<(), Memory>
-        ensures { OnOk result (HasPut self.old self.new ((number, line.now) ∷ [])) }
-    {
-        self.text.extend_from_slice(line)?;
-        self.text.push(b'\n')?;
-        self.numbers.push(number)?;
-        Ok(())
-    }
-
-    /// Appends `count` Seals. Returns `Memory` if an allocation fails.
-    fn put_seals(&mut self, number: u64, count: u64) -> Result<(), Memory>
-        ensures { OnOk result (HasPut self.old self.new (numbered number (replicate count (codes "seal")))) }
-    {
-        for _seal in 0..count {
-            self.put(number, b"seal")?;
-        }
-        Ok(())
-    }
-
-    /// Appends the lines for a line that states a cycle. Returns `Memory` if an allocation fails.
-    fn put_written(
-        &mut self,
-        position: CallsPosition,
-        line: &[u8],
-        cycle: u64,
-    ) -> Result<(), Memory>
-        ensures { OnOk result (HasPut self.old self.new (numbered position.number (lines_written position.cycles position.reached line.now cycle))) }
-    {
-        if cycle < position.reached {
-            return self.put(position.number, line);
-        }
-        self.put_seals(
-            position.number,
-            seals_between(position.cycles, position.reached, cycle),
-        )
-    }
-
-    /// Appends the lines for a line that is neither a Seal nor states a cycle. Returns `Memory` if an allocation fails.
-    fn put_called(&mut self, position: CallsPosition, line: &[u8]) -> Result<(), Memory>
-        ensures { OnOk result (HasPut self.old self.new (numbered position.number (lines_called position.cycles position.reached line.now))) }
-    {
-        if position.cycles <= position.reached && is_order(line) {
-            return Ok(());
-        }
-        self.put(position.number, line)
-    }
-
-    /// Appends the lines for a line. Returns `Memory` if an allocation fails.
-    fn put_for(&mut self, position: CallsPosition, line: &[u8]) -> Result<(), Memory>
-        requires { position.reached ≤ last_written }
-        ensures { OnOk result (HasPut self.old self.new (numbered position.number (lines_for position.cycles position.reached line.now))) }
-    {
-        if is_silent(line) {
-            return Ok(());
-        }
-        if is_seal_line(line) {
-            let count = seals_between(position.cycles, position.reached, position.reached + 1);
-            return self.put_seals(position.number, count);
-        }
-        match cycle_written(line) {
-            None => self.put_called(position, line),
-            Some(cycle) => self.put_written(position, line, cycle),
-        }
-    }
+/// What a line of the file means for the script: some Seals, or the line itself.
+#[derive(Clone, Copy, Debug, PartialEq, Eq)]
+pub(crate) enum LineMeaning {
+    Seals(u64),
+    Itself,
 }
 
 /// The position of a line: its number, from 1, the cycle that is reached before it, and how many cycles are run.
@@ -158,6 +106,19 @@ struct CallsPosition {
 }
 
 impl CallsPosition {
+    /// Returns the position of the first line of a file, for a run of `cycles` cycles.
+    fn first(cycles: u32) -> CallsPosition
+        ensures cycles { result.cycles ≡ cycles }
+        ensures number { result.number ≡ 1 }
+        ensures reached { result.reached ≡ 0 }
+    {
+        CallsPosition {
+            cycles: u64::from(cycles),
+            number: 1,
+            reached: 0,
+        }
+    }
+
     /// Returns the position of the next line.
     fn following(self, line: &[u8]) -> CallsPosition
         requires number { self.number ≤ 2 ^ 63 }
@@ -173,36 +134,234 @@ impl CallsPosition {
             reached: reached_after(self.reached, line),
         }
     }
+
+    /// Returns how many Seals there are before a cycle.
+    fn seals_before(self, cycle: u64) -> LineMeaning
+        ensures { result ≡ LineMeaning.Seals (seals_between self.cycles self.reached cycle) }
+    {
+        LineMeaning::Seals(seals_between(self.cycles, self.reached, cycle))
+    }
+
+    /// Returns what a line means that is neither a Seal nor states a cycle.
+    fn meaning_of_call(self, line: &[u8]) -> LineMeaning
+        requires { cycle_written line.now ≡ None }
+        ensures { lines_meant line.now result ≡ lines_called self.cycles self.reached line.now }
+    {
+        if self.cycles <= self.reached && is_order(line) {
+            return LineMeaning::Seals(0);
+        }
+        LineMeaning::Itself
+    }
+
+    /// Returns what a line means for the script.
+    fn meaning_of(self, line: &[u8]) -> LineMeaning
+        requires { self.reached ≤ last_written }
+        ensures { lines_meant line.now result ≡ lines_for self.cycles self.reached line.now }
+    {
+        if is_silent(line) {
+            return LineMeaning::Seals(0);
+        }
+        if is_seal_line(line) {
+            return self.seals_before(self.reached + 1);
+        }
+        match cycle_written(line) {
+            None => self.meaning_of_call(line),
+            Some(cycle) if cycle < self.reached => LineMeaning::Itself,
+            Some(cycle) => self.seals_before(cycle),
+        }
+    }
 }
 
-/// Returns the script that is made from a file of calls, for a run of `cycles` cycles.
-///
-/// Empty lines and those that begin with `#` are left out, and so is a carriage return before a line feed. `@N` alone on a line says that
-/// the following calls are made in cycle N; it is replaced by as many Seals as that takes. Seals and calls of cycles that aren't run are
-/// left out. Every other line is left unchanged, even one that no script may have, such as `@N` if N is before the cycle reached. Time and
-/// memory grow with the text and the cycles.
-///
-/// # Errors
-/// If an allocation fails.
-pub fn script_of_calls(alloc: Global, cycles: u32, text: &[u8]) -> Result<CallsScript, Memory>
-    ensures text { IfOk result (λ script. script.text.items ≡ text_of_script (script_of_calls cycles text.now)) }
-    ensures numbers { IfOk result (λ script. script.numbers.items ≡ numbers_of_script (script_of_calls cycles text.now)) }
+/// Returns how many administrators a line adds that means this for the script, as [`seats_up_to`] does.
+fn seats_of(meaning: LineMeaning, line: &[u8]) -> u16
+    ensures value { result ≡ administrators (lines_meant line.now meaning) }
+    ensures small { result ≤ 8 }
 {
-    let mut script = CallsScript {
-        text: Vec::new(alloc),
-        numbers: Vec::new(alloc),
-    };
-    let mut position = CallsPosition {
-        cycles: u64::from(cycles),
-        number: 1,
-        reached: 0,
-    };
+    match meaning {
+        LineMeaning::Seals(_) => 0,
+        LineMeaning::Itself => seats_up_to(line),
+    }
+}
+
+/// Returns the seat of the Seals in a file of calls: the number of administrators.
+fn sealer_of(cycles: u32, text: &[u8]) -> u16
+    ensures { result ≡ administrators_of (script_of_calls cycles text.now) }
+{
+    let mut position = CallsPosition::first(cycles);
+    let mut most: u16 = 0;
     let mut left = text;
     while let Some((line, following)) = split_line(left) {
         let line = bare(line);
-        script.put_for(position, line)?;
+        most = most.max(seats_of(position.meaning_of(line), line));
         position = position.following(line);
         left = following;
     }
-    Ok(script)
+    most
+}
+
+/// What the orders of a file are read by: the names that may be admitted, the seat of the Seals, and how many cycles are run.
+#[derive(Clone, Copy)]
+pub(crate) struct CallsReader<'r> {
+    pub names: &'r Names<'r>,
+    pub seat: u16,
+    pub cycles: u32,
+}
+
+/// The orders of the lines so far, and how many of them are Seals.
+#[derive(Debug, Drop)]
+pub(crate) struct OrdersSoFar {
+    pub orders: Vec<Ordered>,
+    pub sealed: u64,
+    pub called: u64,
+}
+
+impl OrdersSoFar {
+    /// Returns the position of the next line of the script, which is made from the file's line with this number.
+    fn position(&self, number: u64) -> ScriptPosition
+        ensures line { result.line ≡ number }
+        ensures sealed { result.sealed ≡ self.now.sealed }
+        ensures called { result.called ≡ self.now.called }
+    {
+        ScriptPosition {
+            line: number,
+            sealed: self.sealed,
+            called: self.called,
+        }
+    }
+
+    /// Appends an order, which is that of a line.
+    fn put(&mut self, order: Ordered, line: &[u8]) -> Result<(), ScriptFault>
+        requires { self.old.sealed + self.old.called + 1 < 2 ^ 64 }
+        ensures orders { OnOk result (self.new.orders.items ≡ self.old.orders.items ++ order ∷ []) }
+        ensures sealed { OnOk result (self.new.sealed ≡ sealed_after self.old.sealed line.now) }
+        ensures called { OnOk result (self.new.called ≡ called_after self.old.called line.now) }
+        ensures err { IfErr result (λ fault. fault ≡ ScriptFault.Memory) }
+    {
+        let after = self.position(0).next_at(0, line);
+        self.orders.push(order)?;
+        self.sealed = after.sealed;
+        self.called = after.called;
+        Ok(())
+    }
+
+    /// Appends `count` Seals, which are made from the file's line with this number. Returns `Err` with the fault of the first that has one.
+    fn put_seals(
+        &mut self,
+        reader: CallsReader<'_>,
+        number: u64,
+        count: u64,
+    ) -> Result<(), ScriptFault>
+        requires { AreCounted reader.entry.cycles self.old }
+        ensures ok { (text : List ℕ) → OnOk result (HasOrdered reader.entry text (numbered number (replicate count (codes "seal"))) self.old self.new) }
+        ensures counted { OnOk result (AreCounted reader.entry.cycles self.new) }
+        ensures err { (text : List ℕ) → IfErr result (IsFaultAt reader.entry (numbered number (replicate count (codes "seal"))) self.old) }
+    {
+        for _seal in 0..count {
+            let order = match place_seal(reader.seat, reader.cycles, self.position(number)) {
+                Ok(order) => order,
+                Err(fault) => return Err(fault),
+            };
+            self.put(order, b"seal")?;
+        }
+        Ok(())
+    }
+
+    /// Appends the order of the file's line with this number, which ends at index `end` of the file's text. Returns `Err` with its fault.
+    fn put_line(
+        &mut self,
+        reader: CallsReader<'_>,
+        number: u64,
+        end: usize,
+        line: &[u8],
+    ) -> Result<(), ScriptFault>
+        requires counted { AreCounted reader.entry.cycles self.old }
+        requires long { length line.now ≤ end }
+        ensures ok { (text : List ℕ) → LineEnds text end line.now → OnOk result (HasOrdered reader.entry text ((number, line.now) ∷ []) self.old self.new) }
+        ensures counted { OnOk result (AreCounted reader.entry.cycles self.new) }
+        ensures err { (text : List ℕ) → LineEnds text end line.now → IfErr result (IsFaultAt reader.entry ((number, line.now) ∷ []) self.old) }
+    {
+        let position = self.position(number);
+        let order = match place_line(
+            reader.names,
+            reader.seat,
+            reader.cycles,
+            position,
+            end,
+            line,
+        ) {
+            Ok(order) => order,
+            Err(fault) => return Err(fault),
+        };
+        self.put(order, line)
+    }
+
+    /// Appends the orders of a line of the file, which ends at index `end` of the file's text. Returns `Err` with the line's fault.
+    fn put_for(
+        &mut self,
+        reader: CallsReader<'_>,
+        position: CallsPosition,
+        end: usize,
+        line: &[u8],
+    ) -> Result<(), ScriptFault>
+        requires counted { AreCounted reader.entry.cycles self.old }
+        requires reached { position.reached ≤ last_written }
+        requires long { length line.now ≤ end }
+        ensures ok { (text : List ℕ) → LineEnds text end line.now →
+            OnOk result (HasOrdered reader.entry text (numbered position.number (lines_for position.cycles position.reached line.now)) self.old self.new) }
+        ensures counted { OnOk result (AreCounted reader.entry.cycles self.new) }
+        ensures err { (text : List ℕ) → LineEnds text end line.now →
+            IfErr result (IsFaultAt reader.entry (numbered position.number (lines_for position.cycles position.reached line.now)) self.old) }
+    {
+        match position.meaning_of(line) {
+            LineMeaning::Seals(count) => self.put_seals(reader, position.number, count),
+            LineMeaning::Itself => self.put_line(reader, position.number, end, line),
+        }
+    }
+}
+
+/// Returns the orders of a file of calls, for a run of `cycles` cycles, if these are the names that may be admitted.
+///
+/// Empty lines and those that begin with `#` are left out, and so is a carriage return before a line feed. `@N` alone on a line says that
+/// the following calls are made in cycle N; it means as many Seals as that takes. Seals and calls of cycles that aren't run are left out.
+/// Every other line is read as a line of a script, even one that no script may have, such as `@N` if N is before the cycle reached. Time and
+/// memory grow with the text and the cycles.
+///
+/// # Errors
+/// The fault of the first line with a fault, as for [`cqf_admission::read_orders`], with the number of the file's line. `Memory` if an
+/// allocation fails.
+pub fn orders_of_calls(
+    alloc: Global,
+    names: &Names<'_>,
+    cycles: u32,
+    text: &[u8],
+) -> Result<CallsRead, ScriptFault>
+    ensures orders { Gives ScriptFault.Memory (λ read. map (ordered_in (map asked_paced names.now) text.now) read.orders.items) result
+        (calls_of_file (map asked_paced names.now) cycles text.now) }
+    ensures sealer { IfOk result (λ read. read.sealer ≡ administrators_of (script_of_calls cycles text.now)) }
+    ensures stand { IfOk result (λ read. All (λ (ordered : AnOrdered). StandsIn (map asked_paced names.now) text.now ordered.what) read.orders.items) }
+    ensures few { IfOk result (λ read. AreFew cycles (map (ordered_in (map asked_paced names.now) text.now) read.orders.items)) }
+{
+    let reader = CallsReader {
+        names,
+        seat: sealer_of(cycles, text),
+        cycles,
+    };
+    let mut found = OrdersSoFar {
+        orders: Vec::new(alloc),
+        sealed: 0,
+        called: 0,
+    };
+    let mut position = CallsPosition::first(cycles);
+    let mut left = text;
+    while let Some((line, following)) = split_line(left) {
+        let line = bare(line);
+        let end = text.len() - left.len() + line.len();
+        found.put_for(reader, position, end, line)?;
+        position = position.following(line);
+        left = following;
+    }
+    Ok(CallsRead {
+        orders: found.orders,
+        sealer: reader.seat,
+    })
 }

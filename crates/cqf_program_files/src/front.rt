@@ -1,28 +1,37 @@
 //! The input that is made from the texts of files.
-ghost use Rattle.std.specs.Prelude.{◌≡◌, ◌∷◌, IfOk, IfErr, OnOk, None, Some, false, length, map, option_map, string_bytes};
-ghost use Rattle.cqf_program_words.specs.Composing.{composed_of};
+ghost use Rattle.std.specs.Prelude.{◌≡◌, IfOk, IfErr, OnOk, None, false, length, map, option_map, string_bytes};
 ghost use Rattle.cqf_program_words.specs.Words.{takes_domain};
 ghost use Rattle.cqf_program_files.specs.Front.{EndsFront, EndsHeader, EndsJoint, IsFrontOf, IsGathered, IsGatheredWith, IsJointFor, begins_as_offers};
-ghost use Rattle.cqf_program_files.specs.Front.{called_script, compared_refusal, cycles_of, has_fields, is_between, is_digit, is_headless, is_mark, joint_names};
-ghost use Rattle.cqf_program_files.specs.Front.{lacks_header, pair_refusal, parts_of_script, script_at, with_first};
-ghost use Rattle.cqf_program_files.specs.Opening.{closed_refusal, takes_closed};
+ghost use Rattle.cqf_program_files.specs.Front.{compared_refusal, cycles_of, has_calls, has_fields, is_between, is_digit, is_headless, is_mark, is_of_calls};
+ghost use Rattle.cqf_program_files.specs.Front.{joint_names, lacks_header, pair_refusal};
+ghost use Rattle.cqf_program_files.specs.Opening.{closed_by, documents_for, takes_closed};
 ghost use Rattle.cqf_program_files.specs.Files.{EndsBy};
 
-use crate::calls::{CallsScript, script_of_calls};
-use crate::checking::{check_alone, check_joint, check_open, stop_of};
+use crate::checking::{NetworkFiles, check_alone, check_joint, check_open, stop_of};
 use crate::faults::FilesFault;
 use crate::joining::leading;
 use cqf_output::Stop;
-use cqf_program_words::{Job, composed_after, composed_between, is_network, is_undivided};
+use cqf_program_words::{Job, composed_after, is_network, is_undivided};
+use cqf_topology::Document;
 use cqf_units::Memory;
 use std::alloc::Global;
 
-/// The input that is made from the texts of files; and, if one of them is a file of calls, the number of its line for each line of the
-/// input's script.
-#[derive(Debug, Drop)]
-pub struct Front {
+/// The input that is made from the texts of files, and whether its third part is a file of calls.
+#[derive(Drop)]
+pub(crate) struct Gathered {
     pub input: Vec<u8>,
-    pub numbers: Option<Vec<u64>>,
+    pub has_calls: bool,
+}
+
+/// What is made from the texts of files.
+#[derive(Drop)]
+pub struct Front<'t> {
+    /// The input.
+    pub input: Vec<u8>,
+    /// Whether its third part is a file of calls, which [`orders_of_calls`](crate::orders_of_calls) reads, and not a script.
+    pub has_calls: bool,
+    /// The files of the network, each of them parsed; none if the job takes no domain.
+    pub documents: Vec<Document<'t>>,
 }
 
 /// Returns the cycles of a job that reads a script: of `run`, `report`, `deliveries`, `check`, `summary` and `hops`.
@@ -93,49 +102,42 @@ pub fn begins_as_offers(text: &[u8]) -> bool
     }
 }
 
-/// Returns the script of the second text, if it is a file of calls after a plan, and not a table of offers. Returns `Memory` if an
-/// allocation fails.
-fn called_script(
+/// Returns whether the second text is a file of calls: it follows a plan, no line divides it, and it isn't a table of offers. Returns
+/// `Memory` if an allocation fails.
+fn is_of_calls(
     alloc: Global,
     job: &Job,
     names: &[&str],
     first: &[u8],
     second: &[u8],
-    cycles: u32,
-) -> Result<Option<CallsScript>, Memory>
-    ensures { IfOk result (λ found. option_map (λ script. (script.text.items, script.numbers.items)) found
-        ≡ option_map parts_of_script (called_script job.now (map (λ name. name.now) names.now) first.now second.now cycles)) }
+) -> Result<bool, Memory>
+    ensures { IfOk result (λ called. called ≡ is_of_calls job.now (map (λ name. name.now) names.now) first.now second.now) }
 {
     if !is_network(alloc, job, names, first)? {
-        return Ok(None);
+        return Ok(false);
     }
     if !is_undivided(alloc, second)? {
-        return Ok(None);
+        return Ok(false);
     }
-    if begins_as_offers(second) {
-        return Ok(None);
-    }
-    let script = script_of_calls(alloc, cycles, second)?;
-    Ok(Some(script))
+    Ok(!begins_as_offers(second))
 }
 
-/// Returns the script of the file of calls, if there is one. Returns `Memory` if an allocation fails.
-fn script_at(
+/// Returns whether a file of calls follows the first text. Returns `Memory` if an allocation fails.
+fn has_calls(
     alloc: Global,
     job: &Job,
     names: &[&str],
     first: &[u8],
     rest: &[&[u8]],
-) -> Result<Option<CallsScript>, Memory>
-    ensures { IfOk result (λ found. option_map (λ script. (script.text.items, script.numbers.items)) found
-        ≡ option_map parts_of_script (script_at job.now (map (λ name. name.now) names.now) first.now (map (λ text. text.now) rest.now))) }
+) -> Result<bool, Memory>
+    ensures { IfOk result (λ called. called ≡ has_calls job.now (map (λ name. name.now) names.now) first.now (map (λ text. text.now) rest.now)) }
 {
-    let Some(cycles) = cycles_of(job) else {
-        return Ok(None);
-    };
+    if cycles_of(job).is_none() {
+        return Ok(false);
+    }
     match *rest {
-        [second, ..] => called_script(alloc, job, names, first, second, cycles),
-        [] => Ok(None),
+        [second, ..] => is_of_calls(alloc, job, names, first, second),
+        [] => Ok(false),
     }
 }
 
@@ -146,42 +148,14 @@ fn gathered(
     names: &[&str],
     first: &[u8],
     rest: &[&[u8]],
-) -> Result<Front, Memory>
+) -> Result<Gathered, Memory>
     ensures { IfOk result (IsGathered job.now (map (λ name. name.now) names.now) first.now (map (λ text. text.now) rest.now)) }
 {
-    match script_at(alloc, job, names, first, rest)? {
-        None => {
-            let input = composed_after(alloc, job, names, first, rest)?;
-            Ok(Front {
-                input,
-                numbers: None,
-            })
-        }
-        Some(script) => called(alloc, job, names, first, rest, script),
-    }
-}
-
-/// Returns the same with the text after the first replaced by a script. Returns `Memory` if an allocation fails.
-fn called(
-    alloc: Global,
-    job: &Job,
-    names: &[&str],
-    first: &[u8],
-    rest: &[&[u8]],
-    script: CallsScript,
-) -> Result<Front, Memory>
-    ensures input { IfOk result (λ front. front.input.items
-        ≡ composed_of job.now (map (λ name. name.now) names.now) (first.now ∷ with_first (map (λ text. text.now) rest.now) script.text.items)) }
-    ensures numbers { IfOk result (λ front. option_map (λ numbers. numbers.items) front.numbers ≡ Some script.numbers.items) }
-{
-    let CallsScript { text, numbers } = script;
-    let input = match *rest {
-        [] => composed_after(alloc, job, names, first, rest)?,
-        [_, ref more @ ..] => composed_between(alloc, job, names, first, text.as_slice(), more)?,
-    };
-    Ok(Front {
+    let called = has_calls(alloc, job, names, first, rest)?;
+    let input = composed_after(alloc, job, names, first, rest)?;
+    Ok(Gathered {
         input,
-        numbers: Some(numbers),
+        has_calls: called,
     })
 }
 
@@ -201,7 +175,7 @@ fn gathered_with(
     names: &[&str],
     texts: &[&[u8]],
     joint: Option<&str>,
-) -> Result<Front, Memory>
+) -> Result<Gathered, Memory>
     requires { length names.now ≡ length texts.now }
     ensures { IfOk result (IsGatheredWith job.now (map (λ name. name.now) names.now) (map (λ text. text.now) texts.now)
         (option_map (λ joint. joint.now) joint.entry)) }
@@ -215,29 +189,33 @@ fn gathered_with(
             &texts[leading(names)..],
         ),
         (None, [first, rest @ ..]) => gathered(alloc, job, names, first, rest),
-        (None, []) => Ok(Front {
+        (None, []) => Ok(Gathered {
             input: Vec::new(alloc),
-            numbers: None,
+            has_calls: false,
         }),
     }
 }
 
-/// Returns the text of the plan of the first files, if they are several. Returns `Err` if they are refused, or if an allocation fails.
-fn joint_network(
+/// Returns the files of a network, parsed, and the text of the network that several make; none if the job takes no domain. Returns `Err` if
+/// they are refused, or if an allocation fails.
+fn network_files<'t>(
     alloc: Global,
     job: &Job,
     names: &[&str],
-    texts: &[&[u8]],
-) -> Result<Option<String>, Stop>
+    texts: &[&'t [u8]],
+) -> Result<NetworkFiles<'t>, Stop>
     requires { length names.now ≡ length texts.now }
-    ensures ok { IfOk result (λ joint. IsJointFor (takes_domain job.now) (map (λ name. name.now) names.now) (map (λ text. text.now) texts.now)
-        (option_map string_bytes joint)) }
+    ensures read { IfOk result (λ files. files.documents.items ≡ documents_for (takes_domain job.now) (map (λ name. name.now) names.now) (map (λ text. text.now) texts.now)) }
+    ensures ok { IfOk result (λ files. IsJointFor (takes_domain job.now) (map (λ name. name.now) names.now) (map (λ text. text.now) texts.now) (option_map string_bytes files.joint)) }
     ensures err { IfErr result (EndsJoint (takes_domain job.now) (map (λ name. name.now) names.now) (map (λ text. text.now) texts.now)) }
 {
     if job.takes_domain() {
         check_joint(alloc, names, texts)
     } else {
-        Ok(None)
+        Ok(NetworkFiles {
+            documents: Vec::new(alloc),
+            joint: None,
+        })
     }
 }
 
@@ -349,14 +327,13 @@ fn takes_closed(job: &Job) -> bool
     }
 }
 
-/// Refuses files in which something is open that the job doesn't choose. Returns `Err` also if an allocation fails.
-fn check_closed(alloc: Global, job: &Job, names: &[&str], texts: &[&[u8]]) -> Result<(), Stop>
-    requires { length names.now ≡ length texts.now }
-    ensures ok { OnOk result (closed_refusal job.now (map (λ name. name.now) names.now) (map (λ text. text.now) texts.now) ≡ None) }
-    ensures err { IfErr result (EndsBy (closed_refusal job.now (map (λ name. name.now) names.now) (map (λ text. text.now) texts.now))) }
+/// Refuses documents in which something is open that the job doesn't choose. Returns `Err` also if an allocation fails.
+fn check_closed(alloc: Global, job: &Job, documents: &[Document<'_>]) -> Result<(), Stop>
+    ensures ok { OnOk result (closed_by (takes_closed job.now) documents.now ≡ None) }
+    ensures err { IfErr result (EndsBy (closed_by (takes_closed job.now) documents.now)) }
 {
     if takes_closed(job) {
-        check_open(alloc, names, texts)
+        check_open(alloc, documents)
     } else {
         Ok(())
     }
@@ -365,33 +342,38 @@ fn check_closed(alloc: Global, job: &Job, names: &[&str], texts: &[&[u8]]) -> Re
 /// Returns the input that is made from the texts of files with these names, for a job.
 ///
 /// If the job takes a domain, the first 2 to 16 names that end with `.toml` are those of one plan. Its text has everything in these texts
-/// that commands know, with arrays concatenated. If the job reads a script, a text directly after a plan is a file of calls, which
-/// [`script_of_calls`] reads, unless it begins as offers do. All else is as in [`cqf_program_words::composed`].
+/// that commands know, with arrays concatenated. If the job reads a script, a text directly after a plan is a file of calls, unless it begins
+/// as offers do. All else is as in [`cqf_program_words::composed`].
 ///
 /// # Errors
 /// With status 1 and the line of the first fault, if the job takes a domain or is `diff`, in this order:
 /// - in the files whose names end with `.toml`, and in the first file if no line divides it: a line that is too long to be parsed, then a key
 ///   that no command knows;
-/// - in several files of one network: one that isn't TOML, then `cycle`, `guard` or `sync` in two of them;
+/// - in several files of one network: one that isn't TOML, then `cycle`, `guard`, `sync` or `gate-overhead` in two of them;
 /// - if the job is `diff`, in each file: a line that is too long to be parsed, then a key that no command knows;
 /// - unless the job is `plan`: several cycle times, then a stream that leaves something open for `plan`;
 /// - if the job reads a script: an empty file that is the only one after the network.
 ///
 /// With status 3 if an allocation fails.
-pub fn front_of(alloc: Global, job: &Job, names: &[&str], texts: &[&[u8]]) -> Result<Front, Stop>
+pub fn front_of<'t>(
+    alloc: Global,
+    job: &Job,
+    names: &[&str],
+    texts: &[&'t [u8]],
+) -> Result<Front<'t>, Stop>
     requires { length names.now ≡ length texts.now }
     ensures ok { IfOk result (IsFrontOf job.now (map (λ name. name.now) names.now) (map (λ text. text.now) texts.now)) }
     ensures err { IfErr result (EndsFront job.now (map (λ name. name.now) names.now) (map (λ text. text.now) texts.now)) }
 {
-    let joint = match joint_network(alloc, job, names, texts) {
-        Ok(joint) => joint,
+    let NetworkFiles { documents, joint } = match network_files(alloc, job, names, texts) {
+        Ok(files) => files,
         Err(stop) => return Err(stop),
     };
     match check_compared(alloc, job, names, texts) {
         Ok(()) => {}
         Err(stop) => return Err(stop),
     }
-    match check_closed(alloc, job, names, texts) {
+    match check_closed(alloc, job, documents.as_slice()) {
         Ok(()) => {}
         Err(stop) => return Err(stop),
     }
@@ -400,7 +382,11 @@ pub fn front_of(alloc: Global, job: &Job, names: &[&str], texts: &[&[u8]]) -> Re
         Err(stop) => return Err(stop),
     }
     match gathered_with(alloc, job, names, texts, joint.as_deref()) {
-        Ok(front) => Ok(front),
+        Ok(Gathered { input, has_calls }) => Ok(Front {
+            input,
+            has_calls,
+            documents,
+        }),
         Err(_) => Err(Stop::memory(alloc)),
     }
 }

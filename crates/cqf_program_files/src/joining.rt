@@ -45,15 +45,15 @@ fn has(table: &Table, key: &str) -> bool
 }
 
 /// Returns whether two of the tables have the key.
-fn stands_twice(tables: &[Table], key: &str) -> bool
-    ensures { result ≡ stands_twice (map table_view tables.now) key.now }
+fn stands_twice(tables: &[&Table], key: &str) -> bool
+    ensures { result ≡ stands_twice (map (λ table. table_view table.now) tables.now) key.now }
 {
     tables.iter().filter(|table| has(table, key)).count() >= 2
 }
 
 /// Returns the first of the keys that may occur once, `cycle`, `guard`, `sync` and `gate-overhead`, that two of the tables have.
-pub(crate) fn key_twice(tables: &[Table]) -> Option<&'static str>
-    ensures { option_map (λ key. key.now) result ≡ key_twice (map table_view tables.now) }
+pub(crate) fn key_twice(tables: &[&Table]) -> Option<&'static str>
+    ensures { option_map (λ key. key.now) result ≡ key_twice (map (λ table. table_view table.now) tables.now) }
 {
     if stands_twice(tables, "cycle") {
         return Some("cycle");
@@ -112,8 +112,8 @@ fn joined(found: Option<Value>, value: &Value) -> Result<Value, Memory>
 }
 
 /// Returns a copy of the value at a key of a plan of several tables. Returns `Memory` if an allocation fails.
-fn joined_at(key: &str, tables: &[Table]) -> Result<Option<Value>, Memory>
-    ensures { IfOk result (λ found. option_map view found ≡ joined_at key.now (map table_view tables.now)) }
+fn joined_at(key: &str, tables: &[&Table]) -> Result<Option<Value>, Memory>
+    ensures { IfOk result (λ found. option_map view found ≡ joined_at key.now (map (λ table. table_view table.now) tables.now)) }
 {
     let mut found = None;
     for table in tables {
@@ -126,8 +126,8 @@ fn joined_at(key: &str, tables: &[Table]) -> Result<Option<Value>, Memory>
 }
 
 /// Puts the value at a key of several tables into the table of their plan. Returns `Memory` if an allocation fails.
-fn put_found(alloc: Global, joint: &mut Table, key: &str, tables: &[Table]) -> Result<(), Memory>
-    ensures { OnOk result (table_view joint.new ≡ put_found key.now (joined_at key.now (map table_view tables.now)) (table_view joint.old)) }
+fn put_found(alloc: Global, joint: &mut Table, key: &str, tables: &[&Table]) -> Result<(), Memory>
+    ensures { OnOk result (table_view joint.new ≡ put_found key.now (joined_at key.now (map (λ table. table_view table.now) tables.now)) (table_view joint.old)) }
 {
     match joined_at(key, tables)? {
         None => Ok(()),
@@ -140,8 +140,8 @@ fn put_found(alloc: Global, joint: &mut Table, key: &str, tables: &[Table]) -> R
 }
 
 /// Returns the table of a plan of several tables, with their joined value at each of the keys. Returns `Memory` if an allocation fails.
-fn put_each(alloc: Global, keys: &[&str], tables: &[Table]) -> Result<Table, Memory>
-    ensures { IfOk result (λ joint. table_view joint ≡ joint_by (map table_view tables.now) (map (λ key. key.now) keys.now)) }
+fn put_each(alloc: Global, keys: &[&str], tables: &[&Table]) -> Result<Table, Memory>
+    ensures { IfOk result (λ joint. table_view joint ≡ joint_by (map (λ table. table_view table.now) tables.now) (map (λ key. key.now) keys.now)) }
 {
     let mut joint = Table::new(alloc);
     for key in keys {
@@ -152,8 +152,8 @@ fn put_each(alloc: Global, keys: &[&str], tables: &[Table]) -> Result<Table, Mem
 
 /// Returns the table of a plan of several tables: at each key that commands know, copies of the values of all tables, with arrays
 /// concatenated. Returns `Memory` if an allocation fails.
-pub fn joint_of(alloc: Global, tables: &[Table]) -> Result<Table, Memory>
-    ensures { IfOk result (λ joint. table_view joint ≡ joint_of (map table_view tables.now)) }
+pub fn joint_of(alloc: Global, tables: &[&Table]) -> Result<Table, Memory>
+    ensures { IfOk result (λ joint. table_view joint ≡ joint_of (map (λ table. table_view table.now) tables.now)) }
 {
     put_each(alloc, &TOP, tables)
 }

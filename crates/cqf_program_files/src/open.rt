@@ -42,8 +42,8 @@ fn has_several_cycles(table: &Table) -> bool
 }
 
 /// Returns whether one of a network's tables has several cycle times.
-pub(crate) fn has_open_cycle(tables: &[Table]) -> bool
-    ensures { result ≡ list_any has_open_cycle (map table_view tables.now) }
+pub(crate) fn has_open_cycle(tables: &[&Table]) -> bool
+    ensures { result ≡ list_any has_open_cycle (map (λ table. table_view table.now) tables.now) }
 {
     for table in tables {
         if has_several_cycles(table) {
@@ -127,8 +127,8 @@ fn first_open_in(table: &Table) -> Option<&str>
 }
 
 /// Returns the name of the first stream of a network's tables that leaves something open.
-pub(crate) fn first_open_stream(tables: &[Table]) -> Option<&str>
-    ensures { option_map (λ name. name.now) result ≡ first_open_among (map table_view tables.now) }
+pub(crate) fn first_open_stream<'t>(tables: &[&'t Table]) -> Option<&'t str>
+    ensures { option_map (λ name. name.now) result ≡ first_open_among (map (λ table. table_view table.now) tables.now) }
 {
     for table in tables {
         let name = first_open_in(table);

@@ -7,28 +7,30 @@ ghost use Rattle.cqf_program_plans.specs.Compile.Gated.{gated_rows};
 ghost use Rattle.cqf_program_json.specs.Output.{addressing_of, json_of, json_of_input, text_of_json};
 
 use crate::outputs::JsonOutput;
-use cqf_addressing::{LinkInterfaces, StreamAddress, addresses_part, interfaces_part};
+use cqf_addressing::{LinkInterfaces, StreamAddress, addresses_in_part, interfaces_in_part};
 use cqf_model::{Limits, Row};
 use cqf_output::{Buffer, Stop};
 use cqf_program_plans::{gated_rows, read_plan, rows_of_cycle_0};
-use cqf_program_scenario::two_parts;
+use cqf_program_scenario::{Input, document_part, next_document, two_parts};
 use cqf_program_tc::indices_by_bridge;
 use cqf_topology::{Domain, PacedRequest};
 use cqf_units::Memory;
 use std::alloc::Global;
 
 /// Reads the interfaces of the links and the addresses of the streams from an input's parts.
-fn read_addressing(
+fn read_addressing<'i>(
     alloc: Global,
     limits: Limits,
-    domain_text: &[u8],
-    streams_text: &[u8],
+    domain_text: &'i [u8],
+    streams_text: &'i [u8],
 ) -> Result<(Vec<LinkInterfaces>, Vec<StreamAddress>), Stop>
     ensures ok { IfOk result (λ found. addressing_of limits domain_text.now streams_text.now ≡ Ok (found.0.items, found.1.items)) }
     ensures err { IfErr result (IsRefused (addressing_of limits domain_text.now streams_text.now)) }
 {
-    let links = interfaces_part(alloc, domain_text)?;
-    let addresses = addresses_part(alloc, limits, streams_text)?;
+    let first = document_part(alloc, domain_text)?;
+    let links = interfaces_in_part(alloc, &first)?;
+    let streams = next_document(alloc, first, streams_text)?;
+    let addresses = addresses_in_part(alloc, limits, &streams)?;
     Ok((links, addresses))
 }
 
@@ -91,12 +93,12 @@ pub fn json_output(
     alloc: Global,
     limits: Limits,
     edge_gates: bool,
-    input: &[u8],
+    input: Input<'_>,
 ) -> Result<JsonOutput, Stop>
-    ensures ok { IfOk result (λ output. json_of_input limits edge_gates input.now ≡ Ok (text_of_json output)) }
-    ensures err { IfErr result (IsRefused (json_of_input limits edge_gates input.now)) }
+    ensures ok { IfOk result (λ output. json_of_input limits edge_gates input.entry ≡ Ok (text_of_json output)) }
+    ensures err { IfErr result (IsRefused (json_of_input limits edge_gates input.entry)) }
 {
-    let (domain_text, streams_text) = two_parts(alloc, input)?;
+    let (domain_text, streams_text) = two_parts(alloc, input.bytes())?;
     let (domain, requests) = read_plan(alloc, limits, input)?;
     object_of(
         alloc,

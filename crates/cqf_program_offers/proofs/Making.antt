@@ -1,18 +1,10 @@
 -- The parts from which missing parts are made.
-use Rattle.std.proofs.Common.{◌≡◌, ◌∙◌, ℕ, ◌+◌, ◌<◌, ◌≤◌, ◌++◌, ◌∷◌, [], List, Bool, Bor, false, Ok, ap, arith, get_or, length, map, max, refl, sym, take}
+use Rattle.std.proofs.Common.{◌≡◌, ◌∙◌, ℕ, ◌+◌, ◌<◌, ◌≤◌, ◌++◌, ◌∷◌, [], List, Bor, ap, arith, get_or, length, map, max, refl, sym, take}
 use Rattle.std.proofs.lemmas.List.{map-append, take_more}
 use Rattle.std.proofs.lemmas.List.Sums.{fold-append}
-use Rattle.cqf_lists.specs.Results.{and_then}
-use Rattle.cqf_topology.specs.declared.paced.PacedRequest.{PacedRequest}
-use Rattle.cqf_topology.specs.PacedText.{paced_text, paced_of_text}
-use Rattle.cqf_admission.specs.Asking.{asked_by, asked_paced}
-use Rattle.cqf_network.specs.NetworkDomain.{NetworkDomain}
 use Rattle.cqf_traffic.specs.declared.flows.Flow.{Flow}
 use Rattle.cqf_traffic.specs.FlowsText.{FlowText, flow_text}
-use Rattle.cqf_output.specs.Stops.{or_line}
-use Rattle.cqf_program_scenario.proofs.AskedTexts.{asked_texts}
-use Rattle.cqf_program_scenario.specs.Lines.{streams_line}
-use Rattle.cqf_program_offers.specs.Made.{asked_of_part, bridges_of, bridges_on}
+use Rattle.cqf_program_offers.specs.Made.{bridges_of, bridges_on}
 
 -- one more stream, with this many bridges
 pub more_bridges : (flows : List Flow) (k : ℕ) (flow : Flow) → k < length flows → flow ≡ get_or flows k flow → (most bridges : ℕ) →
@@ -23,13 +15,6 @@ more_bridges flows k flow inside is most bridges before here =
     ∙ sym (fold-append (λ (most : ℕ) (f : FlowText). max most (bridges_on f.0.0.paths)) 0 (map flow_text (take k flows)) (flow_text flow ∷ []))
     ∙ ap bridges_of (sym (map-append flow_text (take k flows) (flow ∷ [])) ∙ ap (λ x. map flow_text (take k flows ++ x ∷ [])) is
     ∙ ap (map flow_text) (sym (take_more flows k flow inside)))
-
--- a part whose deadlines aren't read
-pub plain_part : (network : NetworkDomain) (planned : Bool) (text : List ℕ) (requests : List PacedRequest) → planned ≡ false →
-    paced_of_text text ≡ Ok (map paced_text requests) → asked_of_part network planned text ≡ Ok (map asked_paced requests)
-plain_part network planned text requests not_planned read =
-    ap (λ p. asked_of_part network p text) not_planned
-    ∙ ap (λ r. and_then (or_line streams_line r) (λ streams. Ok (map asked_by streams))) read ∙ ap Ok (asked_texts requests)
 
 -- lists of three and of four elements
 pub three_of : {A B : Type 0} (f : A → B) (d : A) (xs : List A) → length xs ≡ 3 → map f xs ≡ f (get_or xs 0 d) ∷ f (get_or xs 1 d) ∷ f (get_or xs 2 d) ∷ []

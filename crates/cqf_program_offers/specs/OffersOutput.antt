@@ -3,6 +3,7 @@ use Rattle.std.specs.Prelude.{ℕ, ◌*◌, List, [], ◌∷◌, Option, None, R
 use Rattle.std.specs.Option.{unwrap_or}
 use Rattle.cqf_lists.specs.Results.{and_then}
 use Rattle.cqf_model.specs.Domain.{Domain, node_named}
+use Rattle.cqf_model.specs.declared.frames.Offer.{Offer}
 use Rattle.cqf_model.specs.declared.limits.Limits.{Limits}
 use Rattle.cqf_model.specs.History.{Asked}
 use Rattle.cqf_model.specs.Limits.{rows_within}
@@ -57,18 +58,21 @@ edge_of d paths = unwrap_or (as_bridge (option_and_then (node_named d) (first_na
 abbrev pub sender_of : Domain → FlowText → TalkerStream
 sender_of d flow = record { name = flow.0.0.name; bridge = edge_of d flow.0.0.paths; traffic = flow.1 }
 
--- what streams offer before an instant, as a text; or the line if that is too much
-abbrev pub offered_by : Domain → ℕ → Option ℕ → List TalkerStream → Result (List ℕ) (List ℕ)
-offered_by d until seed senders =
-    if nat_le (frames_before until senders) (rows_within d.limits) then Ok (offers_text d (offers_before until seed senders)) else Err too_many_line
+-- what streams offer before an instant, or the line if that is too much
+abbrev pub offers_by : Domain → ℕ → Option ℕ → List TalkerStream → Result (List Offer) (List ℕ)
+offers_by d until seed senders =
+    if nat_le (frames_before until senders) (rows_within d.limits) then Ok (offers_before until seed senders) else Err too_many_line
 
 -- streams as their talkers see them, each judged as by `load`; or the line of the first that is refused
 abbrev pub senders_of : Domain → List FlowText → Result (List TalkerStream) (List ℕ)
 senders_of d flows = and_then (listed_from d [] (map asked_in flows)) (λ rows. Ok (map (sender_of d) flows))
 
--- what they offer
+-- what they offer, and that as a text
+abbrev pub offers_of : Domain → ℕ → Option ℕ → List FlowText → Result (List Offer) (List ℕ)
+offers_of d until seed flows = and_then (senders_of d flows) (offers_by d until seed)
+
 abbrev pub offered_of : Domain → ℕ → Option ℕ → List FlowText → Result (List ℕ) (List ℕ)
-offered_of d until seed flows = and_then (senders_of d flows) (offered_by d until seed)
+offered_of d until seed flows = and_then (offers_of d until seed flows) (λ offers. Ok (offers_text d offers))
 
 -- the text for an input over `cycles` cycles, read within some limits; or the line of its first fault
 abbrev pub offered_input : Limits → ℕ → Option ℕ → List ℕ → Result (List ℕ) (List ℕ)

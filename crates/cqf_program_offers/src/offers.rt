@@ -1,11 +1,15 @@
 //! The offers that are early enough for all of them to arrive.
-ghost use Rattle.std.specs.Prelude.{◌≡◌, ◌-◌, ◌<◌, IfErr, IfOk, Ok, map, max};
+ghost use Rattle.std.specs.Prelude.{◌≡◌, ◌-◌, ◌<◌, ◌≤◌, IfErr, IfOk, Ok, length, map, max};
+ghost use Rattle.cqf_laws_coverage.specs.Judged.{StandInOrder};
+ghost use Rattle.cqf_model.specs.Limits.{most_offers};
+ghost use Rattle.cqf_model.specs.Run.{AreOffers};
 ghost use Rattle.cqf_admission.specs.Branches.{branches_of};
 ghost use Rattle.cqf_program_offers.specs.Made.{bridges_of, bridges_on, made_offers};
 ghost use Rattle.cqf_output.specs.Stops.{IsRefused};
 ghost use Rattle.cqf_traffic.specs.FlowsText.{flow_text};
 
-use crate::offered_of;
+use crate::command::offers_of;
+use cqf_model::Offer;
 use cqf_output::Stop;
 use cqf_topology::Domain;
 use cqf_traffic::{Flow, Until};
@@ -43,20 +47,23 @@ fn bridges_of(flows: &[Flow]) -> usize
     most
 }
 
-/// Returns the offers of streams that are early enough for all of them to arrive within `cycles` cycles, as a text.
+/// Returns the offers of streams that are early enough for all of them to arrive within `cycles` cycles.
 ///
 /// # Errors
-/// As [`offered_of`].
+/// As [`offers_of`].
 pub(crate) fn made_offers(
     alloc: Global,
     domain: &Domain,
     cycles: u32,
     flows: &[Flow],
-) -> Result<Vec<u8>, Stop>
-    ensures ok { IfOk result (λ text. made_offers domain.now cycles (map flow_text flows.now) ≡ Ok text.items) }
+) -> Result<Vec<Offer>, Stop>
+    ensures ok { IfOk result (λ offers. made_offers domain.now cycles (map flow_text flows.now) ≡ Ok offers.items) }
+    ensures good { IfOk result (λ offers. AreOffers domain.now offers.items) }
+    ensures order { IfOk result (λ offers. StandInOrder offers.items) }
+    ensures few { IfOk result (λ offers. length offers.items ≤ most_offers) }
     ensures err { IfErr result (IsRefused (made_offers domain.now cycles (map flow_text flows.now))) }
 {
     let open = u64::from(cycles).saturating_sub(bridges_of(flows) as u64);
     let end = Nanos(open * domain.cycle_time().0);
-    offered_of(alloc, domain, Until { end, seed: None }, flows)
+    offers_of(alloc, domain, Until { end, seed: None }, flows)
 }

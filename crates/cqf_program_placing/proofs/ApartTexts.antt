@@ -1,46 +1,30 @@
 -- The text whose keys `apart` are read.
 use Rattle.std.proofs.Common.{◌≡◌, ◌∙◌, ℕ, Bool, true, false, List, [], Option, Some, None, Result, Ok, Err, ap, refl}
-use Rattle.std.specs.Prelude.{if◌then◌else◌, ok_or, option_and_then}
-use Rattle.std.specs.Option.{option_or}
+use Rattle.std.specs.Prelude.{if◌then◌else◌, ok_or}
 use Rattle.std.specs.Str.{is_utf8}
-use Rattle.toml.specs.Data.{Items, no_items, item, Members, as_array, as_table}
+use Rattle.toml.specs.Data.{Members}
 use Rattle.toml.specs.Parse.{parse_document}
-use Rattle.cqf_lists.specs.Results.{and_then, refuse}
-use Rattle.cqf_topology.specs.declared.keys.Key.TheVariants.{Streams}
+use Rattle.cqf_lists.specs.Results.{and_then}
 use Rattle.cqf_topology.specs.declared.toml_faults.TomlFault.{TomlFault}
-use Rattle.cqf_topology.specs.declared.toml_faults.TomlFault.TheVariants.{NotToml, Missing}
-use Rattle.cqf_topology.specs.Fields.{first_absent, first_absent_within, first_missing, value_at, whole_document}
+use Rattle.cqf_topology.specs.declared.toml_faults.TomlFault.TheVariants.{NotToml}
+use Rattle.cqf_topology.specs.Fields.{document_of}
 use Rattle.cqf_program_placing.specs.declared.faults.ApartFault.{ApartFault}
 use Rattle.cqf_program_placing.specs.Neighbors.{apart_of_text, first_not_before, joined, kept_apart, name_some, names_by_table, unless_unnamed}
 use Rattle.cqf_program_placing.specs.Settled.{SettledStream}
-
--- no key is missing if none has to be there
-none_of_table : (o : Option Members) → option_and_then (first_absent []) o ≡ None
-none_of_table None = refl
-none_of_table (Some table) = refl
-
-none_within : (items : Items) → first_absent_within [] items ≡ None
-none_within no_items = refl
-none_within (item d more) = λ i. option_or (none_of_table (as_table d) i) (none_within more i)
-
-none_in : (o : Option Items) → option_and_then (first_absent_within []) o ≡ None
-none_in None = refl
-none_in (Some items) = none_within items
 
 -- the names by the text's table; none if the text isn't TOML
 abbrev pub names_by : Result Members TomlFault → Result (List (List (List ℕ))) ApartFault
 names_by (Ok table) = names_by_table (Some table)
 names_by (Err e) = Ok []
 
-pub apart_read : (text : List ℕ) → names_by (whole_document [] Streams [] text) ≡ apart_of_text text
+pub apart_read : (text : List ℕ) → names_by (document_of text) ≡ apart_of_text text
 apart_read text = by (is_utf8 text) (parse_document text)
   where
     by : (utf8 : Bool) (parsed : Option Members) →
-        names_by (and_then (if utf8 then ok_or parsed NotToml else Err NotToml) (λ table. refuse (first_missing [] Streams [] table) Missing (Ok table)))
-        ≡ names_by_table (if utf8 then parsed else None)
+        names_by (if utf8 then ok_or parsed NotToml else Err NotToml) ≡ names_by_table (if utf8 then parsed else None)
     by false parsed = refl
     by true None = refl
-    by true (Some table) = ap (λ o. names_by (refuse o Missing (Ok table))) (none_in (option_and_then as_array (value_at Streams table)))
+    by true (Some table) = refl
 
 -- ---- the streams with their neighbors, by these names
 

@@ -7,7 +7,7 @@ ghost use Rattle.cqf_topology.specs.Fields.{Gives, name_from};
 ghost use Rattle.cqf_program_placing.specs.Neighbors.{apart_names, apart_of_text, if_some, name_or_bad, names_by_table, names_in, names_of_array, names_of_each};
 
 use crate::faults::ApartFault;
-use cqf_topology::{Key, TomlFault, read_document, value_at};
+use cqf_topology::{Document, Key, value_at};
 use cqf_units::Name;
 use std::alloc::Global;
 use toml::{Table, Value};
@@ -114,11 +114,9 @@ fn names_in_table(alloc: Global, table: &Table) -> Result<Vec<Vec<Name>>, ApartF
 pub(crate) fn apart_of_text(alloc: Global, text: &[u8]) -> Result<Vec<Vec<Name>>, ApartFault>
     ensures { Gives ApartFault.Memory (λ named. map (λ names. names.items) named.items) result (apart_of_text text.now) }
 {
-    match read_document(alloc, text, &[], Key::Streams, &[]) {
-        Ok(table) => names_in_table(alloc, &table),
-        Err(fault) => match fault {
-            TomlFault::Memory => Err(ApartFault::Memory),
-            _ => Ok(Vec::new(alloc)),
-        },
+    let document = Document::read(alloc, text)?;
+    match document.table() {
+        Ok(table) => names_in_table(alloc, table),
+        Err(_) => Ok(Vec::new(alloc)),
     }
 }

@@ -24,13 +24,13 @@ use crate::table::text_of_candidates;
 use crate::trying::{Tried, judge_all};
 use cqf_edge::{AccessTimes, EdgeFault, EdgeStreams, TalkerFault, edge_streams};
 use cqf_model::{Limits, Refused};
-use cqf_network::{NetworkDomain, NetworkFault, Stream, read_network_streams};
+use cqf_network::{NetworkDomain, NetworkFault, Stream, network_streams_of_document};
 use cqf_network_text::write_network;
 use cqf_output::{REFUSED, Stop};
 use cqf_program_placing::{ApartFault, PlanFault, Settled, Unsettled, keep_apart, settle};
 use cqf_program_plans::{flows_stop, stream_stop};
-use cqf_program_scenario::two_parts;
-use cqf_topology::DomainFault;
+use cqf_program_scenario::{Input, document_part, next_document, parsed_parts};
+use cqf_topology::{Document, DomainFault};
 use cqf_units::{Memory, Name};
 use std::alloc::Global;
 
@@ -50,29 +50,39 @@ fn network_stop(alloc: Global, fault: NetworkFault) -> Stop
 pub fn open_network_part(
     alloc: Global,
     limits: Limits,
-    text: &[u8],
+    document: &Document<'_>,
     given: Option<Vec<u32>>,
 ) -> Result<NetworkDomain, Stop>
     requires { IfSome given (λ cycles. AreCandidates cycles.items) }
-    ensures ok { let said = option_map (λ cycles. cycles.items) given in IfOk result (λ network. open_network_of_text limits said text.now ≡ Ok network) }
-    ensures err { let said = option_map (λ cycles. cycles.items) given in IfErr result (IsRefused (or_line network_line (open_network_of_text limits said text.now))) }
+    ensures ok { let said = option_map (λ cycles. cycles.items) given in IfOk result (λ network. open_network_of_text limits said document.now ≡ Ok network) }
+    ensures err { let said = option_map (λ cycles. cycles.items) given in IfErr result (IsRefused (or_line network_line (open_network_of_text limits said document.now))) }
 {
-    match NetworkDomain::read(alloc, text, limits, given) {
+    match NetworkDomain::of_document(alloc, document, limits, given) {
         Ok(network) => Ok(network),
         Err(fault) => Err(network_stop(alloc, fault)),
     }
 }
 
 /// Returns the streams of a network file's part; `Err` likewise.
-fn wanted_part(alloc: Global, text: &[u8]) -> Result<Vec<Stream>, Stop>
+fn wanted_part(alloc: Global, document: Document<'_>) -> Result<Vec<Stream>, Stop>
+    ensures ok { IfOk result (λ streams. network_streams_of_text document.entry ≡ Ok (map stream_text streams.items)) }
+    ensures written { IfOk result (λ streams. All IsWrittenStream (map stream_text streams.items)) }
+    ensures err { IfErr result (IsRefused (or_line flows_line (network_streams_of_text document.entry))) }
+{
+    match network_streams_of_document(alloc, &document) {
+        Ok(streams) => Ok(streams),
+        Err(fault) => Err(flows_stop(alloc, fault)),
+    }
+}
+
+/// Returns those of a part that follows a parsed one; `Err` likewise.
+fn next_wanted<'t>(alloc: Global, first: Document<'t>, text: &'t [u8]) -> Result<Vec<Stream>, Stop>
     ensures ok { IfOk result (λ streams. network_streams_of_text text.now ≡ Ok (map stream_text streams.items)) }
     ensures written { IfOk result (λ streams. All IsWrittenStream (map stream_text streams.items)) }
     ensures err { IfErr result (IsRefused (or_line flows_line (network_streams_of_text text.now))) }
 {
-    match read_network_streams(alloc, text) {
-        Ok(streams) => Ok(streams),
-        Err(fault) => Err(flows_stop(alloc, fault)),
-    }
+    let document = next_document(alloc, first, text)?;
+    wanted_part(alloc, document)
 }
 
 /// Returns the line of a stream that isn't settled.
@@ -235,16 +245,17 @@ fn read_parts<'t>(
     alloc: Global,
     limits: Limits,
     given: Option<Vec<u32>>,
-    domain_text: &'t [u8],
+    first: Document<'t>,
     streams_text: &'t [u8],
 ) -> Result<PlanInput<'t>, Stop>
     requires { IfSome given (λ cycles. AreCandidates cycles.items) }
-    ensures ok { let said = option_map (λ cycles. cycles.items) given in IfOk result (λ found. planning_parts limits said domain_text.now streams_text.now ≡ Ok (source_of found)) }
+    ensures ok { let said = option_map (λ cycles. cycles.items) given in IfOk result (λ found. planning_parts limits said first.entry streams_text.now ≡ Ok (source_of found)) }
     ensures settled { IfOk result (λ found. AreSettled found.domain (map settled_value found.streams.items)) }
-    ensures err { let said = option_map (λ cycles. cycles.items) given in IfErr result (IsRefused (planning_parts limits said domain_text.now streams_text.now)) }
+    ensures err { let said = option_map (λ cycles. cycles.items) given in IfErr result (IsRefused (planning_parts limits said first.entry streams_text.now)) }
 {
-    let domain = open_network_part(alloc, limits, domain_text, given)?;
-    let wanted = wanted_part(alloc, streams_text)?;
+    let domain_text = first.text();
+    let domain = open_network_part(alloc, limits, &first, given)?;
+    let wanted = next_wanted(alloc, first, streams_text)?;
     let edge = edges_wanted(alloc, &domain, wanted)?;
     let streams = settled_part(alloc, &domain, edge.streams)?;
     refuse_full(alloc, edge.full)?;
@@ -266,15 +277,15 @@ fn read_source(
     alloc: Global,
     limits: Limits,
     given: Option<Vec<u32>>,
-    input: &[u8],
+    input: Input<'_>,
 ) -> Result<PlanInput<'_>, Stop>
     requires { IfSome given (λ cycles. AreCandidates cycles.items) }
-    ensures ok { let said = option_map (λ cycles. cycles.items) given in IfOk result (λ found. planning_input limits said input.now ≡ Ok (source_of found)) }
+    ensures ok { let said = option_map (λ cycles. cycles.items) given in IfOk result (λ found. planning_input limits said input.entry ≡ Ok (source_of found)) }
     ensures settled { IfOk result (λ found. AreSettled found.domain (map settled_value found.streams.items)) }
-    ensures err { let said = option_map (λ cycles. cycles.items) given in IfErr result (IsRefused (planning_input limits said input.now)) }
+    ensures err { let said = option_map (λ cycles. cycles.items) given in IfErr result (IsRefused (planning_input limits said input.entry)) }
 {
-    let (domain_text, streams_text) = two_parts(alloc, input)?;
-    let found = read_parts(alloc, limits, given, domain_text, streams_text)?;
+    let (first, streams_text) = parsed_parts(alloc, input)?;
+    let found = read_parts(alloc, limits, given, first, streams_text)?;
     Ok(found)
 }
 
@@ -369,20 +380,21 @@ fn written_of(
 ///
 /// # Errors
 /// As [`plan_output`], except that there are no parts.
-pub fn plan_of_parts(
+pub fn plan_of_parts<'t>(
     alloc: Global,
     limits: Limits,
     table: bool,
     search: Search,
     given: Option<Vec<u32>>,
-    domain_text: &[u8],
-    streams_text: &[u8],
+    domain_text: &'t [u8],
+    streams_text: &'t [u8],
 ) -> Result<Vec<u8>, Stop>
     requires { IfSome given (λ cycles. AreCandidates cycles.items) }
     ensures ok { let said = option_map (λ cycles. cycles.items) given in IfOk result (λ text. IsPlanOfParts limits table search said domain_text.now streams_text.now (Ok text.items)) }
     ensures err { let said = option_map (λ cycles. cycles.items) given in IfErr result (IsPartsRefusal limits table search said domain_text.now streams_text.now) }
 {
-    let found = read_parts(alloc, limits, given, domain_text, streams_text)?;
+    let first = document_part(alloc, domain_text)?;
+    let found = read_parts(alloc, limits, given, first, streams_text)?;
     written_of(alloc, table, search, &found)
 }
 
@@ -398,11 +410,11 @@ pub fn plan_output(
     table: bool,
     search: Search,
     given: Option<Vec<u32>>,
-    input: &[u8],
+    input: Input<'_>,
 ) -> Result<Vec<u8>, Stop>
     requires { IfSome given (λ cycles. AreCandidates cycles.items) }
-    ensures ok { IfOk result (λ text. IsPlanOf limits table search (option_map (λ cycles. cycles.items) given) input.now (Ok text.items)) }
-    ensures err { IfErr result (IsPlanRefusal limits table search (option_map (λ cycles. cycles.items) given) input.now) }
+    ensures ok { IfOk result (λ text. IsPlanOf limits table search (option_map (λ cycles. cycles.items) given) input.entry (Ok text.items)) }
+    ensures err { IfErr result (IsPlanRefusal limits table search (option_map (λ cycles. cycles.items) given) input.entry) }
 {
     let found = read_source(alloc, limits, given, input)?;
     written_of(alloc, table, search, &found)

@@ -6,9 +6,10 @@ ghost use Rattle.cqf_program_plans.specs.Edges.{EndsAsFull, edge_line, edges_by_
 
 use crate::reserving::flows_stop;
 use cqf_edge::{EdgeFault, EdgeFlows, edge_flows, flows_at_edges, read_streams_are_written};
-use cqf_network::{NetworkDomain, read_network_flows};
+use cqf_network::{NetworkDomain, network_flows_of_document};
 use cqf_output::Stop;
-use cqf_traffic::read_flows;
+use cqf_topology::Document;
+use cqf_traffic::flows_of_document;
 use std::alloc::Global;
 
 /// Returns the end of a command whose streams don't reach their edge bridges: status 1 with the line of the fault, or status 3 if an allocation
@@ -31,14 +32,19 @@ pub(crate) fn has_access(network: &NetworkDomain) -> bool
 }
 
 /// Reads the streams of a part of a network in which a station has an access link.
-fn edges_by_access(alloc: Global, network: &NetworkDomain, text: &[u8]) -> Result<EdgeFlows, Stop>
-    ensures ok { IfOk result (λ edge. edges_by_access network.now text.now ≡ Ok (edges_text edge)) }
-    ensures err { IfErr result (IsRefused (edges_by_access network.now text.now)) }
+fn edges_by_access(
+    alloc: Global,
+    network: &NetworkDomain,
+    document: Document<'_>,
+) -> Result<EdgeFlows, Stop>
+    ensures ok { IfOk result (λ edge. edges_by_access network.now document.entry ≡ Ok (edges_text edge)) }
+    ensures err { IfErr result (IsRefused (edges_by_access network.now document.entry)) }
 {
-    let flows = match read_network_flows(alloc, text) {
+    let flows = match network_flows_of_document(alloc, &document) {
         Ok(flows) => flows,
         Err(fault) => return Err(flows_stop(alloc, fault)),
     };
+    drop(document);
     read_streams_are_written();
     match edge_flows(alloc, network, flows) {
         Ok(edge) => Ok(edge),
@@ -47,14 +53,15 @@ fn edges_by_access(alloc: Global, network: &NetworkDomain, text: &[u8]) -> Resul
 }
 
 /// Reads the streams of a part of a network in which no station has an access link.
-fn edges_without(alloc: Global, text: &[u8]) -> Result<EdgeFlows, Stop>
-    ensures ok { IfOk result (λ edge. edges_without text.now ≡ Ok (edges_text edge)) }
-    ensures err { IfErr result (IsRefused (edges_without text.now)) }
+fn edges_without(alloc: Global, document: Document<'_>) -> Result<EdgeFlows, Stop>
+    ensures ok { IfOk result (λ edge. edges_without document.entry ≡ Ok (edges_text edge)) }
+    ensures err { IfErr result (IsRefused (edges_without document.entry)) }
 {
-    let flows = match read_flows(alloc, text) {
+    let flows = match flows_of_document(alloc, &document) {
         Ok(flows) => flows,
         Err(fault) => return Err(flows_stop(alloc, fault)),
     };
+    drop(document);
     match flows_at_edges(alloc, flows) {
         Ok(edge) => Ok(edge),
         Err(_) => Err(Stop::memory(alloc)),
@@ -67,14 +74,18 @@ fn edges_without(alloc: Global, text: &[u8]) -> Result<EdgeFlows, Stop>
 /// # Errors
 /// With status 1 and the line of the first fault of the part, or of the first stream whose talker or listeners don't fit. With
 /// status 3 if an allocation fails.
-pub fn edges_part(alloc: Global, network: &NetworkDomain, text: &[u8]) -> Result<EdgeFlows, Stop>
-    ensures ok { IfOk result (λ edge. edges_of_part network.now text.now ≡ Ok (edges_text edge)) }
-    ensures err { IfErr result (IsRefused (edges_of_part network.now text.now)) }
+pub fn edges_part(
+    alloc: Global,
+    network: &NetworkDomain,
+    document: Document<'_>,
+) -> Result<EdgeFlows, Stop>
+    ensures ok { IfOk result (λ edge. edges_of_part network.now document.entry ≡ Ok (edges_text edge)) }
+    ensures err { IfErr result (IsRefused (edges_of_part network.now document.entry)) }
 {
     if has_access(network) {
-        edges_by_access(alloc, network, text)
+        edges_by_access(alloc, network, document)
     } else {
-        edges_without(alloc, text)
+        edges_without(alloc, document)
     }
 }
 
@@ -99,12 +110,12 @@ pub fn refuse_full(alloc: Global, edge: &EdgeFlows) -> Result<(), Stop>
 pub fn open_edges_part(
     alloc: Global,
     network: &NetworkDomain,
-    text: &[u8],
+    document: Document<'_>,
 ) -> Result<EdgeFlows, Stop>
-    ensures ok { IfOk result (λ edge. open_edges_of_part network.now text.now ≡ Ok (edges_text edge)) }
-    ensures err { IfErr result (IsRefused (open_edges_of_part network.now text.now)) }
+    ensures ok { IfOk result (λ edge. open_edges_of_part network.now document.entry ≡ Ok (edges_text edge)) }
+    ensures err { IfErr result (IsRefused (open_edges_of_part network.now document.entry)) }
 {
-    let edge = edges_part(alloc, network, text)?;
+    let edge = edges_part(alloc, network, document)?;
     refuse_full(alloc, &edge)?;
     Ok(edge)
 }

@@ -11,8 +11,8 @@ ghost use Rattle.cqf_traffic.specs.PacedFlows.{paced_flow_text};
 use crate::edges::{has_access, open_edges_part};
 use cqf_network::NetworkDomain;
 use cqf_output::{REFUSED, Stop};
-use cqf_topology::{Domain, PacedRequest, StreamsFault};
-use cqf_traffic::{Flow, FlowsFault, PacedFlow, Traffic, read_paced_flows};
+use cqf_topology::{Document, Domain, PacedRequest, StreamsFault};
+use cqf_traffic::{Flow, FlowsFault, PacedFlow, Traffic, paced_flows_of_document};
 use cqf_units::Memory;
 use std::alloc::Global;
 
@@ -158,16 +158,16 @@ pub(crate) fn requests_of_network(
     alloc: Global,
     network: &NetworkDomain,
     domain: &Domain,
-    text: &[u8],
+    document: Document<'_>,
 ) -> Result<Vec<PacedRequest>, Stop>
     requires { domain.now ≡ domain_of network.now }
-    ensures ok { IfOk result (λ requests. requests_of_network network.now text.now ≡ Ok (map paced_text requests.items)) }
-    ensures err { IfErr result (IsRefused (requests_of_network network.now text.now)) }
+    ensures ok { IfOk result (λ requests. requests_of_network network.now document.entry ≡ Ok (map paced_text requests.items)) }
+    ensures err { IfErr result (IsRefused (requests_of_network network.now document.entry)) }
 {
     if !has_access(network) {
-        return requests_in(alloc, domain, text);
+        return requests_in(alloc, domain, document);
     }
-    let edge = open_edges_part(alloc, network, text)?;
+    let edge = open_edges_part(alloc, network, document)?;
     requests_at(alloc, domain, edge.flows)
 }
 
@@ -180,15 +180,16 @@ pub(crate) fn requests_of_network(
 pub(crate) fn requests_in(
     alloc: Global,
     domain: &Domain,
-    text: &[u8],
+    document: Document<'_>,
 ) -> Result<Vec<PacedRequest>, Stop>
-    ensures ok { IfOk result (λ requests. requests_in domain.now text.now ≡ Ok (map paced_text requests.items)) }
-    ensures err { IfErr result (IsRefused (requests_in domain.now text.now)) }
+    ensures ok { IfOk result (λ requests. requests_in domain.now document.entry ≡ Ok (map paced_text requests.items)) }
+    ensures err { IfErr result (IsRefused (requests_in domain.now document.entry)) }
 {
-    let flows = match read_paced_flows(alloc, text) {
+    let flows = match paced_flows_of_document(alloc, &document) {
         Ok(flows) => flows,
         Err(fault) => return Err(flows_stop(alloc, fault)),
     };
+    drop(document);
     if let Some(lack) = first_lack(domain, flows.as_slice()) {
         return Err(lack_stop(alloc, lack));
     }

@@ -10,14 +10,18 @@
 //!   ([`DeliveriesOutput`]).
 //! - [`check_output`]: the line that says that all goes well, or the stop with the line that says what doesn't.
 //!
+//! [`run_of_given`], [`report_of_given`], [`deliveries_of_given`] and [`check_of_given`] return the same for a scenario that was read
+//! before.
+//!
 //! No list of deliveries is kept. While a pass returns the starts of the run, the instants at which frames are whole at
 //! their listeners are kept for the frames under way only. Deliveries are written, or examined, offer by offer.
 //!
 //! - A [`Delivery`] is a frame on its path to one listener, or its drop. [`Delivery::fate`] is what becomes of it, a
 //!   [`Fate`], by the [`Deadlines`] of the streams' frames.
-//! - For other commands over deliveries, [`read_planned_given`] returns the scenario of an input with its deadlines
-//!   ([`PlannedGiven`]), [`noted_of_scenario`] the notes about it (`Noted`, [`CompletedRun`]) and the frames under way
-//!   ([`UnderWay`]), and [`put_those_of`] puts the deliveries of one offer ([`Few`]).
+//! - For other commands over deliveries, [`read_planned_streams`] returns streams with their deadlines,
+//!   [`read_planned_given`] the scenario of an input with its deadlines ([`PlannedGiven`]), [`noted_of_scenario`] the notes
+//!   about it (`Noted`, [`CompletedRun`]) and the frames under way ([`UnderWay`]), and [`put_those_of`] puts the deliveries
+//!   of one offer ([`Few`]).
 //! - `complaint_about`, `none_offered_line`, `unfinished_line` and `well_line` are the lines of a check.
 //! - The law [`verdicts_give_deliveries`] relates deliveries by the verdicts on offers to those of a book.
 //!   [`arrivals_are_the_shift`] says which have arrived, [`each_is_written_once`] which deliveries an offer has, and
@@ -53,7 +57,9 @@ pub(crate) use check::checked::{
     CheckCounts, OfferCounts, complaint_about, first_bad, none_offered_line, unfinished_line,
     well_line,
 };
-pub use deliveries::command::{check_output, deliveries_output};
+pub use deliveries::command::{
+    check_of_given, check_output, deliveries_of_given, deliveries_output,
+};
 pub use deliveries::deadlines::Deadlines;
 pub use deliveries::delivery::{Delivery, Fate, Journey, Passage, latency};
 pub use deliveries::few::Few;
@@ -61,7 +67,7 @@ pub use deliveries::made::{CompletedRun, put_those_of};
 pub(crate) use deliveries::noted::Noted;
 pub use deliveries::noted::noted_of_scenario;
 pub use deliveries::outputs::DeliveriesOutput;
-pub use deliveries::reading::{PlannedGiven, read_planned_given};
+pub use deliveries::reading::{PlannedGiven, read_planned_given, read_planned_streams};
 pub use deliveries::rooms::greatest_hop_number;
 pub use deliveries::under_way::UnderWay;
 pub use laws::{
@@ -69,6 +75,6 @@ pub use laws::{
 };
 pub use line::command::line_output;
 pub use line::outputs::LineOutput;
-pub use report::command::report_output;
-pub use run::command::run_output;
+pub use report::command::{report_of_given, report_output};
+pub use run::command::{run_of_given, run_output};
 pub use run::outputs::RunOutput;

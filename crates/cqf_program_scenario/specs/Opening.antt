@@ -1,6 +1,6 @@
 -- A scenario whose cycles are closed while it runs: what its bridges and administrators begin with.
 use Rattle.cqf_model.specs.declared.limits.Limits.{Limits}
-use Rattle.std.specs.Prelude.{ℕ, ◌≡◌, List, [], Ok}
+use Rattle.std.specs.Prelude.{ℕ, ◌≡◌, List, [], Result, Ok}
 use Rattle.cqf_model.specs.History.{Recorded, seals}
 use Rattle.cqf_program_scenario.specs.declared.opening.Opened.{Opened}
 use Rattle.cqf_program_scenario.specs.Calls.{with_calls}
@@ -24,8 +24,17 @@ pub record IsOpened (cycles : ℕ) (s : Scenario) (made : Opened) : Type 0 where
   pub offers : made.offers.items ≡ s.offers
   pub background : made.background.items ≡ s.background
 
--- the same for the scenario of an input
-pub record IsOpenedInput (limits : Limits) (cycles : ℕ) (input : List ℕ) (made : Opened) : Type 0 where
+-- the same for some scenario
+pub record IsOpenedOfSome (cycles : ℕ) (made : Opened) : Type 0 where
   pub scenario : Scenario
-  pub holds : scenario_input limits cycles input ≡ Ok scenario
   pub opened : IsOpened cycles scenario made
+
+-- the same for the scenario that was found
+pub record IsOpenedOf (cycles : ℕ) (found : Result Scenario (List ℕ)) (made : Opened) : Type 0 where
+  pub scenario : Scenario
+  pub holds : found ≡ Ok scenario
+  pub opened : IsOpened cycles scenario made
+
+-- the same for the scenario of an input
+abbrev pub IsOpenedInput : Limits → ℕ → List ℕ → Opened → Type 0
+IsOpenedInput limits cycles input made = IsOpenedOf cycles (scenario_input limits cycles input) made

@@ -37,9 +37,12 @@ background_of_part d None = Ok []
 background_of_part d (Some text) = or_line background_line (background_frames_of d text)
 
 -- the offers and the background frames, or the line of the first fault in the two parts
+abbrev pub frames_from : Domain → List ℕ → Option (List ℕ) → Result (List Offer × List Background) (List ℕ)
+frames_from d offers background = and_then (or_line offers_line (offers_of d offers)) (λ offers.
+    and_then (background_of_part d background) (λ background. Ok (offers, background)))
+
 abbrev pub frames_of_part : Domain → RunTexts → Result (List Offer × List Background) (List ℕ)
-frames_of_part d texts = and_then (or_line offers_line (offers_of d texts.offers)) (λ offers.
-    and_then (background_of_part d texts.background) (λ background. Ok (offers, background)))
+frames_of_part d texts = frames_from d texts.offers texts.background
 
 -- the scenario of these parts over this number of cycles, with this domain and these streams; or the line of the first fault of its script,
 -- its offers and its background frames

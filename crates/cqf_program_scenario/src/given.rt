@@ -1,7 +1,8 @@
 //! The scenario of an input.
 ghost use Rattle.std.specs.Prelude.{◌≡◌, ◌≤◌, [], All, Ok, IfOk, IfErr, length, map, option_map};
 ghost use Rattle.cqf_admission.specs.Asking.{asked_paced};
-ghost use Rattle.cqf_program_scenario.specs.Lines.{script_line};
+ghost use Rattle.cqf_program_scenario.specs.Lines.{script_line, streams_line};
+ghost use Rattle.cqf_topology.specs.PacedText.{paced_of_text, paced_text};
 ghost use Rattle.cqf_program_scenario.specs.RunParts.{texts_of};
 ghost use Rattle.cqf_laws_coverage.specs.Judged.{StandInOrder};
 ghost use Rattle.cqf_model.specs.Run.{AreBackground, AreOffers};
@@ -9,20 +10,21 @@ ghost use Rattle.cqf_admission.specs.declared.orders.Ordered.{Ordered as AnOrder
 ghost use Rattle.cqf_admission.specs.Orders.{StandsIn, ordered_in};
 ghost use Rattle.cqf_program_scenario.specs.Calls.{HasRoom};
 ghost use Rattle.cqf_program_scenario.specs.Closing.{MayBeRun, scenario_given};
-ghost use Rattle.cqf_program_scenario.specs.Scenario.{background_of_part, frames_of_part, scenario_after, scenario_input, scenario_of};
+ghost use Rattle.cqf_program_scenario.specs.Scenario.{background_of_part, frames_from, scenario_after, scenario_input, scenario_of};
 ghost use Rattle.cqf_program_scenario.specs.Logged.{HasOrders};
 ghost use Rattle.cqf_admission.specs.Script.{script_of};
 ghost use Rattle.cqf_output.specs.Stops.{IsRefused, or_line};
 ghost use Rattle.cqf_model.specs.Limits.{most_offers};
 
 use crate::{
-    RunParts, background_part, domain_part, offers_part, run_parts, script_part, streams_part,
+    Input, RunParts, background_part, domain_part, first_document, next_document, offers_part,
+    run_parts, script_part, streams_part,
 };
 use cqf_admission::{Names, Ordered, administrators};
 use cqf_model::{Background, Limits, Offer};
 use cqf_output::Stop;
 use cqf_report::offers_are_read_in_order;
-use cqf_topology::{Domain, PacedRequest};
+use cqf_topology::{Document, Domain, PacedRequest};
 use cqf_units::Memory;
 use std::alloc::Global;
 
@@ -87,23 +89,25 @@ fn read_background_of(
     }
 }
 
-/// Reads the offers and the background frames.
-fn read_frames(
+/// Reads the offers of a part and, if there is one, the background frames of another. Ends as [`offers_part`] does, and then as
+/// [`background_part`].
+pub fn frames_part(
     alloc: Global,
     domain: &Domain,
-    parts: RunParts<'_>,
+    offers: &[u8],
+    background: Option<&[u8]>,
 ) -> Result<(Vec<Offer>, Vec<Background>), Stop>
-    ensures ok { IfOk result (λ frames. frames_of_part domain.now (texts_of parts.entry) ≡ Ok (frames.0.items, frames.1.items)) }
+    ensures ok { IfOk result (λ frames. frames_from domain.now offers.now (option_map (λ text. text.now) background.entry) ≡ Ok (frames.0.items, frames.1.items)) }
     ensures offers { IfOk result (λ frames. AreOffers domain.now frames.0.items) }
     ensures order { IfOk result (λ frames. StandInOrder frames.0.items) }
     ensures background { IfOk result (λ frames. AreBackground domain.now frames.1.items) }
     ensures few_offers { IfOk result (λ frames. length frames.0.items ≤ most_offers) }
     ensures few_background { IfOk result (λ frames. length frames.1.items ≤ most_offers) }
-    ensures err { IfErr result (IsRefused (frames_of_part domain.now (texts_of parts.entry))) }
+    ensures err { IfErr result (IsRefused (frames_from domain.now offers.now (option_map (λ text. text.now) background.entry))) }
 {
     offers_are_read_in_order();
-    let offers = offers_part(alloc, domain, parts.offers)?;
-    let background = read_background_of(alloc, domain, parts.background)?;
+    let offers = offers_part(alloc, domain, offers)?;
+    let background = read_background_of(alloc, domain, background)?;
     Ok((offers, background))
 }
 
@@ -125,7 +129,7 @@ pub fn read_after(
     ensures err { IfErr result (IsRefused (scenario_after cycles domain (map asked_paced requests.items) (texts_of parts.entry))) }
 {
     let orders = read_orders(alloc, requests.as_slice(), cycles, parts.script)?;
-    let (offers, background) = read_frames(alloc, &domain, parts)?;
+    let (offers, background) = frames_part(alloc, &domain, parts.offers, parts.background)?;
     let Ok(script) = copy_of(alloc, parts.script) else {
         return Err(Stop::memory(alloc));
     };
@@ -140,20 +144,35 @@ pub fn read_after(
     })
 }
 
+/// Reads the streams of a part that follows a parsed one. Ends as [`streams_part`] does.
+pub fn next_streams<'i>(
+    alloc: Global,
+    first: Document<'i>,
+    text: &'i [u8],
+) -> Result<Vec<PacedRequest>, Stop>
+    ensures ok { IfOk result (λ requests. paced_of_text text.now ≡ Ok (map paced_text requests.items)) }
+    ensures err { IfErr result (IsRefused (or_line streams_line (paced_of_text text.now))) }
+{
+    let document = next_document(alloc, first, text)?;
+    streams_part(alloc, document)
+}
+
 /// Reads the scenario of these parts within some limits.
-fn read_parts(
+fn read_parts<'i>(
     alloc: Global,
     limits: Limits,
     cycles: u32,
-    parts: RunParts<'_>,
+    input: Input<'i>,
+    parts: RunParts<'i>,
 ) -> Result<RunInput, Stop>
     ensures ok { IfOk result (λ given. scenario_of limits cycles (texts_of parts.entry) ≡ Ok (scenario_given given)) }
     ensures stand { IfOk result (λ given. HasOrders given) }
     ensures good { IfOk result (λ given. MayBeRun cycles (scenario_given given)) }
     ensures err { IfErr result (IsRefused (scenario_of limits cycles (texts_of parts.entry))) }
 {
-    let domain = domain_part(alloc, limits, parts.domain)?;
-    let requests = streams_part(alloc, parts.streams)?;
+    let document = first_document(alloc, input, parts.domain)?;
+    let domain = domain_part(alloc, limits, &document)?;
+    let requests = next_streams(alloc, document, parts.streams)?;
     read_after(alloc, cycles, domain, requests, parts)
 }
 
@@ -163,13 +182,13 @@ pub fn read_given(
     alloc: Global,
     limits: Limits,
     cycles: u32,
-    input: &[u8],
+    input: Input<'_>,
 ) -> Result<RunInput, Stop>
-    ensures ok { IfOk result (λ given. scenario_input limits cycles input.now ≡ Ok (scenario_given given)) }
+    ensures ok { IfOk result (λ given. scenario_input limits cycles input.entry ≡ Ok (scenario_given given)) }
     ensures stand { IfOk result (λ given. HasOrders given) }
     ensures good { IfOk result (λ given. MayBeRun cycles (scenario_given given)) }
-    ensures err { IfErr result (IsRefused (scenario_input limits cycles input.now)) }
+    ensures err { IfErr result (IsRefused (scenario_input limits cycles input.entry)) }
 {
-    let parts = run_parts(alloc, input)?;
-    read_parts(alloc, limits, cycles, parts)
+    let parts = run_parts(alloc, input.bytes())?;
+    read_parts(alloc, limits, cycles, input, parts)
 }

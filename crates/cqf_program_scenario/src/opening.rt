@@ -12,6 +12,7 @@ ghost use Rattle.cqf_model.specs.Limits.{most_cycles};
 
 use crate::calls::apply_all;
 use crate::given::{RunInput, read_given};
+use crate::inputs::Input;
 use crate::parting::{Parted, part_calls};
 use cqf_admission::{Admission, Call, Command, calls_of};
 use cqf_model::{Background, Limits, Offer};
@@ -45,8 +46,12 @@ fn open(alloc: Global, domain: &Domain, calls: &[(u16, Call)]) -> Result<Admissi
     Ok(admission)
 }
 
-/// Returns what a scenario's bridges and administrators begin with.
-fn open_given(alloc: Global, cycles: u32, given: RunInput) -> Result<Opened, Memory>
+/// Returns what a scenario's bridges and administrators begin with. It is to run over `cycles` cycles, which are closed while it runs. The
+/// calls of the script before its first Seal are applied in order. The later calls are the administrators' commands; later Seals are skipped.
+///
+/// # Errors
+/// If an allocation fails.
+pub fn open_given(alloc: Global, cycles: u32, given: RunInput) -> Result<Opened, Memory>
     requires may { MayBeRun cycles (scenario_given given) }
     requires stand { HasOrders given }
     ensures { IfOk result (λ made. IsOpened cycles (scenario_given given) made) }
@@ -85,7 +90,7 @@ pub fn read_opened(alloc: Global, limits: Limits, cycles: u32, input: &[u8]) -> 
     ensures ok { IfOk result (λ made. IsOpenedInput limits cycles input.now made) }
     ensures err { IfErr result (IsRefused (scenario_input limits cycles input.now)) }
 {
-    let given = read_given(alloc, limits, cycles, input)?;
+    let given = read_given(alloc, limits, cycles, Input::of_bytes(input))?;
     match open_given(alloc, cycles, given) {
         Ok(made) => Ok(made),
         Err(_) => Err(Stop::memory(alloc)),

@@ -1,5 +1,5 @@
 //! The readers of parts that several commands share.
-ghost use Rattle.std.specs.Prelude.{◌≡◌, ◌≢◌, ◌≤◌, [], All, Ok, IfOk, IfErr, length, map};
+ghost use Rattle.std.specs.Prelude.{◌≡◌, ◌≢◌, ◌≤◌, ◌↔◌, [], All, Ok, IfOk, IfErr, length, map, true};
 ghost use Rattle.cqf_admission.specs.Asking.{asked_paced};
 ghost use Rattle.cqf_program_scenario.specs.Lines.{background_line, domain_line, offers_line, script_line, streams_line};
 ghost use Rattle.cqf_model.specs.Run.{AreBackground, AreOffers};
@@ -21,8 +21,8 @@ use cqf_network::{NetworkDomain, NetworkFault};
 use cqf_output::Stop;
 use cqf_report::{TableFault, read_background, read_offers};
 use cqf_topology::{
-    Domain, DomainFault, PacedRequest, Planned, StreamsFault, read_paced_streams,
-    read_planned_streams,
+    Document, Domain, DomainFault, PacedRequest, Planned, StreamsFault, paced_streams_of_document,
+    planned_streams_of_document,
 };
 use std::alloc::Global;
 
@@ -51,7 +51,7 @@ fn streams_stop(alloc: Global, fault: StreamsFault) -> Stop
 }
 
 /// Returns the end of a command whose script is refused: with status 1 and the line of the fault, or with status 3 if an allocation failed.
-fn script_stop(alloc: Global, fault: ScriptFault) -> Stop
+pub fn script_stop(alloc: Global, fault: ScriptFault) -> Stop
     ensures refused { fault ≢ ScriptFault.Memory → EndsWith 1 (script_line fault) result }
     ensures memory { fault ≡ ScriptFault.Memory → EndsWith 3 [] result }
 {
@@ -73,13 +73,52 @@ fn table_stop(alloc: Global, part: &str, fault: TableFault) -> Stop
     }
 }
 
+/// Returns whether two texts are the same.
+fn is_same(one: &[u8], other: &[u8]) -> bool
+    ensures { (result ≡ true) ↔ (one.now ≡ other.now) }
+{
+    one == other
+}
+
+/// Parses the text of a part. Returns `Err` with status 3 if an allocation fails.
+pub fn document_part(alloc: Global, text: &[u8]) -> Result<Document<'_>, Stop>
+    ensures ok { IfOk result (λ document. document ≡ text.now) }
+    ensures err { IfErr result (EndsWith 3 []) }
+{
+    match Document::read(alloc, text) {
+        Ok(document) => Ok(document),
+        Err(_) => Err(Stop::memory(alloc)),
+    }
+}
+
+/// Parses the text of a part that follows another one. If it is the same, as in a network file that is both parts, it isn't parsed again; else
+/// the first document is dropped before. Returns `Err` with status 3 if an allocation fails.
+pub fn next_document<'i>(
+    alloc: Global,
+    first: Document<'i>,
+    text: &'i [u8],
+) -> Result<Document<'i>, Stop>
+    ensures ok { IfOk result (λ document. document ≡ text.now) }
+    ensures err { IfErr result (EndsWith 3 []) }
+{
+    if is_same(first.text(), text) {
+        return Ok(first);
+    }
+    drop(first);
+    document_part(alloc, text)
+}
+
 /// Returns the network of a part that is read within some limits, whose cycle time isn't open. Returns `Err` with status 1 and the line of
 /// its first fault, and with status 3 if an allocation fails.
-pub fn network_part(alloc: Global, limits: Limits, text: &[u8]) -> Result<NetworkDomain, Stop>
-    ensures ok { IfOk result (λ network. network_of_part limits text.now ≡ Ok network) }
-    ensures err { IfErr result (IsRefused (network_of_part limits text.now)) }
+pub fn network_part(
+    alloc: Global,
+    limits: Limits,
+    document: &Document<'_>,
+) -> Result<NetworkDomain, Stop>
+    ensures ok { IfOk result (λ network. network_of_part limits document.now ≡ Ok network) }
+    ensures err { IfErr result (IsRefused (network_of_part limits document.now)) }
 {
-    match NetworkDomain::read_one(alloc, text, limits) {
+    match NetworkDomain::one_of_document(alloc, document, limits) {
         Ok(network) => Ok(network),
         Err(fault) => Err(domain_stop(alloc, &fault)),
     }
@@ -98,31 +137,31 @@ pub fn domain_of(alloc: Global, network: &NetworkDomain) -> Result<Domain, Stop>
 }
 
 /// Returns the domain of a part that is read within some limits. Errors are those of [`network_part`].
-pub fn domain_part(alloc: Global, limits: Limits, text: &[u8]) -> Result<Domain, Stop>
-    ensures ok { IfOk result (λ domain. domain_of_part limits text.now ≡ Ok domain) }
-    ensures err { IfErr result (IsRefused (domain_of_part limits text.now)) }
+pub fn domain_part(alloc: Global, limits: Limits, document: &Document<'_>) -> Result<Domain, Stop>
+    ensures ok { IfOk result (λ domain. domain_of_part limits document.now ≡ Ok domain) }
+    ensures err { IfErr result (IsRefused (domain_of_part limits document.now)) }
 {
-    let network = network_part(alloc, limits, text)?;
+    let network = network_part(alloc, limits, document)?;
     domain_of(alloc, &network)
 }
 
 /// Reads the streams of a part. Ends as [`domain_part`] does.
-pub fn streams_part(alloc: Global, text: &[u8]) -> Result<Vec<PacedRequest>, Stop>
-    ensures ok { IfOk result (λ requests. paced_of_text text.now ≡ Ok (map paced_text requests.items)) }
-    ensures err { IfErr result (IsRefused (or_line streams_line (paced_of_text text.now))) }
+pub fn streams_part(alloc: Global, document: Document<'_>) -> Result<Vec<PacedRequest>, Stop>
+    ensures ok { IfOk result (λ requests. paced_of_text document.entry ≡ Ok (map paced_text requests.items)) }
+    ensures err { IfErr result (IsRefused (or_line streams_line (paced_of_text document.entry))) }
 {
-    match read_paced_streams(alloc, text) {
+    match paced_streams_of_document(alloc, &document) {
         Ok(requests) => Ok(requests),
         Err(fault) => Err(streams_stop(alloc, fault)),
     }
 }
 
 /// Reads the streams of a part, with their deadlines. Ends as [`domain_part`] does.
-pub fn planned_part(alloc: Global, text: &[u8]) -> Result<Vec<Planned>, Stop>
-    ensures ok { IfOk result (λ streams. planned_of_text text.now ≡ Ok (map planned_text streams.items)) }
-    ensures err { IfErr result (IsRefused (or_line streams_line (planned_of_text text.now))) }
+pub fn planned_part(alloc: Global, document: Document<'_>) -> Result<Vec<Planned>, Stop>
+    ensures ok { IfOk result (λ streams. planned_of_text document.entry ≡ Ok (map planned_text streams.items)) }
+    ensures err { IfErr result (IsRefused (or_line streams_line (planned_of_text document.entry))) }
 {
-    match read_planned_streams(alloc, text) {
+    match planned_streams_of_document(alloc, &document) {
         Ok(streams) => Ok(streams),
         Err(fault) => Err(streams_stop(alloc, fault)),
     }

@@ -10,6 +10,8 @@
 //!   start on a link, or a drop at the edge bridge. A [`FrameFilter`] selects the frames of a stream, a single frame,
 //!   or all.
 //!
+//! [`summary_of_given`] and [`hops_of_given`] return the same for a scenario that was read before.
+//!
 //! Each command is a folder. `specs/Summary` has the streams of a summary (`Written`), their rows (with `Tallies`) and
 //! text (`Text`). `specs/Hops` has the starts and drops by frame, their order (`Legs`) and text (`Text`). The `Output`
 //! of each defines when a text is the output.
@@ -29,8 +31,8 @@
 mod hops;
 mod summary;
 
-pub use hops::command::hops_output;
+pub use hops::command::{hops_of_given, hops_output};
 pub use hops::outputs::HopsOutput;
 pub use hops::wanting::FrameFilter;
-pub use summary::command::summary_output;
+pub use summary::command::{summary_of_given, summary_output};
 pub use summary::outputs::SummaryOutput;

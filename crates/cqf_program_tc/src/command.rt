@@ -14,11 +14,11 @@ use crate::outputs::{EnvOutput, ReadyPlan, TcOutput};
 use crate::rows::indices_by_bridge;
 use crate::variables::{link_variables, stream_variables};
 use crate::words::write_gate_words;
-use cqf_addressing::{LinkInterfaces, StreamAddress, addresses_part, interfaces_part};
+use cqf_addressing::{LinkInterfaces, StreamAddress, addresses_in_part, interfaces_in_part};
 use cqf_model::{Limits, Node, Row};
 use cqf_output::{Buffer, REFUSED, Stop};
 use cqf_program_plans::{gated_rows, read_plan, rows_of_cycle_0};
-use cqf_program_scenario::two_parts;
+use cqf_program_scenario::{Input, document_part, next_document, two_parts};
 use cqf_topology::{Domain, PacedRequest};
 use cqf_units::Memory;
 use std::alloc::{AllocError, Global};
@@ -33,32 +33,35 @@ struct Found {
 }
 
 /// Reads the interfaces of links and the addresses of streams from the two parts.
-fn read_keys(
+fn read_keys<'i>(
     alloc: Global,
     limits: Limits,
-    domain_text: &[u8],
-    streams_text: &[u8],
+    domain_text: &'i [u8],
+    streams_text: &'i [u8],
 ) -> Result<(Vec<LinkInterfaces>, Vec<StreamAddress>), Stop>
     ensures ok { IfOk result (λ keys. keys_of limits (domain_text.now, streams_text.now) ≡ Ok (keys.0.items, keys.1.items)) }
     ensures err { IfErr result (IsRefused (keys_of limits (domain_text.now, streams_text.now))) }
 {
-    let interfaces = interfaces_part(alloc, domain_text)?;
-    let addresses = addresses_part(alloc, limits, streams_text)?;
+    let first = document_part(alloc, domain_text)?;
+    let interfaces = interfaces_in_part(alloc, &first)?;
+    let streams = next_document(alloc, first, streams_text)?;
+    let addresses = addresses_in_part(alloc, limits, &streams)?;
     Ok((interfaces, addresses))
 }
 
 /// Reads an input within some limits.
-fn read_input(alloc: Global, limits: Limits, input: &[u8]) -> Result<Found, Stop>
-    ensures ok { IfOk result (λ found. addressed_input limits input.now ≡ Ok (record {
+fn read_input(alloc: Global, limits: Limits, input: Input<'_>) -> Result<Found, Stop>
+    ensures ok { IfOk result (λ found. addressed_input limits input.entry ≡ Ok (record {
       domain = found.domain;
       streams = map asked_paced found.requests.items;
       interfaces = found.interfaces.items;
       addresses = found.addresses.items;
     })) }
-    ensures err { IfErr result (IsRefused (addressed_input limits input.now)) }
+    ensures err { IfErr result (IsRefused (addressed_input limits input.entry)) }
 {
+    let bytes = input.bytes();
     let (domain, requests) = read_plan(alloc, limits, input)?;
-    let (domain_text, streams_text) = two_parts(alloc, input)?;
+    let (domain_text, streams_text) = two_parts(alloc, bytes)?;
     let (interfaces, addresses) = read_keys(alloc, limits, domain_text, streams_text)?;
     Ok(Found {
         domain,
@@ -206,10 +209,10 @@ pub fn tc_output(
     limits: Limits,
     software: bool,
     edge_gates: bool,
-    input: &[u8],
+    input: Input<'_>,
 ) -> Result<TcOutput, Stop>
-    ensures ok { IfOk result (λ output. tc_of_input limits software edge_gates input.now ≡ Ok (text_of_tc output)) }
-    ensures err { IfErr result (IsRefused (tc_of_input limits software edge_gates input.now)) }
+    ensures ok { IfOk result (λ output. tc_of_input limits software edge_gates input.entry ≡ Ok (text_of_tc output)) }
+    ensures err { IfErr result (IsRefused (tc_of_input limits software edge_gates input.entry)) }
 {
     let found = read_input(alloc, limits, input)?;
     script_of(alloc, software, edge_gates, found)
@@ -295,10 +298,10 @@ pub fn env_output(
     limits: Limits,
     edge_gates: bool,
     bridge: &str,
-    input: &[u8],
+    input: Input<'_>,
 ) -> Result<EnvOutput, Stop>
-    ensures ok { IfOk result (λ output. env_of_input limits edge_gates bridge.now input.now ≡ Ok (text_of_env output)) }
-    ensures err { IfErr result (IsRefused (env_of_input limits edge_gates bridge.now input.now)) }
+    ensures ok { IfOk result (λ output. env_of_input limits edge_gates bridge.now input.entry ≡ Ok (text_of_env output)) }
+    ensures err { IfErr result (IsRefused (env_of_input limits edge_gates bridge.now input.entry)) }
 {
     let found = read_input(alloc, limits, input)?;
     file_of(alloc, edge_gates, bridge, found)

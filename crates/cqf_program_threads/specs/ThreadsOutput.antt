@@ -26,10 +26,10 @@ pub record IsAccountOfScenario (cycles : ℕ) (s : Scenario) (entries : List Rec
   pub asked : AreCommandsAfter s.calls s.sealer (all_asked commands)
   pub is_account : IsAccountOf s.domain (opening_history s) s.offers s.background cycles (all_asked commands) entries book
 
--- an account, by traces, of an input's scenario; and the scenario's domain
-pub record IsAccountOfInput (limits : Limits) (cycles : ℕ) (input : List ℕ) (d : Domain) (account : TracedAccount) : Type 0 where
+-- an account, by traces, of a scenario that was found; and the scenario's domain
+pub record IsAccountFound (cycles : ℕ) (found : Result Scenario (List ℕ)) (d : Domain) (account : TracedAccount) : Type 0 where
   pub scenario : Scenario
-  pub holds : scenario_input limits cycles input ≡ Ok scenario
+  pub holds : found ≡ Ok scenario
   pub domain : d ≡ scenario.domain
   pub commands : List (List Command)
   pub asked : AreCommandsAfter scenario.calls scenario.sealer (all_asked commands)
@@ -42,20 +42,24 @@ pub record IsFaultOfScenario (cycles : ℕ) (s : Scenario) (fault : ConductFault
   pub asked : AreCommandsAfter s.calls s.sealer (all_asked commands)
   pub may : IsConductFault s.domain (opening_history s) s.offers s.background cycles commands fault
 
--- a possible fault of a run of an input's scenario
-pub record IsFaultOfInput (limits : Limits) (cycles : ℕ) (input : List ℕ) (fault : ConductFault) : Type 0 where
+-- a possible fault of a run of a scenario that was found
+pub record IsFaultFound (cycles : ℕ) (found : Result Scenario (List ℕ)) (fault : ConductFault) : Type 0 where
   pub scenario : Scenario
-  pub holds : scenario_input limits cycles input ≡ Ok scenario
+  pub holds : found ≡ Ok scenario
   pub of_scenario : IsFaultOfScenario cycles scenario fault
 
--- the output is the text of the history of an account of the input's scenario, and of its book
-pub record IsThreadsOutput (limits : Limits) (cycles : ℕ) (input output : List ℕ) : Type 0 where
+-- the output is the text of the history of an account of the scenario that was found, and of its book
+pub record IsThreadsOutputOf (cycles : ℕ) (found : Result Scenario (List ℕ)) (output : List ℕ) : Type 0 where
   pub scenario : Scenario
-  pub holds : scenario_input limits cycles input ≡ Ok scenario
+  pub holds : found ≡ Ok scenario
   pub entries : List Recorded
   pub book : Contents
   pub of_scenario : IsAccountOfScenario cycles scenario entries book
   pub written : output ≡ run_text scenario.domain entries book
+
+-- the same for the scenario of an input
+abbrev pub IsThreadsOutput : Limits → ℕ → List ℕ → List ℕ → Type 0
+IsThreadsOutput limits cycles input output = IsThreadsOutputOf cycles (scenario_input limits cycles input) output
 
 -- the line is that of a possible fault of a run of the input's scenario over some cycles. A failed allocation has no
 -- such line
@@ -67,10 +71,14 @@ pub record WritesFault (cycles : ℕ) (found : Result Scenario (List ℕ)) (line
   pub other : fault ≢ Memory
   pub reports : line ≡ fault_line (codes "run") (conduct_fault_text fault)
 
--- how it ends without an account: with status 1 and the line of the input's first fault, with status 4 and the line of
+-- how it ends without an account: with status 1 and the line for which the scenario is refused, with status 4 and the line of
 -- the run's fault, or with status 3 because an allocation failed
-pub record EndsThreads (limits : Limits) (cycles : ℕ) (input : List ℕ) (stop : Stop) : Type 0 where
+pub record EndsThreadsOf (cycles : ℕ) (found : Result Scenario (List ℕ)) (stop : Stop) : Type 0 where
   pub statuses : (stop.status ≡ 1) ⊎ ((stop.status ≡ 3) ⊎ (stop.status ≡ 4))
-  pub refused : stop.status ≡ 1 → scenario_input limits cycles input ≡ Err stop.text.items
-  pub fault : stop.status ≡ 4 → WritesFault cycles (scenario_input limits cycles input) stop.text.items
+  pub refused : stop.status ≡ 1 → found ≡ Err stop.text.items
+  pub fault : stop.status ≡ 4 → WritesFault cycles found stop.text.items
   pub memory : stop.status ≡ 3 → stop.text.items ≡ []
+
+-- the same for the scenario of an input
+abbrev pub EndsThreads : Limits → ℕ → List ℕ → Stop → Type 0
+EndsThreads limits cycles input stop = EndsThreadsOf cycles (scenario_input limits cycles input) stop

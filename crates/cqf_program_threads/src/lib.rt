@@ -3,7 +3,7 @@
 //!
 //! - [`threads_output`] returns the command's output for its input, that is the history and the book of an account of
 //!   the input's scenario; or the stop with the line of the first fault of the input or of the run.
-//!   [`ThreadsOutput::write`] writes it and allocates no memory.
+//!   [`ThreadsOutput::write`] writes it and allocates no memory. [`threads_of_given`] returns the output for a scenario that was read.
 //! - A `PagedBook` is the traces of some cycles of a domain. On each trace the transmissions of either kind are in order
 //!   of instant. `put_paged_book` puts the text of the book of these traces on a writer, cycle by cycle and link by link.
 //!
@@ -24,5 +24,5 @@ mod threads_outputs;
 
 pub(crate) use paged::PagedBook;
 pub(crate) use pages_writing::put_paged_book;
-pub use threads_command::threads_output;
+pub use threads_command::{threads_of_given, threads_output};
 pub use threads_outputs::ThreadsOutput;

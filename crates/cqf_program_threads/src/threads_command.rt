@@ -1,16 +1,19 @@
 //! The command `run` with `--threads`: the history and the book of an account.
-ghost use Rattle.std.specs.Prelude.{◌≡◌, ◌≢◌, ◌≤◌, ◌++◌, [], IfErr, IfOk, codes, map, string_bytes};
+ghost use Rattle.std.specs.Prelude.{ℕ, ◌≡◌, ◌≢◌, ◌≤◌, ◌++◌, [], IfErr, IfOk, List, Ok, Result, codes, map, string_bytes};
 ghost use Rattle.cqf_admission.specs.Admission.{recorded_of};
 ghost use Rattle.cqf_output.specs.Edge.{IsWritten, writing};
 ghost use Rattle.cqf_output.specs.Writer.{Puts};
 ghost use Rattle.cqf_report.specs.Books.{text_of_book};
 ghost use Rattle.cqf_program_runs.specs.Run.Output.{run_text};
-ghost use Rattle.cqf_program_scenario.specs.Opening.{IsOpenedInput};
+ghost use Rattle.cqf_program_scenario.specs.Closing.{MayBeRun, scenario_given};
+ghost use Rattle.cqf_program_scenario.specs.Logged.{HasOrders};
+ghost use Rattle.cqf_program_scenario.specs.Opening.{IsOpenedOf, IsOpenedOfSome};
+ghost use Rattle.cqf_program_scenario.specs.Scenario.{Scenario};
 ghost use Rattle.cqf_output.specs.Stops.{EndsWith, fault_line, line_of};
 ghost use Rattle.cqf_worker.specs.Faults.{conduct_fault_text};
 ghost use Rattle.cqf_program_threads.specs.AccountWritten.{text_of_account};
 ghost use Rattle.cqf_program_threads.specs.PagedBooks.{contents_written};
-ghost use Rattle.cqf_program_threads.specs.ThreadsOutput.{EndsThreads, IsAccountOfInput, IsFaultOfInput, IsThreadsOutput};
+ghost use Rattle.cqf_program_threads.specs.ThreadsOutput.{EndsThreads, EndsThreadsOf, IsAccountFound, IsFaultFound, IsThreadsOutput, IsThreadsOutputOf};
 ghost use Rattle.cqf_model.specs.Limits.{most_cycles};
 
 use crate::threads_outputs::ThreadsOutput;
@@ -19,7 +22,7 @@ use cqf_admission::Entry;
 use cqf_laws_account::traces_give_the_book;
 use cqf_model::Limits;
 use cqf_output::{Buffer, CheckedSink, FAULT, Sink, Stop, Writer};
-use cqf_program_scenario::{Opened, read_opened};
+use cqf_program_scenario::{Opened, RunInput, open_given, read_opened};
 use cqf_report::put_history;
 use cqf_topology::Domain;
 use cqf_worker::{ConductFault, Free, TracedAccount, conduct_traces};
@@ -47,19 +50,17 @@ fn fault_stop(alloc: Global, fault: ConductFault) -> Stop
     }
 }
 
-/// Runs what was opened of the input. Returns its domain and the account of the run, by traces; or the run's fault.
+/// Runs what was opened of a scenario. Returns its domain and the account of the run, by traces; or the run's fault.
 fn conduct_opened(
     rt: &(impl Threads + Wait + Sync),
     alloc: Global,
-    limits: Limits,
     cycles: u32,
-    input: &[u8],
     opened: Opened,
 ) -> Result<(Domain, TracedAccount), ConductFault>
     requires short { cycles ≤ most_cycles }
-    requires opened { IsOpenedInput limits cycles input.now opened }
-    ensures ok { IfOk result (λ ran. IsAccountOfInput limits cycles input.now ran.0 ran.1) }
-    ensures err { IfErr result (IsFaultOfInput limits cycles input.now) }
+    requires opened { IsOpenedOfSome cycles opened }
+    ensures ok { (found : Result Scenario (List ℕ)) → IsOpenedOf cycles found opened → IfOk result (λ ran. IsAccountFound cycles found ran.0 ran.1) }
+    ensures err { (found : Result Scenario (List ℕ)) → IsOpenedOf cycles found opened → IfErr result (IsFaultFound cycles found) }
 {
     let Opened {
         domain,
@@ -118,6 +119,56 @@ impl ThreadsOutput {
     }
 }
 
+/// Returns the output for what was opened of a scenario. Ends as [`threads_output`] does, except that nothing is refused.
+fn threads_of_opened(
+    rt: &(impl Threads + Wait + Sync),
+    alloc: Global,
+    cycles: u32,
+    opened: Opened,
+) -> Result<ThreadsOutput, Stop>
+    requires short { cycles ≤ most_cycles }
+    requires opened { IsOpenedOfSome cycles opened }
+    ensures ok { (found : Result Scenario (List ℕ)) → IsOpenedOf cycles found opened →
+        IfOk result (λ output. IsThreadsOutputOf cycles found (text_of_account output)) }
+    ensures err { (found : Result Scenario (List ℕ)) → IsOpenedOf cycles found opened → IfErr result (EndsThreadsOf cycles found) }
+{
+    traces_give_the_book();
+    let (domain, account) = match conduct_opened(rt, alloc, cycles, opened) {
+        Ok(ran) => ran,
+        Err(fault) => return Err(fault_stop(alloc, fault)),
+    };
+    domain.know();
+    let TracedAccount { history, traces } = account;
+    let book = PagedBook::new(domain, cycles, traces);
+    match Buffer::new(alloc) {
+        Ok(buffer) => Ok(ThreadsOutput {
+            history,
+            book,
+            buffer,
+        }),
+        Err(_) => Err(Stop::memory(alloc)),
+    }
+}
+
+/// Returns the output of `run --threads` for a scenario that was read. Ends as [`threads_output`] does, except that nothing is refused.
+pub fn threads_of_given(
+    rt: &(impl Threads + Wait + Sync),
+    alloc: Global,
+    cycles: u32,
+    given: RunInput,
+) -> Result<ThreadsOutput, Stop>
+    requires short { cycles ≤ most_cycles }
+    requires may { MayBeRun cycles (scenario_given given) }
+    requires stand { HasOrders given }
+    ensures ok { IfOk result (λ output. IsThreadsOutputOf cycles (Ok (scenario_given given)) (text_of_account output)) }
+    ensures err { IfErr result (EndsThreadsOf cycles (Ok (scenario_given given))) }
+{
+    match open_given(alloc, cycles, given) {
+        Ok(opened) => threads_of_opened(rt, alloc, cycles, opened),
+        Err(_) => Err(Stop::memory(alloc)),
+    }
+}
+
 /// Returns the output of `run --threads` over `cycles` cycles, 0 to 100,000, for an input that is read within given
 /// limits, ready to be written.
 ///
@@ -141,24 +192,8 @@ pub fn threads_output(
     ensures ok { IfOk result (λ output. IsThreadsOutput limits cycles input.now (text_of_account output)) }
     ensures err { IfErr result (EndsThreads limits cycles input.now) }
 {
-    let opened = match read_opened(alloc, limits, cycles, input) {
-        Ok(opened) => opened,
-        Err(stop) => return Err(stop),
-    };
-    traces_give_the_book();
-    let (domain, account) = match conduct_opened(rt, alloc, limits, cycles, input, opened) {
-        Ok(ran) => ran,
-        Err(fault) => return Err(fault_stop(alloc, fault)),
-    };
-    domain.know();
-    let TracedAccount { history, traces } = account;
-    let book = PagedBook::new(domain, cycles, traces);
-    match Buffer::new(alloc) {
-        Ok(buffer) => Ok(ThreadsOutput {
-            history,
-            book,
-            buffer,
-        }),
-        Err(_) => Err(Stop::memory(alloc)),
+    match read_opened(alloc, limits, cycles, input) {
+        Ok(opened) => threads_of_opened(rt, alloc, cycles, opened),
+        Err(stop) => Err(stop),
     }
 }

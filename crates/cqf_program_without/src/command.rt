@@ -10,13 +10,14 @@ ghost use Rattle.cqf_program_without.specs.Output.{parts_with, unknown_link_line
 ghost use Rattle.cqf_program_without.specs.Tables.{IsTextWithout};
 
 use crate::links::first_unknown;
-use crate::tables::{table_of, text_without};
+use crate::tables::text_without;
 use cqf_model::Limits;
 use cqf_network::NetworkDomain;
 use cqf_output::{REFUSED, Stop};
 use cqf_program_planning::{Search, open_network_part, plan_of_parts, plan_output};
-use cqf_program_scenario::two_parts;
+use cqf_program_scenario::{Input, parsed_parts};
 use cqf_program_words::LinkName;
+use cqf_topology::Document;
 use cqf_units::Memory;
 use std::alloc::Global;
 
@@ -36,30 +37,24 @@ fn unknown_stop(alloc: Global, link: &LinkName) -> Stop
     Stop::with_text(alloc, REFUSED, line_of_unknown(alloc, link))
 }
 
-/// Returns the first of the links that the network of a text doesn't have. Fails only if an allocation fails.
-fn unknown_in<'l>(
-    alloc: Global,
-    links: &'l [LinkName],
-    text: &[u8],
-) -> Result<Option<&'l LinkName>, Memory>
-    ensures { IfOk result (λ link. option_map (λ it. it.now) link ≡ option_and_then (first_unknown links.now) (table_of text.now)) }
+/// Returns the first of the links that the network of a document doesn't have.
+fn unknown_in<'l>(links: &'l [LinkName], document: &Document<'_>) -> Option<&'l LinkName>
+    ensures { option_map (λ it. it.now) result ≡ option_and_then (first_unknown links.now) (table_of document.now) }
 {
-    let table = table_of(alloc, text)?;
-    match table {
-        Some(table) => Ok(first_unknown(links, &table)),
-        None => Ok(None),
+    match document.table() {
+        Ok(table) => first_unknown(links, table),
+        Err(_) => None,
     }
 }
 
 /// Refuses links that the network of a text doesn't have, with status 1 and the line of the first one; with status 3 if an allocation fails.
-fn refuse_unknown(alloc: Global, links: &[LinkName], text: &[u8]) -> Result<(), Stop>
-    ensures ok { OnOk result (known links.now text.now ≡ Ok tt) }
-    ensures err { IfErr result (IsRefused (known links.now text.now)) }
+fn refuse_unknown(alloc: Global, links: &[LinkName], document: &Document<'_>) -> Result<(), Stop>
+    ensures ok { OnOk result (known links.now document.now ≡ Ok tt) }
+    ensures err { IfErr result (IsRefused (known links.now document.now)) }
 {
-    match unknown_in(alloc, links, text) {
-        Ok(Some(link)) => Err(unknown_stop(alloc, link)),
-        Ok(None) => Ok(()),
-        Err(_) => Err(Stop::memory(alloc)),
+    match unknown_in(links, document) {
+        Some(link) => Err(unknown_stop(alloc, link)),
+        None => Ok(()),
     }
 }
 
@@ -82,14 +77,14 @@ fn network_of(
     alloc: Global,
     limits: Limits,
     given: &Option<Vec<u32>>,
-    text: &[u8],
+    document: &Document<'_>,
 ) -> Result<NetworkDomain, Stop>
     requires { IfSome given.now (λ cycles. AreCandidates cycles.items) }
-    ensures ok { let said = option_map (λ cycles. cycles.items) given.now in IfOk result (λ network. open_network_of_text limits said text.now ≡ Ok network) }
-    ensures err { let said = option_map (λ cycles. cycles.items) given.now in IfErr result (IsRefused (or_line network_line (open_network_of_text limits said text.now))) }
+    ensures ok { let said = option_map (λ cycles. cycles.items) given.now in IfOk result (λ network. open_network_of_text limits said document.now ≡ Ok network) }
+    ensures err { let said = option_map (λ cycles. cycles.items) given.now in IfErr result (IsRefused (or_line network_line (open_network_of_text limits said document.now))) }
 {
     match copied(alloc, given) {
-        Ok(cycles) => open_network_part(alloc, limits, text, cycles),
+        Ok(cycles) => open_network_part(alloc, limits, document, cycles),
         Err(_) => Err(Stop::memory(alloc)),
     }
 }
@@ -104,16 +99,16 @@ fn parts_with<'i>(
     limits: Limits,
     given: &Option<Vec<u32>>,
     links: &[LinkName],
-    input: &'i [u8],
+    input: Input<'i>,
 ) -> Result<(&'i [u8], &'i [u8]), Stop>
     requires { IfSome given.now (λ cycles. AreCandidates cycles.items) }
-    ensures ok { let said = option_map (λ cycles. cycles.items) given.now in IfOk result (λ parts. parts_with limits said links.now input.now ≡ Ok (parts.0.now, parts.1.now)) }
-    ensures err { let said = option_map (λ cycles. cycles.items) given.now in IfErr result (IsRefused (parts_with limits said links.now input.now)) }
+    ensures ok { let said = option_map (λ cycles. cycles.items) given.now in IfOk result (λ parts. parts_with limits said links.now input.entry ≡ Ok (parts.0.now, parts.1.now)) }
+    ensures err { let said = option_map (λ cycles. cycles.items) given.now in IfErr result (IsRefused (parts_with limits said links.now input.entry)) }
 {
-    let (domain, streams) = two_parts(alloc, input)?;
-    let _network = network_of(alloc, limits, given, domain)?;
-    refuse_unknown(alloc, links, domain)?;
-    Ok((domain, streams))
+    let (document, streams) = parsed_parts(alloc, input)?;
+    let _network = network_of(alloc, limits, given, &document)?;
+    refuse_unknown(alloc, links, &document)?;
+    Ok((document.text(), streams))
 }
 
 /// Returns a text of the input without the links. Returns `Err` with status 3 if an allocation fails.
@@ -173,11 +168,11 @@ fn plan_of_known(
     search: Search,
     given: Option<Vec<u32>>,
     links: &[LinkName],
-    input: &[u8],
+    input: Input<'_>,
 ) -> Result<Vec<u8>, Stop>
     requires { IfSome given (λ cycles. AreCandidates cycles.items) }
-    ensures ok { let said = option_map (λ cycles. cycles.items) given in IfOk result (λ text. IsPlanOfKnown limits table search said links.now (parts_with limits said links.now input.now) (Ok text.items)) }
-    ensures err { let said = option_map (λ cycles. cycles.items) given in IfErr result (IsKnownRefusal limits table search said links.now input.now) }
+    ensures ok { let said = option_map (λ cycles. cycles.items) given in IfOk result (λ text. IsPlanOfKnown limits table search said links.now (parts_with limits said links.now input.entry) (Ok text.items)) }
+    ensures err { let said = option_map (λ cycles. cycles.items) given in IfErr result (IsKnownRefusal limits table search said links.now input.entry) }
 {
     let (domain, streams) = parts_with(alloc, limits, &given, links, input)?;
     match plan_of_rest(alloc, limits, table, search, given, links, domain, streams) {
@@ -199,11 +194,11 @@ pub fn plan_without(
     search: Search,
     given: Option<Vec<u32>>,
     links: &[LinkName],
-    input: &[u8],
+    input: Input<'_>,
 ) -> Result<Vec<u8>, Stop>
     requires { IfSome given (λ cycles. AreCandidates cycles.items) }
-    ensures ok { IfOk result (λ text. IsPlanWithout limits table search (option_map (λ cycles. cycles.items) given) links.now input.now (Ok text.items)) }
-    ensures err { IfErr result (IsRefusalWithout limits table search (option_map (λ cycles. cycles.items) given) links.now input.now) }
+    ensures ok { IfOk result (λ text. IsPlanWithout limits table search (option_map (λ cycles. cycles.items) given) links.now input.entry (Ok text.items)) }
+    ensures err { IfErr result (IsRefusalWithout limits table search (option_map (λ cycles. cycles.items) given) links.now input.entry) }
 {
     if links.is_empty() {
         return match plan_output(alloc, limits, table, search, given, input) {

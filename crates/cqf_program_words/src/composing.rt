@@ -123,26 +123,6 @@ pub fn composed_after(
     joined(alloc, network, first, rest)
 }
 
-/// Returns the input that is made from two texts and others after them, as [`composed`] does. Returns `Memory` if an allocation fails.
-pub fn composed_between(
-    alloc: Global,
-    job: &Job,
-    names: &[&str],
-    first: &[u8],
-    second: &[u8],
-    rest: &[&[u8]],
-) -> Result<Vec<u8>, Memory>
-    ensures { IfOk result (λ input. input.items
-        ≡ composed_of job.now (map (λ name. name.now) names.now) (first.now ∷ second.now ∷ map (λ text. text.now) rest.now)) }
-{
-    let network = is_network(alloc, job, names, first)?;
-    let mut input = Vec::new(alloc);
-    put_first(&mut input, network, first)?;
-    put_after(&mut input, second)?;
-    put_rest(&mut input, rest)?;
-    Ok(input)
-}
-
 /// Returns the input that is made from the texts of files with these names, for the job: one text after the other, with a line `%%` between
 /// them. A line feed follows each text that isn't empty and doesn't end with one. If the job takes a domain, the first text has no line
 /// `%%`, and the second name doesn't end with `.toml`, then the first text is there twice, as the domain and as its streams. Returns

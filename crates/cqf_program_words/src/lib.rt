@@ -35,9 +35,7 @@ mod shown;
 mod words;
 
 pub use candidates::Candidates;
-pub use composing::{
-    composed, composed_after, composed_between, is_network, is_toml, is_undivided, joined,
-};
+pub use composing::{composed, composed_after, is_network, is_toml, is_undivided, joined};
 pub use laws::words_are_read_as_clap_has_them;
 pub use links::{LinkName, link_named};
 pub use naming::candidates_named;

@@ -1,11 +1,15 @@
 -- The tables and values of a TOML document: which keys must be there, and the value at a key.
 use Rattle.std.specs.Prelude.{ℕ, ◌≡◌, ◌≢◌, ℤ, pos, negsuc, List, [], ◌∷◌, ◌&&◌, Bool, true, if◌then◌else◌, codes, nat_le, is_some, is_none, find, Option, Some}
-use Rattle.std.specs.Prelude.{None, option_and_then, ok_or, Result, Ok, Err}
+use Rattle.std.specs.Prelude.{None, String, option_and_then, option_map, ok_or, Result, Ok, Err}
 use Rattle.std.specs.Option.{option_or}
 use Rattle.std.specs.Str.{is_utf8}
 use Rattle.cqf_lists.specs.Results.{and_then, refuse}
 use Rattle.toml.specs.Data.{Data, as_str, as_integer, as_array, as_table, Items, no_items, item, Members, get_member}
 use Rattle.toml.specs.Parse.{parse_document}
+use Rattle.toml.specs.View.{table_view}
+use Rattle.std.specs.BTreeMap.{BTreeMap}
+use Rattle.std.specs.declared.alloc.Global.{Global}
+use Rattle.toml.specs.declared.value.Value.{Value}
 use Rattle.cqf_units.specs.Name.{is_name}
 use Rattle.cqf_topology.specs.declared.keys.Key.{Key}
 use Rattle.cqf_topology.specs.declared.keys.Key.TheVariants.{Cycle, Guard, Sync, GateOverhead, Bridges, Stations, Links, From, To}
@@ -72,6 +76,10 @@ first_missing keys elements keys_within table =
 -- the table of a text. The text must be TOML, and so UTF-8
 abbrev pub document_of : List ℕ → Result Members TomlFault
 document_of text = if is_utf8 text then ok_or (parse_document text) NotToml else Err NotToml
+
+-- a table, if there is one, is that of a text, and otherwise the text isn't TOML
+abbrev pub IsTableOf : Option (BTreeMap (String Global) Value) → List ℕ → Type 0
+IsTableOf table text = document_of text ≡ ok_or (option_map table_view table) NotToml
 
 -- the table of a text in which no key is missing
 abbrev pub whole_document : List Key → Key → List Key → List ℕ → Result Members TomlFault

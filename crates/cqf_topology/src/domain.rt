@@ -7,8 +7,7 @@ ghost use Rattle.cqf_topology.specs.Fields.{Gives};
 ghost use Rattle.cqf_topology.specs.DomainText.{IsDomain, IsOnlyLink, IsReadable, HasBridges, HasNames, IsNumberedDomain};
 ghost use Rattle.cqf_topology.specs.DomainText.{with_links, with_these, checked, domain_of_text, domain_within, domain_with};
 
-use crate::DomainFault;
-use crate::draft::{Draft, read_draft};
+use crate::draft::{Draft, draft_of_document};
 use crate::joined::{
     JoinedLink, end_of_name, find_long_delay, find_long_gap, find_long_guard, find_long_sync,
     find_twice, join_links, links_of, node_of_end, numbered_names,
@@ -16,6 +15,7 @@ use crate::joined::{
 use crate::link_list::LinkList;
 use crate::names::NameList;
 use crate::same::is_same_domain;
+use crate::{Document, DomainFault};
 use cqf_model::{Limits, Link, Node};
 use cqf_units::{Memory, Name, Nanos};
 use std::alloc::Global;
@@ -121,7 +121,19 @@ impl Domain {
     pub fn read_within(alloc: Global, text: &[u8], limits: Limits) -> Result<Domain, DomainFault>
         ensures { Gives DomainFault.Memory (λ domain. domain) result (domain_within limits text.now) }
     {
-        let draft = read_draft(alloc, text, limits)?;
+        let document = Document::read(alloc, text)?;
+        Domain::of_document(alloc, &document, limits)
+    }
+
+    /// Returns the domain that a document describes within these limits, or the first fault of its text.
+    pub fn of_document(
+        alloc: Global,
+        document: &Document<'_>,
+        limits: Limits,
+    ) -> Result<Domain, DomainFault>
+        ensures { Gives DomainFault.Memory (λ domain. domain) result (domain_within limits document.now) }
+    {
+        let draft = draft_of_document(alloc, document, limits)?;
         Domain::of_draft(alloc, &draft)
     }
 

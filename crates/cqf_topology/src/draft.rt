@@ -7,8 +7,8 @@ ghost use Rattle.cqf_topology.specs.Fields.{Gives, tables_of_key, tables_from, n
 ghost use Rattle.cqf_topology.specs.DomainText.{link_read, if_some, with_front, domain_from, overhead_from, read_text, sync_from};
 
 use crate::{
-    Key, LinkTimes, TomlFault, are_all_tables, array_at, name_at, names_at, number_at, number_if,
-    read_document, times_at,
+    Document, Key, LinkTimes, TomlFault, are_all_tables, array_at, name_at, names_at, number_at,
+    number_if, times_at, whole_table,
 };
 use cqf_model::{LONGEST_CYCLE, Limits, MOST_OVERHEAD};
 use cqf_units::Name;
@@ -232,10 +232,14 @@ fn read_table(alloc: Global, table: &Table, limits: Limits) -> Result<Draft, Tom
     })
 }
 
-/// Reads what a domain text says, within the limits.
-pub(crate) fn read_draft(alloc: Global, text: &[u8], limits: Limits) -> Result<Draft, TomlFault>
-    ensures { Gives TomlFault.Memory (λ draft. draft) result (read_text limits text.now) }
+/// Reads what a domain document says, within the limits.
+pub(crate) fn draft_of_document(
+    alloc: Global,
+    document: &Document<'_>,
+    limits: Limits,
+) -> Result<Draft, TomlFault>
+    ensures { Gives TomlFault.Memory (λ draft. draft) result (read_text limits document.now) }
 {
-    let table = read_document(alloc, text, &KEYS, Key::Links, &LINK_KEYS)?;
-    read_table(alloc, &table, limits)
+    let table = whole_table(document, &KEYS, Key::Links, &LINK_KEYS)?;
+    read_table(alloc, table, limits)
 }

@@ -8,7 +8,9 @@
 //!   [`read_planned_streams`].
 //! - [`begins_at`] returns whether a stream begins at a bridge.
 //! - [`put_link`] and [`put_ends`] write a link by the names of its ends. [`put_bridge`] and [`put_node`] write the name of a node.
-//! - [`read_document`] returns the table of a text in which no key is missing. [`number_at`], [`number_or`], [`number_if`], [`name_at`],
+//! - A [`Document`] is a text that was parsed once. [`Domain::of_document`], [`streams_of_document`], [`paced_streams_of_document`] and
+//!   [`planned_streams_of_document`] read it as the readers above read its text.
+//! - [`whole_table`] returns the table of a document in which no key is missing. [`number_at`], [`number_or`], [`number_if`], [`name_at`],
 //!   [`names_at`], [`text_at`] and [`array_at`] read the value at a [`Key`] of a table, and [`value_at`] returns it unread. [`TomlFault`] is
 //!   the first fault of a text.
 //!
@@ -61,7 +63,7 @@ mod toml_faults;
 
 pub use beginning::begins_at;
 pub use cqf_model::{Link, Node};
-pub use documents::read_document;
+pub use documents::{Document, whole_table};
 pub use domain::Domain;
 pub use draft::{overhead_at, sync_at};
 pub use faults::DomainFault;
@@ -74,9 +76,11 @@ pub use laws::{taken_is_first_repeated, twice_is_first_twin};
 pub use link_list::LinkList;
 pub use names::NameList;
 pub use node_names::{put_bridge, put_ends, put_link, put_node};
-pub use paced::{PacedRequest, read_paced, read_paced_streams};
-pub use planned::{Planned, deadline_of, read_planned, read_planned_streams};
-pub use streams::{Request, branches_of, read_streams};
+pub use paced::{PacedRequest, paced_streams_of_document, read_paced, read_paced_streams};
+pub use planned::{
+    Planned, deadline_of, planned_streams_of_document, read_planned, read_planned_streams,
+};
+pub use streams::{Request, branches_of, read_streams, streams_of_document};
 pub use texts::text_at;
 pub(crate) use texts::{text_lists_at, texts_at};
 pub use times::{LinkTimes, times_at};

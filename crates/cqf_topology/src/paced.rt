@@ -9,7 +9,8 @@ ghost use Rattle.cqf_topology.specs.StreamsText.{request_text};
 
 use crate::streams::{KEYS, Request, STREAM_KEYS, branches_of, copied_paths};
 use crate::{
-    Key, StreamsFault, are_all_tables, array_at, number_at, number_or, read_document, text_at,
+    Document, Key, StreamsFault, are_all_tables, array_at, number_at, number_or, text_at,
+    whole_table,
 };
 use cqf_units::Memory;
 use std::alloc::Global;
@@ -144,6 +145,18 @@ fn all_paced(alloc: Global, table: &Table) -> Result<Vec<PacedRequest>, StreamsF
 pub fn read_paced_streams(alloc: Global, text: &[u8]) -> Result<Vec<PacedRequest>, StreamsFault>
     ensures { Gives StreamsFault.Memory (λ requests. map paced_text requests.items) result (paced_of_text text.now) }
 {
-    let table = read_document(alloc, text, &KEYS, Key::Streams, &STREAM_KEYS)?;
-    all_paced(alloc, &table)
+    let document = Document::read(alloc, text)?;
+    paced_streams_of_document(alloc, &document)
+}
+
+/// Returns the requests of a document's text, in its order, with the cycles in which the streams are offered.
+/// Errors are those of [`read_paced_streams`].
+pub fn paced_streams_of_document(
+    alloc: Global,
+    document: &Document<'_>,
+) -> Result<Vec<PacedRequest>, StreamsFault>
+    ensures { Gives StreamsFault.Memory (λ requests. map paced_text requests.items) result (paced_of_text document.now) }
+{
+    let table = whole_table(document, &KEYS, Key::Streams, &STREAM_KEYS)?;
+    all_paced(alloc, table)
 }

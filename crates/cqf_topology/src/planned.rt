@@ -8,7 +8,7 @@ ghost use Rattle.cqf_topology.specs.PlannedText.{deadline_from, planned_from, pl
 
 use crate::paced::{PacedRequest, read_paced};
 use crate::streams::{KEYS, STREAM_KEYS};
-use crate::{Key, StreamsFault, are_all_tables, array_at, number_if, read_document};
+use crate::{Document, Key, StreamsFault, are_all_tables, array_at, number_if, whole_table};
 use std::alloc::Global;
 use toml::{Table, Value};
 
@@ -87,6 +87,18 @@ fn all_planned(alloc: Global, table: &Table) -> Result<Vec<Planned>, StreamsFaul
 pub fn read_planned_streams(alloc: Global, text: &[u8]) -> Result<Vec<Planned>, StreamsFault>
     ensures { Gives StreamsFault.Memory (λ streams. map planned_text streams.items) result (planned_of_text text.now) }
 {
-    let table = read_document(alloc, text, &KEYS, Key::Streams, &STREAM_KEYS)?;
-    all_planned(alloc, &table)
+    let document = Document::read(alloc, text)?;
+    planned_streams_of_document(alloc, &document)
+}
+
+/// Returns the requests of a document's text, in its order, with their deadlines.
+/// Errors are those of [`read_planned_streams`].
+pub fn planned_streams_of_document(
+    alloc: Global,
+    document: &Document<'_>,
+) -> Result<Vec<Planned>, StreamsFault>
+    ensures { Gives StreamsFault.Memory (λ streams. map planned_text streams.items) result (planned_of_text document.now) }
+{
+    let table = whole_table(document, &KEYS, Key::Streams, &STREAM_KEYS)?;
+    all_planned(alloc, table)
 }

@@ -7,8 +7,8 @@ ghost use Rattle.cqf_topology.specs.Fields.{Gives, tables_of_key, tables_from};
 ghost use Rattle.cqf_topology.specs.StreamsText.{branches_from, request_from, request_text, streams_of_text};
 
 use crate::{
-    Key, StreamsFault, are_all_tables, array_at, number_at, read_document, text_at, text_lists_at,
-    texts_at, value_at,
+    Document, Key, StreamsFault, are_all_tables, array_at, number_at, text_at, text_lists_at,
+    texts_at, value_at, whole_table,
 };
 use cqf_units::Memory;
 use std::alloc::Global;
@@ -154,6 +154,18 @@ fn read_requests(alloc: Global, table: &Table) -> Result<Vec<Request>, StreamsFa
 pub fn read_streams(alloc: Global, text: &[u8]) -> Result<Vec<Request>, StreamsFault>
     ensures { Gives StreamsFault.Memory (λ requests. map request_text requests.items) result (streams_of_text text.now) }
 {
-    let table = read_document(alloc, text, &KEYS, Key::Streams, &STREAM_KEYS)?;
-    read_requests(alloc, &table)
+    let document = Document::read(alloc, text)?;
+    streams_of_document(alloc, &document)
+}
+
+/// Returns the requests of a document's text, in its order.
+/// Errors are those of [`read_streams`].
+pub fn streams_of_document(
+    alloc: Global,
+    document: &Document<'_>,
+) -> Result<Vec<Request>, StreamsFault>
+    ensures { Gives StreamsFault.Memory (λ requests. map request_text requests.items) result (streams_of_text document.now) }
+{
+    let table = whole_table(document, &KEYS, Key::Streams, &STREAM_KEYS)?;
+    read_requests(alloc, table)
 }

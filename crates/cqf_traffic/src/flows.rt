@@ -11,7 +11,8 @@ ghost use Rattle.cqf_traffic.specs.FlowsText.{flows_of_text, traffic_or};
 use crate::traffic::{Traffic, traffic_of};
 use crate::{FlowsFault, first_owed};
 use cqf_topology::{
-    Key, Planned, StreamsFault, are_all_tables, array_at, read_document, read_planned, value_at,
+    Document, Key, Planned, StreamsFault, are_all_tables, array_at, read_planned, value_at,
+    whole_table,
 };
 use std::alloc::Global;
 use toml::{Table, Value};
@@ -153,9 +154,17 @@ fn flows_of_table(alloc: Global, table: &Table) -> Result<Vec<Flow>, FlowsFault>
 pub fn read_flows(alloc: Global, text: &[u8]) -> Result<Vec<Flow>, FlowsFault>
     ensures { Gives (FlowsFault.Streams StreamsFault.Memory) (λ flows. map flow_text flows.items) result (flows_of_text text.now) }
 {
-    let table = read_document(alloc, text, &[Key::Streams], Key::Streams, &[])?;
-    match first_lack_of(&table) {
+    let document = Document::read(alloc, text)?;
+    flows_of_document(alloc, &document)
+}
+
+/// Returns the streams of a document's text, in its order, with their deadlines and their traffic. Errors are those of [`read_flows`].
+pub fn flows_of_document(alloc: Global, document: &Document<'_>) -> Result<Vec<Flow>, FlowsFault>
+    ensures { Gives (FlowsFault.Streams StreamsFault.Memory) (λ flows. map flow_text flows.items) result (flows_of_text document.now) }
+{
+    let table = whole_table(document, &[Key::Streams], Key::Streams, &[])?;
+    match first_lack_of(table) {
         Some(fault) => Err(fault),
-        None => flows_of_table(alloc, &table),
+        None => flows_of_table(alloc, table),
     }
 }

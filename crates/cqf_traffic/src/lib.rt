@@ -3,8 +3,9 @@
 //! - **Promises.** [`Traffic`] is a promise: in each interval at most a given number of frames, each with at most a given number of octets,
 //!   and each late by at most a given time. [`Traffic::needed`] returns what it needs of a cycle.
 //! - **Read.** [`read_flows`] returns the streams of a text, each a [`Flow`], with its deadline and its traffic, or a [`FlowsFault`], the
-//!   first fault. [`read_paced_flows`] ignores deadlines, and returns each stream as a [`PacedFlow`]. [`traffic_of`] and [`first_owed`]
-//!   read a single stream's table, by each [`TrafficKey`].
+//!   first fault. [`read_paced_flows`] ignores deadlines, and returns each stream as a [`PacedFlow`]. [`flows_of_document`] and
+//!   [`paced_flows_of_document`] read a text that was parsed before. [`traffic_of`] and [`first_owed`] read a single stream's table, by
+//!   each [`TrafficKey`].
 //! - **Offered.** A [`TalkerStream`] is a stream as its talker sees it: its name, its edge bridge and its traffic. [`offers_before`]
 //!   returns what senders offer before an instant, given by [`Until`]: blocks of frames on a regular grid, or, with a seed, each late by
 //!   chance. [`are_few`] returns whether there are few enough for a run.
@@ -37,12 +38,12 @@ mod talkers;
 mod traffic;
 
 pub use faults::FlowsFault;
-pub use flows::{Flow, first_lack_of as first_flow_lack, read_flow, read_flows};
+pub use flows::{Flow, first_lack_of as first_flow_lack, flows_of_document, read_flow, read_flows};
 pub use grid::are_few;
 pub use keys::TrafficKey;
 pub use laws::{offers_come_in_active_cycles, offers_conform};
 pub use making::offers_before;
 pub use owed::first_owed;
-pub use paced_flows::{PacedFlow, read_paced_flows};
+pub use paced_flows::{PacedFlow, paced_flows_of_document, read_paced_flows};
 pub use senders::{TalkerStream, Until};
 pub use traffic::{Traffic, traffic_of};

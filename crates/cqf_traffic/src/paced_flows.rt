@@ -10,7 +10,7 @@ use crate::FlowsFault;
 use crate::flows::{first_lack_of, read_traffic};
 use crate::traffic::Traffic;
 use cqf_topology::{
-    Key, PacedRequest, StreamsFault, are_all_tables, array_at, read_document, read_paced,
+    Document, Key, PacedRequest, StreamsFault, are_all_tables, array_at, read_paced, whole_table,
 };
 use std::alloc::Global;
 use toml::{Table, Value};
@@ -77,9 +77,21 @@ fn paced_flows_of_table(alloc: Global, table: &Table) -> Result<Vec<PacedFlow>, 
 pub fn read_paced_flows(alloc: Global, text: &[u8]) -> Result<Vec<PacedFlow>, FlowsFault>
     ensures { Gives (FlowsFault.Streams StreamsFault.Memory) (λ flows. map paced_flow_text flows.items) result (paced_flows_of_text text.now) }
 {
-    let table = read_document(alloc, text, &[Key::Streams], Key::Streams, &[])?;
-    match first_lack_of(&table) {
+    let document = Document::read(alloc, text)?;
+    paced_flows_of_document(alloc, &document)
+}
+
+/// Returns the streams of a document's text, in its order, with their traffic. Errors are those of [`read_paced_flows`].
+pub fn paced_flows_of_document(
+    alloc: Global,
+    document: &Document<'_>,
+) -> Result<Vec<PacedFlow>, FlowsFault>
+    ensures { Gives (FlowsFault.Streams StreamsFault.Memory) (λ flows. map paced_flow_text flows.items) result
+        (paced_flows_of_text document.now) }
+{
+    let table = whole_table(document, &[Key::Streams], Key::Streams, &[])?;
+    match first_lack_of(table) {
         Some(fault) => Err(fault),
-        None => paced_flows_of_table(alloc, &table),
+        None => paced_flows_of_table(alloc, table),
     }
 }

@@ -23,8 +23,8 @@ use cqf_laws_history::state_follows_history;
 use cqf_model::{Limits, Row};
 use cqf_network::NetworkDomain;
 use cqf_output::{Buffer, REFUSED, Stop};
-use cqf_program_scenario::{domain_of, network_part, two_parts};
-use cqf_topology::{Domain, PacedRequest};
+use cqf_program_scenario::{Input, domain_of, network_part, next_document, parsed_parts};
+use cqf_topology::{Document, Domain, PacedRequest};
 use cqf_units::{Cycle, Memory};
 use std::alloc::Global;
 
@@ -35,13 +35,13 @@ const SEAT: u16 = 0;
 fn plan_of_network(
     alloc: Global,
     network: &NetworkDomain,
-    text: &[u8],
+    document: Document<'_>,
 ) -> Result<(Domain, Vec<PacedRequest>), Stop>
-    ensures ok { IfOk result (λ found. plan_of_network network.now text.now ≡ Ok (found.0, map asked_paced found.1.items)) }
-    ensures err { IfErr result (IsRefused (plan_of_network network.now text.now)) }
+    ensures ok { IfOk result (λ found. plan_of_network network.now document.entry ≡ Ok (found.0, map asked_paced found.1.items)) }
+    ensures err { IfErr result (IsRefused (plan_of_network network.now document.entry)) }
 {
     let domain = domain_of(alloc, network)?;
-    let requests = requests_of_network(alloc, network, &domain, text)?;
+    let requests = requests_of_network(alloc, network, &domain, document)?;
     Ok((domain, requests))
 }
 
@@ -55,14 +55,15 @@ fn plan_of_network(
 pub fn read_plan(
     alloc: Global,
     limits: Limits,
-    input: &[u8],
+    input: Input<'_>,
 ) -> Result<(Domain, Vec<PacedRequest>), Stop>
-    ensures ok { IfOk result (λ found. compile_input limits input.now ≡ Ok (found.0, map asked_paced found.1.items)) }
-    ensures err { IfErr result (IsRefused (compile_input limits input.now)) }
+    ensures ok { IfOk result (λ found. compile_input limits input.entry ≡ Ok (found.0, map asked_paced found.1.items)) }
+    ensures err { IfErr result (IsRefused (compile_input limits input.entry)) }
 {
-    let (domain_text, streams_text) = two_parts(alloc, input)?;
-    let network = network_part(alloc, limits, domain_text)?;
-    plan_of_network(alloc, &network, streams_text)
+    let (first, streams_text) = parsed_parts(alloc, input)?;
+    let network = network_part(alloc, limits, &first)?;
+    let streams = next_document(alloc, first, streams_text)?;
+    plan_of_network(alloc, &network, streams)
 }
 
 /// Returns the line for the stream at position `index`, from 1, that isn't admitted.
@@ -280,10 +281,10 @@ pub fn compile_output(
     alloc: Global,
     limits: Limits,
     edge_gates: bool,
-    input: &[u8],
+    input: Input<'_>,
 ) -> Result<ConfigOutput, Stop>
-    ensures ok { IfOk result (λ output. compiled_input limits edge_gates input.now ≡ Ok (text_of_config output)) }
-    ensures err { IfErr result (IsRefused (compiled_input limits edge_gates input.now)) }
+    ensures ok { IfOk result (λ output. compiled_input limits edge_gates input.entry ≡ Ok (text_of_config output)) }
+    ensures err { IfErr result (IsRefused (compiled_input limits edge_gates input.entry)) }
 {
     let (domain, requests) = read_plan(alloc, limits, input)?;
     config_of(alloc, edge_gates, &domain, requests.as_slice())

@@ -15,6 +15,7 @@ use crate::rows_of_cycle_0;
 use cqf_edge::AccessTimes;
 use cqf_model::{Limits, Row};
 use cqf_output::{Buffer, REFUSED, Stop};
+use cqf_program_scenario::Input;
 use cqf_topology::Domain;
 use cqf_units::Memory;
 use std::alloc::Global;
@@ -139,10 +140,10 @@ pub fn latency_output(
     alloc: Global,
     limits: Limits,
     strict: bool,
-    input: &[u8],
+    input: Input<'_>,
 ) -> Result<LatencyOutput, Stop>
-    ensures ok { IfOk result (λ output. latency_of_input limits strict input.now ≡ Ok (text_of_latency output)) }
-    ensures err { IfErr result (IsRefused (latency_of_input limits strict input.now)) }
+    ensures ok { IfOk result (λ output. latency_of_input limits strict input.entry ≡ Ok (text_of_latency output)) }
+    ensures err { IfErr result (IsRefused (latency_of_input limits strict input.entry)) }
 {
     let given = read_planned(alloc, limits, input)?;
     latency_of(alloc, strict, given)

@@ -13,8 +13,8 @@ use cqf_edge::AccessTimes;
 use cqf_model::Limits;
 use cqf_network::NetworkDomain;
 use cqf_output::Stop;
-use cqf_program_scenario::{domain_of, network_part, two_parts};
-use cqf_topology::{Domain, PacedRequest, Planned};
+use cqf_program_scenario::{Input, domain_of, network_part, next_document, parsed_parts};
+use cqf_topology::{Document, Domain, PacedRequest, Planned};
 use cqf_traffic::Flow;
 use cqf_units::Memory;
 use std::alloc::Global;
@@ -35,13 +35,13 @@ fn read_streams(
     alloc: Global,
     network: &NetworkDomain,
     domain: Domain,
-    text: &[u8],
+    document: Document<'_>,
 ) -> Result<LatencyInput, Stop>
     requires { domain ≡ domain_of network.now }
-    ensures ok { IfOk result (λ found. streams_for network.now text.now ≡ Ok (latency_input_value found)) }
-    ensures err { IfErr result (IsRefused (streams_for network.now text.now)) }
+    ensures ok { IfOk result (λ found. streams_for network.now document.entry ≡ Ok (latency_input_value found)) }
+    ensures err { IfErr result (IsRefused (streams_for network.now document.entry)) }
 {
-    let edge = open_edges_part(alloc, network, text)?;
+    let edge = open_edges_part(alloc, network, document)?;
     let requests = requests_at(alloc, &domain, edge.flows)?;
     Ok(LatencyInput {
         domain,
@@ -55,15 +55,16 @@ fn read_streams(
 pub(crate) fn read_planned(
     alloc: Global,
     limits: Limits,
-    input: &[u8],
+    input: Input<'_>,
 ) -> Result<LatencyInput, Stop>
-    ensures ok { IfOk result (λ found. latency_input limits input.now ≡ Ok (latency_input_value found)) }
-    ensures err { IfErr result (IsRefused (latency_input limits input.now)) }
+    ensures ok { IfOk result (λ found. latency_input limits input.entry ≡ Ok (latency_input_value found)) }
+    ensures err { IfErr result (IsRefused (latency_input limits input.entry)) }
 {
-    let (domain_text, streams_text) = two_parts(alloc, input)?;
-    let network = network_part(alloc, limits, domain_text)?;
+    let (first, streams_text) = parsed_parts(alloc, input)?;
+    let network = network_part(alloc, limits, &first)?;
     let domain = domain_of(alloc, &network)?;
-    read_streams(alloc, &network, domain, streams_text)
+    let streams = next_document(alloc, first, streams_text)?;
+    read_streams(alloc, &network, domain, streams)
 }
 
 /// Returns the requests and the deadlines of these streams, each by the stream's index.

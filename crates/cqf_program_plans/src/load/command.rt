@@ -26,8 +26,8 @@ use cqf_edge::{EdgeFlows, Handed};
 use cqf_model::Limits;
 use cqf_network::NetworkDomain;
 use cqf_output::{Buffer, Stop};
-use cqf_program_scenario::{domain_of, network_part, two_parts};
-use cqf_topology::{Domain, PacedRequest};
+use cqf_program_scenario::{Input, domain_of, network_part, next_document, parsed_parts};
+use cqf_topology::{Document, Domain, PacedRequest};
 use cqf_units::Memory;
 use std::alloc::Global;
 
@@ -87,14 +87,14 @@ fn read_with_access(
     alloc: Global,
     network: &NetworkDomain,
     domain: Domain,
-    text: &[u8],
+    document: Document<'_>,
 ) -> Result<LoadInput, Stop>
     requires { domain ≡ domain_of network.now }
-    ensures ok { IfOk result (λ found. loaded_by_access network.now text.now ≡ Ok (load_input_value found)) }
+    ensures ok { IfOk result (λ found. loaded_by_access network.now document.entry ≡ Ok (load_input_value found)) }
     ensures little { IfOk result (λ found. All TakesLittle found.access.items) }
-    ensures err { IfErr result (IsRefused (loaded_by_access network.now text.now)) }
+    ensures err { IfErr result (IsRefused (loaded_by_access network.now document.entry)) }
 {
-    let edge = edges_part(alloc, network, text)?;
+    let edge = edges_part(alloc, network, document)?;
     let Ok(access) = access_loads(alloc, network, domain.cycle_time(), &edge) else {
         return Err(Stop::memory(alloc));
     };
@@ -109,12 +109,16 @@ fn read_with_access(
 }
 
 /// Reads the streams of a network in which no station has an access link.
-fn read_without_access(alloc: Global, domain: Domain, text: &[u8]) -> Result<LoadInput, Stop>
-    ensures ok { IfOk result (λ found. loaded_without domain text.now ≡ Ok (load_input_value found)) }
+fn read_without_access(
+    alloc: Global,
+    domain: Domain,
+    document: Document<'_>,
+) -> Result<LoadInput, Stop>
+    ensures ok { IfOk result (λ found. loaded_without domain document.entry ≡ Ok (load_input_value found)) }
     ensures little { IfOk result (λ found. All TakesLittle found.access.items) }
-    ensures err { IfErr result (IsRefused (loaded_without domain text.now)) }
+    ensures err { IfErr result (IsRefused (loaded_without domain document.entry)) }
 {
-    let requests = requests_in(alloc, &domain, text)?;
+    let requests = requests_in(alloc, &domain, document)?;
     let access = Vec::new(alloc);
     let handed = Vec::new(alloc);
     Ok(LoadInput {
@@ -130,30 +134,31 @@ fn read_network(
     alloc: Global,
     network: &NetworkDomain,
     domain: Domain,
-    text: &[u8],
+    document: Document<'_>,
 ) -> Result<LoadInput, Stop>
     requires { domain ≡ domain_of network.now }
-    ensures ok { IfOk result (λ found. loaded_network network.now text.now ≡ Ok (load_input_value found)) }
+    ensures ok { IfOk result (λ found. loaded_network network.now document.entry ≡ Ok (load_input_value found)) }
     ensures little { IfOk result (λ found. All TakesLittle found.access.items) }
-    ensures err { IfErr result (IsRefused (loaded_network network.now text.now)) }
+    ensures err { IfErr result (IsRefused (loaded_network network.now document.entry)) }
 {
     if has_access(network) {
-        read_with_access(alloc, network, domain, text)
+        read_with_access(alloc, network, domain, document)
     } else {
-        read_without_access(alloc, domain, text)
+        read_without_access(alloc, domain, document)
     }
 }
 
 /// Reads an input, within some limits.
-fn read_load(alloc: Global, limits: Limits, input: &[u8]) -> Result<LoadInput, Stop>
-    ensures ok { IfOk result (λ found. load_input limits input.now ≡ Ok (load_input_value found)) }
+fn read_load(alloc: Global, limits: Limits, input: Input<'_>) -> Result<LoadInput, Stop>
+    ensures ok { IfOk result (λ found. load_input limits input.entry ≡ Ok (load_input_value found)) }
     ensures little { IfOk result (λ found. All TakesLittle found.access.items) }
-    ensures err { IfErr result (IsRefused (load_input limits input.now)) }
+    ensures err { IfErr result (IsRefused (load_input limits input.entry)) }
 {
-    let (domain_text, streams_text) = two_parts(alloc, input)?;
-    let network = network_part(alloc, limits, domain_text)?;
+    let (first, streams_text) = parsed_parts(alloc, input)?;
+    let network = network_part(alloc, limits, &first)?;
     let domain = domain_of(alloc, &network)?;
-    read_network(alloc, &network, domain, streams_text)
+    let streams = next_document(alloc, first, streams_text)?;
+    read_network(alloc, &network, domain, streams)
 }
 
 /// Returns the output of `load` for an input that is read within some limits, ready to be written: a line for each link, with what it holds of
@@ -163,9 +168,9 @@ fn read_load(alloc: Global, limits: Limits, input: &[u8]) -> Result<LoadInput, S
 /// With status 1 and the line of the first fault of the input: of its parts, of the domain, of the streams, of the first stream that
 /// doesn't enter the network as its text says, or of the first stream that is refused for another reason than a link's budget. The streams
 /// before it count as accepted. With status 3 if an allocation fails.
-pub fn load_output(alloc: Global, limits: Limits, input: &[u8]) -> Result<LoadOutput, Stop>
-    ensures ok { IfOk result (λ output. loaded_input limits input.now ≡ Ok (text_of_load output)) }
-    ensures err { IfErr result (IsRefused (loaded_input limits input.now)) }
+pub fn load_output(alloc: Global, limits: Limits, input: Input<'_>) -> Result<LoadOutput, Stop>
+    ensures ok { IfOk result (λ output. loaded_input limits input.entry ≡ Ok (text_of_load output)) }
+    ensures err { IfErr result (IsRefused (loaded_input limits input.entry)) }
 {
     let LoadInput {
         domain,
@@ -224,10 +229,10 @@ fn streams_ready(
 pub fn load_streams_output(
     alloc: Global,
     limits: Limits,
-    input: &[u8],
+    input: Input<'_>,
 ) -> Result<StreamLoadsOutput, Stop>
-    ensures ok { IfOk result (λ output. loaded_streams limits input.now ≡ Ok (text_of_streams output)) }
-    ensures err { IfErr result (IsRefused (loaded_streams limits input.now)) }
+    ensures ok { IfOk result (λ output. loaded_streams limits input.entry ≡ Ok (text_of_streams output)) }
+    ensures err { IfErr result (IsRefused (loaded_streams limits input.entry)) }
 {
     let LoadInput {
         domain,

@@ -27,7 +27,11 @@ IsChecked limits cycles input found = IsCheckedOf cycles (planned_scenario limit
 
 -- not all is well, and the run ends with status 1 and the line that says why; or it ends with status 3 because an
 -- allocation failed
-pub record IsCheckRefusal (limits : Limits) (cycles : ℕ) (input : List ℕ) (stop : Stop) : Type 0 where
+pub record IsCheckRefusalOf (cycles : ℕ) (read : Result (Scenario × List PlannedText) (List ℕ)) (stop : Stop) : Type 0 where
   pub statuses : (stop.status ≡ 1) ⊎ (stop.status ≡ 3)
-  pub line : stop.status ≡ 1 → IsChecked limits cycles input (Err stop.text.items)
+  pub line : stop.status ≡ 1 → IsCheckedOf cycles read (Err stop.text.items)
   pub memory : stop.status ≡ 3 → stop.text.items ≡ []
+
+-- the same for an input
+abbrev pub IsCheckRefusal : Limits → ℕ → List ℕ → Stop → Type 0
+IsCheckRefusal limits cycles input stop = IsCheckRefusalOf cycles (planned_scenario limits cycles input) stop

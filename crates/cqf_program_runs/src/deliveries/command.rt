@@ -37,12 +37,19 @@ use cqf_admission::Logged;
 use cqf_laws_coverage::book_of_history_is_there;
 use cqf_model::Limits;
 use cqf_output::{Buffer, REFUSED, Stop};
-use cqf_program_scenario::{RunInput, ScenarioOutcome, outcome_of};
+use cqf_program_scenario::{Input, RunInput, ScenarioOutcome, outcome_of};
 use cqf_units::Memory;
 use std::alloc::Global;
 
-/// Returns the output for a scenario.
-fn output_of(alloc: Global, cycles: u32, planned: PlannedGiven) -> Result<DeliveriesOutput, Memory>
+/// Returns the output of `deliveries` over `cycles` cycles for a scenario that was read, ready to be written.
+///
+/// # Errors
+/// If an allocation fails.
+pub fn deliveries_of_given(
+    alloc: Global,
+    cycles: u32,
+    planned: PlannedGiven,
+) -> Result<DeliveriesOutput, Memory>
     requires short { cycles ≤ most_cycles }
     requires may { MayBeRun cycles (scenario_given planned.given) }
     requires stand { HasOrders planned.given }
@@ -72,14 +79,14 @@ pub fn deliveries_output(
     alloc: Global,
     limits: Limits,
     cycles: u32,
-    input: &[u8],
+    input: Input<'_>,
 ) -> Result<DeliveriesOutput, Stop>
     requires { cycles ≤ most_cycles }
-    ensures ok { IfOk result (λ output. (text : List ℕ) × AreDeliveriesWritten output text × IsDeliveriesOutput limits cycles input.now text) }
-    ensures err { IfErr result (IsRefused (planned_scenario limits cycles input.now)) }
+    ensures ok { IfOk result (λ output. (text : List ℕ) × AreDeliveriesWritten output text × IsDeliveriesOutput limits cycles input.entry text) }
+    ensures err { IfErr result (IsRefused (planned_scenario limits cycles input.entry)) }
 {
     let planned = read_planned_given(alloc, limits, cycles, input)?;
-    match output_of(alloc, cycles, planned) {
+    match deliveries_of_given(alloc, cycles, planned) {
         Ok(output) => Ok(output),
         Err(_) => Err(Stop::memory(alloc)),
     }
@@ -239,8 +246,9 @@ fn check_outcome(
     }
 }
 
-/// Checks a scenario.
-fn check_scenario(alloc: Global, cycles: u32, planned: &PlannedGiven) -> Result<Vec<u8>, Stop>
+/// Returns the line of `check` over `cycles` cycles for a scenario that was read, if all goes well. Ends as [`check_output`]
+/// does, except that nothing is refused before the calls.
+pub fn check_of_given(alloc: Global, cycles: u32, planned: &PlannedGiven) -> Result<Vec<u8>, Stop>
     requires short { cycles ≤ most_cycles }
     requires may { MayBeRun cycles (scenario_given planned.now.given) }
     requires stand { HasOrders planned.now.given }
@@ -272,12 +280,12 @@ pub fn check_output(
     alloc: Global,
     limits: Limits,
     cycles: u32,
-    input: &[u8],
+    input: Input<'_>,
 ) -> Result<Vec<u8>, Stop>
     requires { cycles ≤ most_cycles }
-    ensures ok { IfOk result (λ line. IsChecked limits cycles input.now (Ok line.items)) }
-    ensures err { IfErr result (IsCheckRefusal limits cycles input.now) }
+    ensures ok { IfOk result (λ line. IsChecked limits cycles input.entry (Ok line.items)) }
+    ensures err { IfErr result (IsCheckRefusal limits cycles input.entry) }
 {
     let planned = read_planned_given(alloc, limits, cycles, input)?;
-    check_scenario(alloc, cycles, &planned)
+    check_of_given(alloc, cycles, &planned)
 }

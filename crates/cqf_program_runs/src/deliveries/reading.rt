@@ -13,9 +13,10 @@ use cqf_network::NetworkDomain;
 use cqf_output::Stop;
 use cqf_program_plans::{open_edges_part, parted, parted_flows};
 use cqf_program_scenario::{
-    RunInput, RunParts, domain_of, network_part, planned_part, read_after, run_parts,
+    Input, RunInput, RunParts, domain_of, first_document, network_part, next_document,
+    planned_part, read_after, run_parts,
 };
-use cqf_topology::PacedRequest;
+use cqf_topology::{Document, PacedRequest};
 use std::alloc::Global;
 
 /// The input of a run, and the deadlines of its streams. A deadline counts from the arrival at the edge bridge: if the stream comes by an
@@ -30,12 +31,12 @@ pub struct PlannedGiven {
 /// Reads the requests for the streams of a part, and their deadlines.
 fn read_paced_streams(
     alloc: Global,
-    text: &[u8],
+    document: Document<'_>,
 ) -> Result<(Vec<PacedRequest>, Vec<Option<u32>>), Stop>
-    ensures ok { IfOk result (λ found. ArePlannedIn text.now found.0.items found.1.items) }
-    ensures err { IfErr result (IsRefused (or_line streams_line (planned_of_text text.now))) }
+    ensures ok { IfOk result (λ found. ArePlannedIn document.entry found.0.items found.1.items) }
+    ensures err { IfErr result (IsRefused (or_line streams_line (planned_of_text document.entry))) }
 {
-    let streams = planned_part(alloc, text)?;
+    let streams = planned_part(alloc, document)?;
     match parted(alloc, streams) {
         Ok(found) => Ok(found),
         Err(_) => Err(Stop::memory(alloc)),
@@ -46,13 +47,13 @@ fn read_paced_streams(
 fn read_edge_streams(
     alloc: Global,
     network: &NetworkDomain,
-    text: &[u8],
+    document: Document<'_>,
 ) -> Result<(Vec<PacedRequest>, Vec<Option<u32>>), Stop>
     requires { has_access network.now ≡ true }
-    ensures ok { IfOk result (λ found. ArePlannedOf network.now text.now found.0.items found.1.items) }
-    ensures err { IfErr result (IsRefused (planned_of_part network.now text.now)) }
+    ensures ok { IfOk result (λ found. ArePlannedOf network.now document.entry found.0.items found.1.items) }
+    ensures err { IfErr result (IsRefused (planned_of_part network.now document.entry)) }
 {
-    let edge = open_edges_part(alloc, network, text)?;
+    let edge = open_edges_part(alloc, network, document)?;
     match parted_flows(alloc, edge.flows) {
         Ok(found) => Ok(found),
         Err(_) => Err(Stop::memory(alloc)),
@@ -60,34 +61,50 @@ fn read_edge_streams(
 }
 
 /// Reads the requests for the streams of a part, and their deadlines from their edge bridges on. Ends as [`open_edges_part`] does.
-fn read_planned_streams(
+pub fn read_planned_streams(
     alloc: Global,
     network: &NetworkDomain,
-    text: &[u8],
+    document: Document<'_>,
+) -> Result<(Vec<PacedRequest>, Vec<Option<u32>>), Stop>
+    ensures ok { IfOk result (λ found. ArePlannedOf network.now document.entry found.0.items found.1.items) }
+    ensures err { IfErr result (IsRefused (planned_of_part network.now document.entry)) }
+{
+    if network.talkers().is_empty() {
+        read_paced_streams(alloc, document)
+    } else {
+        read_edge_streams(alloc, network, document)
+    }
+}
+
+/// Reads the same of a part that follows a parsed one.
+fn next_planned_streams<'i>(
+    alloc: Global,
+    network: &NetworkDomain,
+    first: Document<'i>,
+    text: &'i [u8],
 ) -> Result<(Vec<PacedRequest>, Vec<Option<u32>>), Stop>
     ensures ok { IfOk result (λ found. ArePlannedOf network.now text.now found.0.items found.1.items) }
     ensures err { IfErr result (IsRefused (planned_of_part network.now text.now)) }
 {
-    if network.talkers().is_empty() {
-        read_paced_streams(alloc, text)
-    } else {
-        read_edge_streams(alloc, network, text)
-    }
+    let document = next_document(alloc, first, text)?;
+    read_planned_streams(alloc, network, document)
 }
 
 /// Reads the scenario of the parts within given limits, with its streams' deadlines.
-fn read_planned_parts(
+fn read_planned_parts<'i>(
     alloc: Global,
     limits: Limits,
     cycles: u32,
-    parts: RunParts<'_>,
+    input: Input<'i>,
+    parts: RunParts<'i>,
 ) -> Result<PlannedGiven, Stop>
     ensures ok { IfOk result (λ made. IsPlannedIn limits cycles (texts_of parts.entry) made) }
     ensures err { IfErr result (IsRefused (planned_scenario_of limits cycles (texts_of parts.entry))) }
 {
-    let network = network_part(alloc, limits, parts.domain)?;
+    let first = first_document(alloc, input, parts.domain)?;
+    let network = network_part(alloc, limits, &first)?;
     let domain = domain_of(alloc, &network)?;
-    let (requests, deadlines) = read_planned_streams(alloc, &network, parts.streams)?;
+    let (requests, deadlines) = next_planned_streams(alloc, &network, first, parts.streams)?;
     let given = read_after(alloc, cycles, domain, requests, parts)?;
     Ok(PlannedGiven { given, deadlines })
 }
@@ -101,11 +118,11 @@ pub fn read_planned_given(
     alloc: Global,
     limits: Limits,
     cycles: u32,
-    input: &[u8],
+    input: Input<'_>,
 ) -> Result<PlannedGiven, Stop>
-    ensures ok { IfOk result (λ made. IsPlannedGiven limits cycles input.now made) }
-    ensures err { IfErr result (IsRefused (planned_scenario limits cycles input.now)) }
+    ensures ok { IfOk result (λ made. IsPlannedGiven limits cycles input.entry made) }
+    ensures err { IfErr result (IsRefused (planned_scenario limits cycles input.entry)) }
 {
-    let parts = run_parts(alloc, input)?;
-    read_planned_parts(alloc, limits, cycles, parts)
+    let parts = run_parts(alloc, input.bytes())?;
+    read_planned_parts(alloc, limits, cycles, input, parts)
 }

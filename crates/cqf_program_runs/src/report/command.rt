@@ -12,15 +12,18 @@ use crate::report::carried::carried_columns;
 use cqf_laws_coverage::book_of_history_is_there;
 use cqf_model::Limits;
 use cqf_output::Stop;
-use cqf_program_scenario::{RunInput, outcome_of, read_given};
+use cqf_program_scenario::{Input, RunInput, outcome_of, read_given};
 use cqf_report::{report_is_written, write_columns};
 use cqf_units::Memory;
 use std::alloc::Global;
 use std::thread::Threads;
 
-/// Returns the text of the sums by link of the book of a scenario over `cycles` cycles. Background frames don't affect
-/// it.
-fn text_of_report(
+/// Returns the output of `report` over `cycles` cycles for a scenario that was read: the text of the sums by link of its
+/// book. Background frames don't affect it.
+///
+/// # Errors
+/// If an allocation fails.
+pub fn report_of_given(
     rt: &(impl Threads + Sync),
     alloc: Global,
     cycles: u32,
@@ -53,14 +56,14 @@ pub fn report_output(
     alloc: Global,
     limits: Limits,
     cycles: u32,
-    input: &[u8],
+    input: Input<'_>,
 ) -> Result<Vec<u8>, Stop>
     requires { cycles ≤ most_cycles }
-    ensures ok { IfOk result (λ output. IsReportOutput limits cycles input.now output.items) }
-    ensures err { IfErr result (IsRefused (scenario_input limits cycles input.now)) }
+    ensures ok { IfOk result (λ output. IsReportOutput limits cycles input.entry output.items) }
+    ensures err { IfErr result (IsRefused (scenario_input limits cycles input.entry)) }
 {
     let given = read_given(alloc, limits, cycles, input)?;
-    match text_of_report(rt, alloc, cycles, &given) {
+    match report_of_given(rt, alloc, cycles, &given) {
         Ok(text) => Ok(text),
         Err(_) => Err(Stop::memory(alloc)),
     }

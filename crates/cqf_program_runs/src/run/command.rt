@@ -11,12 +11,15 @@ ghost use Rattle.cqf_program_scenario.specs.Scenario.{scenario_input};
 use crate::run::outputs::RunOutput;
 use cqf_model::Limits;
 use cqf_output::{Buffer, Stop};
-use cqf_program_scenario::{RunInput, book_of_outcome, outcome_of, read_given};
+use cqf_program_scenario::{Input, RunInput, book_of_outcome, outcome_of, read_given};
 use cqf_units::Memory;
 use std::alloc::Global;
 
-/// Returns the output for a scenario.
-fn output_of(alloc: Global, cycles: u32, given: RunInput) -> Result<RunOutput, Memory>
+/// Returns the output of `run` over `cycles` cycles for a scenario that was read, ready to be written.
+///
+/// # Errors
+/// If an allocation fails.
+pub fn run_of_given(alloc: Global, cycles: u32, given: RunInput) -> Result<RunOutput, Memory>
     requires short { cycles ≤ most_cycles }
     requires may { MayBeRun cycles (scenario_given given) }
     requires stand { HasOrders given }
@@ -43,14 +46,14 @@ pub fn run_output(
     alloc: Global,
     limits: Limits,
     cycles: u32,
-    input: &[u8],
+    input: Input<'_>,
 ) -> Result<RunOutput, Stop>
     requires { cycles ≤ most_cycles }
-    ensures ok { IfOk result (λ output. (text : List ℕ) × IsRunWritten output text × IsRunOutput limits cycles input.now text) }
-    ensures err { IfErr result (IsRefused (scenario_input limits cycles input.now)) }
+    ensures ok { IfOk result (λ output. (text : List ℕ) × IsRunWritten output text × IsRunOutput limits cycles input.entry text) }
+    ensures err { IfErr result (IsRefused (scenario_input limits cycles input.entry)) }
 {
     let given = read_given(alloc, limits, cycles, input)?;
-    match output_of(alloc, cycles, given) {
+    match run_of_given(alloc, cycles, given) {
         Ok(output) => Ok(output),
         Err(_) => Err(Stop::memory(alloc)),
     }

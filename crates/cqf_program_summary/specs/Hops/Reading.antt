@@ -8,8 +8,9 @@ use Rattle.cqf_program_scenario.specs.declared.given.RunInput.{RunInput}
 use Rattle.cqf_program_scenario.specs.Closing.{MayBeRun, scenario_given}
 use Rattle.cqf_program_scenario.specs.Logged.{HasOrders}
 use Rattle.cqf_program_scenario.specs.Parts.{RunTexts}
-use Rattle.cqf_program_summary.specs.Hops.Known.{paced_scenario, paced_scenario_of, wanted_scenario}
-use Rattle.cqf_program_summary.specs.Hops.Legs.{Wanted}
+use Rattle.cqf_program_summary.specs.Hops.Known.{paced_scenario, paced_scenario_of}
+use Rattle.cqf_program_scenario.specs.Scenario.{Scenario}
+use Rattle.cqf_model.specs.History.{Asked}
 
 -- there is a refusal, and the stop has its line
 pub record EndsWithThat (refusal : Option (List ℕ)) (stop : Stop) : Type 0 where
@@ -17,20 +18,18 @@ pub record EndsWithThat (refusal : Option (List ℕ)) (stop : Stop) : Type 0 whe
   pub is : refusal ≡ Some line
   pub ends : EndsWith 1 line stop
 
+-- the scenario that was read, and the plan's streams
+abbrev pub paced_given : RunInput → Scenario × List Asked
+paced_given given = (scenario_given given, map asked_paced given.requests.items)
+
 -- the run's input is that of the parts, with the plan's streams, and it may be run; its orders refer to what is there
 pub record IsPacedIn (limits : Limits) (cycles : ℕ) (texts : RunTexts) (given : RunInput) : Type 0 where
-  pub holds : paced_scenario_of limits cycles texts ≡ Ok (scenario_given given, map asked_paced given.requests.items)
+  pub holds : paced_scenario_of limits cycles texts ≡ Ok (paced_given given)
   pub may : MayBeRun cycles (scenario_given given)
   pub stand : HasOrders given
 
 -- the same for the parts of an input
 pub record IsPacedGiven (limits : Limits) (cycles : ℕ) (input : List ℕ) (given : RunInput) : Type 0 where
-  pub holds : paced_scenario limits cycles input ≡ Ok (scenario_given given, map asked_paced given.requests.items)
-  pub may : MayBeRun cycles (scenario_given given)
-  pub stand : HasOrders given
-
--- the same for an input that has the wanted stream and frame
-pub record IsWantedGiven (limits : Limits) (cycles : ℕ) (wanted : Wanted) (input : List ℕ) (given : RunInput) : Type 0 where
-  pub holds : wanted_scenario limits cycles wanted input ≡ Ok (scenario_given given)
+  pub holds : paced_scenario limits cycles input ≡ Ok (paced_given given)
   pub may : MayBeRun cycles (scenario_given given)
   pub stand : HasOrders given

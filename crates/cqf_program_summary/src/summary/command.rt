@@ -14,11 +14,19 @@ use crate::summary::outputs::SummaryOutput;
 use cqf_model::Limits;
 use cqf_output::{Buffer, Stop};
 use cqf_program_runs::{PlannedGiven, read_planned_given};
+use cqf_program_scenario::Input;
 use cqf_units::Memory;
 use std::alloc::Global;
 
-/// Returns the output for a scenario.
-fn output_of(alloc: Global, cycles: u32, planned: &PlannedGiven) -> Result<SummaryOutput, Memory>
+/// Returns the output of `summary` over `cycles` cycles for a scenario that was read, ready to be written.
+///
+/// # Errors
+/// If an allocation fails.
+pub fn summary_of_given(
+    alloc: Global,
+    cycles: u32,
+    planned: &PlannedGiven,
+) -> Result<SummaryOutput, Memory>
     requires short { cycles ≤ most_cycles }
     requires may { MayBeRun cycles (scenario_given planned.now.given) }
     requires stand { HasOrders planned.now.given }
@@ -40,14 +48,14 @@ pub fn summary_output(
     alloc: Global,
     limits: Limits,
     cycles: u32,
-    input: &[u8],
+    input: Input<'_>,
 ) -> Result<SummaryOutput, Stop>
     requires { cycles ≤ most_cycles }
-    ensures ok { IfOk result (λ output. IsSummaryOutput limits cycles input.now (text_of_summary output)) }
-    ensures err { IfErr result (IsRefused (planned_scenario limits cycles input.now)) }
+    ensures ok { IfOk result (λ output. IsSummaryOutput limits cycles input.entry (text_of_summary output)) }
+    ensures err { IfErr result (IsRefused (planned_scenario limits cycles input.entry)) }
 {
     let planned = read_planned_given(alloc, limits, cycles, input)?;
-    match output_of(alloc, cycles, &planned) {
+    match summary_of_given(alloc, cycles, &planned) {
         Ok(output) => Ok(output),
         Err(_) => Err(Stop::memory(alloc)),
     }

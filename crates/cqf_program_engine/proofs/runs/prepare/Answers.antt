@@ -9,5 +9,5 @@ use Rattle.cqf_program_engine.proofs.runs.prepare.Goals as goal
 pub returns-in_ok-port_output-in-Port-clause-ok : goal.returns-in_ok-port_output-in-Port-clause-ok
 returns-in_ok-port_output-in-Port-clause-ok g c =
     let output = c.in_ok-port_output-in-Port.field-0 in
-    subst (λ (job : Job). HasText (IsOutput c.args.limits job c.args.input.now) (prepared.Port output)) (sym c.in-Port.is)
+    subst (λ (job : Job). HasText (IsOutput c.args.limits job c.args.input) (prepared.Port output)) (sym c.in-Port.is)
     (text_of_port output, refl, c.in_ok-port_output-in-Port.ensures.ok)

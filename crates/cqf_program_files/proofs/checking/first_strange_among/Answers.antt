@@ -6,11 +6,11 @@ use Rattle.cqf_program_files.proofs.checking.first_strange_among.Goals as goal
 pub returns-in-Some : goal.returns-in-Some
 returns-in-Some c =
     found_here shown_key _ _ (string_bytes c.in-Some.shown) (ap (option_map string_bytes) (sym c.in-Some.is) ∙ c.in_ok-shown.ensures)
-    ∙ ap (option_map shown_key) (sym (strange_at (λ text. text.now) c.args.texts.now c.loop-text.text-index _ c.loop-text-test.true))
-    ∙ c.loop-text.invariant
+    ∙ ap (option_map shown_key) (sym (strange_at c.args.documents.now c.loop-document.document-index _ c.loop-document-test.true))
+    ∙ c.loop-document.invariant
 
-pub loop-text-preserved : goal.loop-text-preserved
-loop-text-preserved c =
-    ap (option_map shown_key) (sym (strange_at (λ text. text.now) c.args.texts.now c.loop-text.text-index _ c.loop-text-test.true
+pub loop-document-preserved : goal.loop-document-preserved
+loop-document-preserved c =
+    ap (option_map shown_key) (sym (strange_at c.args.documents.now c.loop-document.document-index _ c.loop-document-test.true
     ∙ found_after shown_key _ _ (ap (option_map string_bytes) (sym c.in_default.is) ∙ c.in_ok-shown.ensures)))
-    ∙ c.loop-text.invariant
+    ∙ c.loop-document.invariant

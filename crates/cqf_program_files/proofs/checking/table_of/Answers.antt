@@ -1,22 +1,9 @@
-use Rattle.std.proofs.Common.{inl, inr, sym, ◌∙◌}
-use Rattle.std.specs.Str.{is_utf8}
-use Rattle.std.proofs.lemmas.Bool.{cases_Bool, false≢true}
-use Rattle.std.proofs.lemmas.Str.{is_utf8-from_IsUtf8, IsUtf8-from_is_utf8}
+use Rattle.std.proofs.Common.{ap}
+use Rattle.cqf_program_files.proofs.Firsts.{table_found, table_missing}
 use Rattle.cqf_program_files.proofs.checking.table_of.Goals as goal
 
 pub returns-in-Ok : goal.returns-in-Ok
-returns-in-Ok c =
-    let text = c.args.text.now in
-    let h = c.in-Ok.ensures.ok in
-    rw (is_utf8-from_IsUtf8 text h.0, h.1)
+returns-in-Ok c = table_found c.args.document.now _ c.in-Ok.ensures
 
-pub returns-else-is_memory : goal.returns-else-is_memory
-returns-else-is_memory c =
-    let text = c.args.text.now in
-    elim (cases_Bool (is_utf8 text)) [
-      | inl is_text ↦
-          let refused = c.in-Err.ensures.refused (λ kind. false≢true (sym c.if-is_memory.false ∙ c.is_memory.ensures.1 kind))
-          (IsUtf8-from_is_utf8 text is_text) in
-          rw (is_text, refused)
-      | inr other ↦ rw other
-    ]
+pub returns-in-Err : goal.returns-in-Err
+returns-in-Err c = table_missing c.args.document.now _ c.in-Err.ensures

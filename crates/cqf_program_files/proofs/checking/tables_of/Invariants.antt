@@ -3,7 +3,6 @@ use Rattle.toml.specs.View.{table_view}
 use Rattle.cqf_program_files.specs.Files.{tables_of}
 use Rattle.cqf_program_files.proofs.checking.tables_of.Given as goal
 
-abbrev pub invariant-loop-text : goal.invariant-loop-text
-invariant-loop-text l =
-    option_map (λ more. map table_view l.tables.items ++ more) (tables_of (map (λ text. text.now) (drop l.text-index l.texts)))
-    ≡ tables_of (map (λ text. text.now) l.texts)
+abbrev pub invariant-loop-document : goal.invariant-loop-document
+invariant-loop-document l =
+    option_map (λ more. map (λ table. table_view table.now) l.tables.items ++ more) (tables_of (drop l.document-index l.documents)) ≡ tables_of l.documents

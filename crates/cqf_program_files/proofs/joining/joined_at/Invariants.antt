@@ -4,4 +4,4 @@ use Rattle.cqf_program_files.specs.Files.{joined_at}
 use Rattle.cqf_program_files.proofs.joining.joined_at.Given as goal
 
 abbrev pub invariant-loop-table : goal.invariant-loop-table
-invariant-loop-table l = option_map view l.found ≡ joined_at l.key (map table_view (take l.table-index l.tables))
+invariant-loop-table l = option_map view l.found ≡ joined_at l.key (map (λ table. table_view table.now) (take l.table-index l.tables))

@@ -8,4 +8,4 @@ pub written_of-requires-clause-written : goal.written_of-requires-clause-written
 written_of-requires-clause-written c =
     let said = option_map (λ cycles. cycles.items) c.args.given in
     let source = source_of c.in_ok-found.found in
-    writable c.args.limits said source (input_parts c.args.limits said c.args.input.now source c.in_ok-found.ensures.ok)
+    writable c.args.limits said source (input_parts c.args.limits said c.args.input source c.in_ok-found.ensures.ok)

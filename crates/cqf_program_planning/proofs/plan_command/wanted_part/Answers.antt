@@ -5,4 +5,4 @@ use Rattle.cqf_program_planning.proofs.plan_command.wanted_part.Goals as goal
 
 -- what is read is as it may be written
 pub returns-in-Ok-clause-written : goal.returns-in-Ok-clause-written
-returns-in-Ok-clause-written c = streams_written c.args.text.now (map stream_text c.in-Ok.streams.items) c.in-Ok.ensures
+returns-in-Ok-clause-written c = streams_written c.args.document (map stream_text c.in-Ok.streams.items) c.in-Ok.ensures

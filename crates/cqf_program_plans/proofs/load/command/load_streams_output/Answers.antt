@@ -17,5 +17,5 @@ returns-in-Ok-clause-ok c =
     λ handed. stream_loads (record { domain = read.domain; access = read.access.items; handed = handed; streams = found.streams }) rows in
     let listed = ap (λ (requests : List PacedRequest). listed_from read.domain [] (map asked_paced requests)) (sym c.as_slice.ensures.value)
     ∙ c.in_ok-listing.ensures.ok in
-    streams_are c.args.limits c.args.input.now found rows c.in-Ok.output c.in_ok-domain.ensures.ok listed
+    streams_are c.args.limits c.args.input found rows c.in-Ok.output c.in_ok-domain.ensures.ok listed
     (c.in-Ok.ensures ∙ ap by_handed c.as_slice-2.ensures.value)

@@ -11,6 +11,6 @@ pub returns-clause-ok : goal.returns-clause-ok
 returns-clause-ok c =
     let network = c.args.network.now in
     let edge = edges_text c.in_ok-edge.edge in
-    loaded_is network c.args.text.now c.args.domain edge c.in-Ok.access.items c.in_ok-requests.requests.items c.requires c.in_ok-edge.ensures.ok
+    loaded_is network c.args.document c.args.domain edge c.in-Ok.access.items c.in_ok-requests.requests.items c.requires c.in_ok-edge.ensures.ok
     (c.in-Ok.ensures.value ∙ ap (λ (n : ℕ). access_loads network n edge.handed edge.flows) c.cycle_time.ensures.value)
     c.in_ok-requests.ensures.ok

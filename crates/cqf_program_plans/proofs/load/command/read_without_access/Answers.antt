@@ -5,7 +5,7 @@ use Rattle.cqf_program_plans.proofs.load.command.read_without_access.Goals as go
 
 pub returns-clause-ok : goal.returns-clause-ok
 returns-clause-ok c =
-    without_is c.args.domain c.args.text.now c.new-access.result.items c.new-handed.result.items c.in_ok-requests.requests.items c.new-access.ensures.items
+    without_is c.args.domain c.args.document c.new-access.result.items c.new-handed.result.items c.in_ok-requests.requests.items c.new-access.ensures.items
     c.new-handed.ensures.items c.in_ok-requests.ensures.ok
 
 pub returns-clause-little : goal.returns-clause-little

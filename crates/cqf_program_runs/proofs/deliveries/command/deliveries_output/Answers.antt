@@ -11,6 +11,6 @@ returns-in-Ok-clause-ok c =
     let made = c.in-Ok.ensures in (
       made.0,
       made.1,
-      subst (IsDeliveriesOutput c.args.limits c.args.cycles c.args.input.now) (sym made.4)
-          (IsDeliveriesOutput-made c.args.limits c.args.cycles c.args.input.now c.in_ok-planned.planned made.2 c.in_ok-planned.ensures.ok made.3),
+      subst (IsDeliveriesOutput c.args.limits c.args.cycles c.args.input) (sym made.4)
+          (IsDeliveriesOutput-made c.args.limits c.args.cycles c.args.input c.in_ok-planned.planned made.2 c.in_ok-planned.ensures.ok made.3),
     )

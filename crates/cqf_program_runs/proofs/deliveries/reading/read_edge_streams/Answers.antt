@@ -12,12 +12,12 @@ returns-in-Ok-clause-ok c =
     let edge = c.in_ok-edge.edge in
     record {
       streams = map (λ (flow : FlowText). flow.0) (map flow_text edge.flows.items);
-      holds = access-Ok c.args.network.now c.args.text.now (edges_text edge) c.requires c.in_ok-edge.ensures.ok;
+      holds = access-Ok c.args.network.now c.args.document (edges_text edge) c.requires c.in_ok-edge.ensures.ok;
       planned = record { asked = c.in-Ok.ensures.requests; ends = c.in-Ok.ensures.deadlines };
     }
 
 pub returns-in_err-edge-clause-err : goal.returns-in_err-edge-clause-err
 returns-in_err-edge-clause-err c =
-    passed-on c.from_residual.result c.in_err-edge.field-0.0 (IsRefused (planned_of_part c.args.network.now c.args.text.now))
+    passed-on c.from_residual.result c.in_err-edge.field-0.0 (IsRefused (planned_of_part c.args.network.now c.args.document))
     c.from_residual.ensures.1
-    (access-refused c.args.network.now c.args.text.now c.in_err-edge.field-0.0 c.requires c.in_err-edge.ensures.err)
+    (access-refused c.args.network.now c.args.document c.in_err-edge.field-0.0 c.requires c.in_err-edge.ensures.err)

@@ -1,6 +1,7 @@
-use Rattle.std.proofs.Common.{List, ap, map, ◌∙◌}
+use Rattle.std.proofs.Common.{◌≡◌, List, Ok, ap, map, subst, ◌∙◌}
 use Rattle.cqf_topology.specs.declared.paced.PacedRequest.{PacedRequest}
 use Rattle.cqf_admission.specs.Asking.{asked_paced}
+use Rattle.cqf_program_scenario.specs.Networks.{network_of_part}
 use Rattle.cqf_program_scenario.specs.RunParts.{texts_of}
 use Rattle.cqf_program_scenario.specs.Closing.{scenario_given}
 use Rattle.cqf_output.specs.Stops.{IsRefused}
@@ -18,7 +19,7 @@ returns-clause-ok c =
     let requests = c.in_ok-requests.requests.items in
     record {
       streams = found.streams;
-      holds = planned-Ok c.args.limits c.args.cycles texts c.in_ok-network.network d found.streams c.in_ok-network.ensures.ok c.in_ok-domain.ensures.ok found.holds requests (scenario_given given) found.planned.asked
+      holds = planned-Ok c.args.limits c.args.cycles texts c.in_ok-network.network d found.streams (subst (λ text. network_of_part c.args.limits text ≡ Ok c.in_ok-network.network) c.in_ok-first.ensures.ok c.in_ok-network.ensures.ok) c.in_ok-domain.ensures.ok found.holds requests (scenario_given given) found.planned.asked
           c.in_ok-given.ensures.ok;
       planned = record { asked = ap (λ (rs : List PacedRequest). map asked_paced rs) c.in_ok-given.ensures.same ∙ found.planned.asked; ends = found.planned.ends };
       may = c.in_ok-given.ensures.good;
@@ -31,7 +32,7 @@ returns-in_err-given-clause-err c =
     let found = c.in_ok-requests.ensures.ok in
     passed-on c.from_residual-in_err-given.result c.in_err-given.field-0.0 (IsRefused (planned_scenario_of c.args.limits c.args.cycles texts))
     c.from_residual-in_err-given.ensures.1
-    (planned-refused c.args.limits c.args.cycles texts c.in_ok-network.network c.in_ok-domain.domain found.streams c.in_ok-network.ensures.ok c.in_ok-domain.ensures.ok found.holds c.in_ok-requests.requests.items
+    (planned-refused c.args.limits c.args.cycles texts c.in_ok-network.network c.in_ok-domain.domain found.streams (subst (λ text. network_of_part c.args.limits text ≡ Ok c.in_ok-network.network) c.in_ok-first.ensures.ok c.in_ok-network.ensures.ok) c.in_ok-domain.ensures.ok found.holds c.in_ok-requests.requests.items
     c.in_err-given.field-0.0
     found.planned.asked c.in_err-given.ensures.err)
 
@@ -41,5 +42,5 @@ returns-in_err-requests-clause-err c =
     let texts = texts_of c.args.parts in
     passed-on c.from_residual-in_err-requests.result c.in_err-requests.field-0.0 (IsRefused (planned_scenario_of c.args.limits c.args.cycles texts))
     c.from_residual-in_err-requests.ensures.1
-    (streams-refused c.args.limits c.args.cycles texts c.in_ok-network.network c.in_err-requests.field-0.0 c.in_ok-network.ensures.ok
+    (streams-refused c.args.limits c.args.cycles texts c.in_ok-network.network c.in_err-requests.field-0.0 (subst (λ text. network_of_part c.args.limits text ≡ Ok c.in_ok-network.network) c.in_ok-first.ensures.ok c.in_ok-network.ensures.ok)
     c.in_err-requests.ensures.err)

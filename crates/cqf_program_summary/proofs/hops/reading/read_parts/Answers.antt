@@ -1,5 +1,6 @@
-use Rattle.std.proofs.Common.{refl}
+use Rattle.std.proofs.Common.{◌≡◌, Ok, refl, subst}
 use Rattle.cqf_output.specs.Stops.{IsRefused}
+use Rattle.cqf_program_scenario.specs.Networks.{domain_of_part}
 use Rattle.cqf_program_scenario.specs.RunParts.{texts_of}
 use Rattle.cqf_program_scenario.specs.Closing.{scenario_given}
 use Rattle.cqf_program_summary.specs.Hops.Known.{paced_scenario_of}
@@ -9,7 +10,7 @@ use Rattle.cqf_program_summary.proofs.hops.reading.read_parts.Goals as goal
 pub returns-clause-ok : goal.returns-clause-ok
 returns-clause-ok c = record {
   holds = paced-Ok c.args.limits c.args.cycles (texts_of c.args.parts) c.in_ok-domain.domain c.in_ok-requests.requests.items
-      c.in_ok-domain.ensures.ok c.in_ok-requests.ensures.ok c.in_ok-given.given.requests.items (scenario_given c.in_ok-given.given)
+      (subst (λ text. domain_of_part c.args.limits text ≡ Ok c.in_ok-domain.domain) c.in_ok-document.ensures.ok c.in_ok-domain.ensures.ok) c.in_ok-requests.ensures.ok c.in_ok-given.given.requests.items (scenario_given c.in_ok-given.given)
       c.in_ok-given.ensures.same c.in_ok-given.ensures.ok;
   may = c.in_ok-given.ensures.good;
   stand = c.in_ok-given.ensures.stand;
@@ -20,4 +21,4 @@ returns-in_err-given-clause-err c =
     passed-on c.from_residual-in_err-given.result c.in_err-given.field-0.0
     (IsRefused (paced_scenario_of c.args.limits c.args.cycles (texts_of c.args.parts))) c.from_residual-in_err-given.ensures.1
     (paced-refused c.args.limits c.args.cycles (texts_of c.args.parts) c.in_ok-domain.domain c.in_ok-requests.requests.items
-    c.in_ok-domain.ensures.ok c.in_ok-requests.ensures.ok c.in_err-given.field-0.0 c.in_err-given.ensures.err)
+    (subst (λ text. domain_of_part c.args.limits text ≡ Ok c.in_ok-domain.domain) c.in_ok-document.ensures.ok c.in_ok-domain.ensures.ok) c.in_ok-requests.ensures.ok c.in_err-given.field-0.0 c.in_err-given.ensures.err)

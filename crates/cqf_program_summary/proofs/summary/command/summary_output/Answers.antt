@@ -6,4 +6,4 @@ output_of-requires-clause-may c = c.in_ok-planned.ensures.ok.may
 
 pub returns-in-Ok-clause-ok : goal.returns-in-Ok-clause-ok
 returns-in-Ok-clause-ok c =
-    IsSummaryOutput-made c.args.limits c.args.cycles c.args.input.now c.in_ok-planned.planned c.in-Ok.output c.in_ok-planned.ensures.ok c.in-Ok.ensures
+    IsSummaryOutput-made c.args.limits c.args.cycles c.args.input c.in_ok-planned.planned c.in-Ok.output c.in_ok-planned.ensures.ok c.in-Ok.ensures

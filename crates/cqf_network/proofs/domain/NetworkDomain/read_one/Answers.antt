@@ -1,5 +1,0 @@
-use Rattle.cqf_network.proofs.ReadLemmas.{one_readable}
-use Rattle.cqf_network.proofs.domain.NetworkDomain.read_one.Goals as goal
-
-pub of_draft-requires : goal.of_draft-requires
-of_draft-requires c = one_readable c.args.limits c.args.text.now c.in_ok-draft.draft c.in_ok-draft.ensures
