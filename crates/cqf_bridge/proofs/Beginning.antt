@@ -15,7 +15,8 @@ use Rattle.cqf_model.specs.Network.{Network, comes_before, numbered_background}
 use Rattle.cqf_model.specs.Port.{AreLegal, PortRules, Transmission}
 use Rattle.cqf_model.specs.Run.{AreBackground, IsBackground, Run}
 use Rattle.cqf_laws_cycle.specs.Gathered.{backed_for, is_backed_for}
-use Rattle.cqf_bridge.specs.BridgeState.{AreBackedOf, links_from, new_bridge}
+use Rattle.cqf_agenda.specs.Links.{links_from}
+use Rattle.cqf_bridge.specs.BridgeState.{AreBackedOf, new_bridge}
 use Rattle.cqf_bridge.specs.PortRecord.{PortRecord, new_record, rules_on}
 use Rattle.cqf_bridge.specs.Follows.{FollowsTheNetwork, HasTaken}
 

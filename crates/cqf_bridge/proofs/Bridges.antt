@@ -21,7 +21,8 @@ use Rattle.cqf_laws_cycle.specs.Gathered.{is_for_link}
 use Rattle.cqf_bridge.specs.declared.cycle_gate.KeptGate.{KeptGate}
 use Rattle.cqf_bridge.specs.Batch.{LinkBatch}
 use Rattle.cqf_bridge.specs.PortRecord.{PortRecord, new_record}
-use Rattle.cqf_bridge.specs.BridgeState.{AreBackedOf, BridgeState, IsBridge, IsInStep, IsNextToSend, SendsCycle, backed_on, links_from, new_bridge, port_after}
+use Rattle.cqf_agenda.specs.Links.{links_from}
+use Rattle.cqf_bridge.specs.BridgeState.{AreBackedOf, BridgeState, IsBridge, IsInStep, IsNextToSend, SendsCycle, backed_on, new_bridge, port_after}
 use Rattle.cqf_bridge.specs.Sending.{FirstSend}
 use Rattle.cqf_bridge.specs.Taking.{IsKept}
 

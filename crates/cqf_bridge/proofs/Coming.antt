@@ -8,7 +8,8 @@ use Rattle.cqf_lists.proofs.Numbers.{kept_number}
 use Rattle.cqf_model.specs.declared.topology.Row.{Row}
 use Rattle.cqf_model.specs.Domain.{Domain, enters}
 use Rattle.cqf_bridge.specs.Batch.{LinkBatch}
-use Rattle.cqf_bridge.specs.Receiving.{AreBatchesOf, links_into}
+use Rattle.cqf_agenda.specs.Links.{links_into}
+use Rattle.cqf_bridge.specs.Receiving.{AreBatchesOf}
 use Rattle.cqf_bridge.specs.Taking.{IsBatchOf}
 
 -- the links of batches, one for each that ends in a bridge, end in it

@@ -17,8 +17,9 @@ use Rattle.cqf_laws_cycle.proofs.PageParts.{same_pages}
 use Rattle.cqf_bridge.specs.declared.faults.BridgeFault.{BridgeFault}
 use Rattle.cqf_bridge.specs.declared.faults.BridgeFault.TheVariants.{Memory}
 use Rattle.cqf_bridge.specs.Batch.{LinkBatch}
-use Rattle.cqf_bridge.specs.BridgeState.{BridgeState, SendsCycle, links_from}
-use Rattle.cqf_bridge.specs.Receiving.{IsReceiveFault, ReceivesCycle, links_into}
+use Rattle.cqf_agenda.specs.Links.{links_from, links_into}
+use Rattle.cqf_bridge.specs.BridgeState.{BridgeState, SendsCycle}
+use Rattle.cqf_bridge.specs.Receiving.{IsReceiveFault, ReceivesCycle}
 use Rattle.cqf_bridge.specs.Faults.{IsSendFault}
 use Rattle.cqf_bridge.specs.Cycles.{GivesTheBatches, GivesTheDrops, NewBridgeFollows, PageFollows}
 use Rattle.cqf_bridge.specs.Cycles.{ReceivingFollows, SendingFollows, drops_of_cycle, page_given}

@@ -23,9 +23,10 @@ use Rattle.cqf_laws_cycle.specs.Gathered.{backed_for, offered_for}
 use Rattle.cqf_bridge.specs.declared.faults.BridgeFault.{BridgeFault}
 use Rattle.cqf_bridge.specs.declared.faults.BridgeFault.TheVariants.{Memory}
 use Rattle.cqf_bridge.specs.Batch.{LinkBatch}
-use Rattle.cqf_bridge.specs.BridgeState.{BridgeState, SendsCycle, links_from}
+use Rattle.cqf_agenda.specs.Links.{links_from, links_into}
+use Rattle.cqf_bridge.specs.BridgeState.{BridgeState, SendsCycle}
 use Rattle.cqf_bridge.specs.Faults.{IsSendFault}
-use Rattle.cqf_bridge.specs.Receiving.{Handed, IsReceiveFault, IsRunOfBridge, ReceivesCycle, links_into}
+use Rattle.cqf_bridge.specs.Receiving.{Handed, IsReceiveFault, IsRunOfBridge, ReceivesCycle}
 use Rattle.cqf_bridge.specs.Cycles.{GivesTheBatches, GivesTheDrops, NewBridgeFollows, PageFollows}
 use Rattle.cqf_bridge.specs.Cycles.{ReceivingFollows, SendingFollows, drops_of_cycle, page_given}
 use Rattle.cqf_bridge.specs.Follows.{FollowsTheNetwork, HasSentOfTheNetwork, batch_of, batches_from, batches_into, handed_in}
@@ -33,7 +34,7 @@ use Rattle.cqf_bridge.specs.NoFaults.{ReceivesButForMemory, RunOfHistoryLosesNot
 use Rattle.cqf_laws_network.specs.NetworkLaws.{LegalNetworkExists}
 use Rattle.cqf_bridge.specs.CourseLaws.{HasAll, HasGone, handed_next}
 use Rattle.cqf_bridge.specs.Courses.{AreUnderWay, Course, HasWorked, IsGiven, Traffic, posted, taken_in}
-use Rattle.cqf_bridge.proofs.LinkNumbers.{link_into}
+use Rattle.cqf_agenda.proofs.LinkNumbers.{link_into}
 
 -- the run of a domain's input, with these tables
 abbrev pub run_with : Traffic → List (List Row) → Run

@@ -12,7 +12,6 @@ mod MadeBatch
 mod PutGates
 mod Receives
 mod Resting
-mod Offering
 pub mod OfferedRuns
 mod RunCycle
 mod Sends
@@ -29,8 +28,5 @@ mod Losses
 mod OwnPages
 mod SameFrames
 mod Courses
-pub mod LinkNumbers
 mod Going
-mod Cutting
-mod InCycles
 mod Paged

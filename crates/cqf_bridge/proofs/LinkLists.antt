@@ -15,7 +15,8 @@ use Rattle.cqf_model.specs.Domain.{Domain, bridge_of, enters, leaves}
 use Rattle.cqf_model.specs.Policing.{Carried}
 use Rattle.cqf_model.proofs.LinkEnds.{enters_inside}
 use Rattle.cqf_bridge.specs.Batch.{LinkBatch}
-use Rattle.cqf_bridge.specs.Receiving.{carried_by, links_into}
+use Rattle.cqf_agenda.specs.Links.{links_into}
+use Rattle.cqf_bridge.specs.Receiving.{carried_by}
 use Rattle.cqf_bridge.specs.Follows.{batch_of, batches_into}
 
 -- lists end to end are equal to one of them if all others are empty

@@ -30,7 +30,8 @@ use Rattle.cqf_bridge.specs.declared.faults.BridgeFault.{BridgeFault}
 use Rattle.cqf_bridge.specs.declared.faults.BridgeFault.TheVariants.{Memory, OverOctets, Spent, StrangeBatch, WrongCycle}
 use Rattle.cqf_bridge.specs.Batch.{LinkBatch}
 use Rattle.cqf_bridge.specs.BridgeState.{BridgeState}
-use Rattle.cqf_bridge.specs.Receiving.{AreBatchesOf, IsFirstOver, IsReceiveFault, MayCome, MayReceive, links_into, verdicts_in}
+use Rattle.cqf_agenda.specs.Links.{links_into}
+use Rattle.cqf_bridge.specs.Receiving.{AreBatchesOf, IsFirstOver, IsReceiveFault, MayCome, MayReceive, verdicts_in}
 use Rattle.cqf_bridge.specs.Follows.{batch_of, batches_into, handed_in}
 use Rattle.cqf_bridge.specs.Verdicts.{LosesNothingIn}
 use Rattle.cqf_bridge.proofs.TakenCycles.{verdicts_are}

@@ -11,7 +11,7 @@ use Rattle.cqf_model.specs.Policing.{Carried, policed_before}
 use Rattle.cqf_laws_network.specs.NetworkLaws.{LegalNetworkIsUnique}
 use Rattle.cqf_laws_cycle.specs.BridgeCycle.{DropsAreOfTheCycle, IsCompiledNetwork}
 use Rattle.cqf_laws_cycle.specs.PageLaws.{PageSaysTheBackground, PageSaysWhatIsDropped, PageSaysWhatItsLinksSend, on_links_of}
-use Rattle.cqf_bridge.specs.BridgeState.{links_from}
+use Rattle.cqf_agenda.specs.Links.{links_from}
 use Rattle.cqf_bridge.specs.Cycles.{drops_of_cycle, page_given, starts_of_batch}
 use Rattle.cqf_bridge.specs.Follows.{batch_of, batches_from}
 

@@ -17,7 +17,8 @@ use Rattle.cqf_laws_cycle.specs.Gathered.{PortsGetTheirBackground, backed_for}
 use Rattle.cqf_laws_cycle.specs.PageLaws.{on_links_of}
 use Rattle.cqf_laws_cycle.specs.PortCycle.{PortStartsTheBatch, waits_in}
 use Rattle.cqf_bridge.specs.Batch.{LinkBatch}
-use Rattle.cqf_bridge.specs.BridgeState.{BridgeState, background_from, batch_from, end_of_cycle, links_from, port_after, port_with}
+use Rattle.cqf_agenda.specs.Links.{links_from}
+use Rattle.cqf_bridge.specs.BridgeState.{BridgeState, background_from, batch_from, end_of_cycle, port_after, port_with}
 use Rattle.cqf_bridge.specs.PortRecord.{AreDemanded, PortRecord}
 use Rattle.cqf_bridge.specs.Cycles.{GivesTheBatches, SendsOfTheRun}
 use Rattle.cqf_bridge.specs.Follows.{HasSentOfTheNetwork, HasTaken, IsOfRun, batch_of, batches_from}

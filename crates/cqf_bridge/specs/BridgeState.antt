@@ -1,7 +1,6 @@
 -- The state of a bridge as its callers see it, and what it does in a cycle (IEEE Std 802.1Q-2018, Annex T).
-use Rattle.std.specs.Prelude.{ℕ, ◌≡◌, ◌+◌, ◌*◌, ◌≤◌, ◌<◌, ◌++◌, ◌⊎◌, AllPairs, Bool, true, false, Contains, List, [], ◌∷◌, if◌then◌else◌, filter, length, map}
+use Rattle.std.specs.Prelude.{ℕ, ◌≡◌, ◌+◌, ◌*◌, ◌≤◌, ◌<◌, ◌++◌, ◌⊎◌, AllPairs, Bool, true, false, Contains, List, [], filter, length, map}
 use Rattle.std.specs.List.{flat_map, zip}
-use Rattle.cqf_lists.specs.Lists.{each_below}
 use Rattle.cqf_model.specs.declared.frames.Backed.{Backed}
 use Rattle.cqf_model.specs.declared.frames.Started.{Started}
 use Rattle.cqf_model.specs.declared.ports.Arrival.{Arrival}
@@ -10,6 +9,7 @@ use Rattle.cqf_model.specs.Network.{QueuedFrame, backed_frame}
 use Rattle.cqf_model.specs.Port.{Transmission}
 use Rattle.cqf_model.specs.Run.{IsBackground}
 use Rattle.cqf_laws_cycle.specs.Gathered.{is_for_link}
+use Rattle.cqf_agenda.specs.Links.{links_from}
 use Rattle.cqf_bridge.specs.Batch.{LinkBatch}
 use Rattle.cqf_bridge.specs.PortRecord.{AreDemanded, PortRecord, background_by, batch_by, new_record, rules_on, with_frames, with_starts}
 use Rattle.cqf_model.specs.Limits.{most_cycles}
@@ -24,10 +24,6 @@ pub record BridgeState : Type 0 where
   pub spent : Bool
   pub ports : List PortRecord
   pub background : List Started
-
--- the links that leave a bridge, by number
-abbrev pub links_from : Domain → ℕ → List ℕ
-links_from d bridge = each_below (λ l. if leaves d l bridge then l ∷ [] else []) (length d.links)
 
 -- a bridge that has done nothing
 abbrev pub new_bridge : Domain → ℕ → BridgeState

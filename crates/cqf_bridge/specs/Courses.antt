@@ -14,7 +14,8 @@ use Rattle.cqf_model.specs.Table.{table_of}
 use Rattle.cqf_laws_cycle.specs.Gathered.{backed_for, offered_for}
 use Rattle.cqf_bridge.specs.Batch.{LinkBatch}
 use Rattle.cqf_bridge.specs.BridgeState.{BridgeState, SendsCycle, new_bridge}
-use Rattle.cqf_bridge.specs.Receiving.{IsRunOfBridge, ReceivesCycle, links_into}
+use Rattle.cqf_agenda.specs.Links.{links_into}
+use Rattle.cqf_bridge.specs.Receiving.{IsRunOfBridge, ReceivesCycle}
 use Rattle.cqf_bridge.specs.Cycles.{page_given}
 
 -- what bridges have done so far: for each bridge how many cycles it has sent, the tables that it took and the pages that it posted; for

@@ -18,7 +18,8 @@ use Rattle.cqf_bridge.specs.declared.faults.BridgeFault.TheVariants.{Memory}
 use Rattle.cqf_bridge.specs.Batch.{LinkBatch}
 use Rattle.cqf_bridge.specs.BridgeState.{BridgeState, SendsCycle, new_bridge}
 use Rattle.cqf_bridge.specs.Faults.{IsSendFault}
-use Rattle.cqf_bridge.specs.Receiving.{IsReceiveFault, ReceivesCycle, links_into}
+use Rattle.cqf_agenda.specs.Links.{links_into}
+use Rattle.cqf_bridge.specs.Receiving.{IsReceiveFault, ReceivesCycle}
 use Rattle.cqf_bridge.specs.Cycles.{page_given}
 use Rattle.cqf_bridge.specs.Follows.{FollowsTheNetwork, HasSentOfTheNetwork, handed_with}
 

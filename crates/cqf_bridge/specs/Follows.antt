@@ -10,9 +10,10 @@ use Rattle.cqf_model.specs.Policing.{Carried}
 use Rattle.cqf_laws_cycle.specs.PageLaws.{on_links_of}
 use Rattle.cqf_laws_cycle.specs.PortCycle.{waits_in}
 use Rattle.cqf_bridge.specs.Batch.{LinkBatch}
-use Rattle.cqf_bridge.specs.BridgeState.{BridgeState, links_from}
+use Rattle.cqf_agenda.specs.Links.{links_from, links_into}
+use Rattle.cqf_bridge.specs.BridgeState.{BridgeState}
 use Rattle.cqf_bridge.specs.PortRecord.{PortRecord, rules_on}
-use Rattle.cqf_bridge.specs.Receiving.{Handed, links_into}
+use Rattle.cqf_bridge.specs.Receiving.{Handed}
 
 -- the stream of each frame
 abbrev pub streams_of_starts : List QueuedFrame → List (Option ℕ)

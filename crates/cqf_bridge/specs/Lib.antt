@@ -14,7 +14,5 @@ pub mod Driven
 pub mod Courses
 pub mod CourseLaws
 pub mod Verdicts
-pub mod Agenda
 -- contracts of the inner functions
 pub mod Sending
-pub mod Picking

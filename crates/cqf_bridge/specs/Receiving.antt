@@ -1,28 +1,24 @@
 -- The receive phase of a cycle: the frames that arrive at a bridge, the verdicts on them, and why a bridge refuses the cycle.
-use Rattle.std.specs.Prelude.{ℕ, ◌≡◌, ◌+◌, ◌==◌, List, [], ◌∷◌, if◌then◌else◌, false, true, length, map, slice_get, take, Contains, Some}
+use Rattle.std.specs.Prelude.{ℕ, ◌≡◌, ◌+◌, ◌==◌, List, [], if◌then◌else◌, false, true, length, map, slice_get, take, Contains, Some}
 use Rattle.std.specs.List.{flat_map}
-use Rattle.cqf_lists.specs.Lists.{each_below}
 use Rattle.cqf_model.specs.declared.frames.Dropped.{Dropped}
 use Rattle.cqf_model.specs.declared.frames.Offered.{Offered}
 use Rattle.cqf_model.specs.declared.frames.Sent.{Sent}
 use Rattle.cqf_model.specs.declared.topology.Row.{Row}
 use Rattle.cqf_model.specs.Book.{drops_in}
-use Rattle.cqf_model.specs.Domain.{Domain, cycle_of, enters}
+use Rattle.cqf_model.specs.Domain.{Domain, cycle_of}
 use Rattle.cqf_model.specs.Network.{IsLoss, queued_to}
 use Rattle.cqf_model.specs.Run.{AreOffers, Run}
 use Rattle.cqf_model.specs.Table.{goes_on, row_of, table_of}
 use Rattle.cqf_model.specs.Policing.{Carried, ExceedsGate, Policed, whole_at}
 use Rattle.cqf_laws_cycle.specs.BridgeCycle.{policed_in}
 use Rattle.cqf_laws_cycle.specs.Gathered.{offered_for}
+use Rattle.cqf_agenda.specs.Links.{links_into}
 use Rattle.cqf_bridge.specs.declared.faults.BridgeFault.{BridgeFault}
 use Rattle.cqf_bridge.specs.declared.faults.BridgeFault.TheVariants.{Spent, WrongCycle, StrangeBatch, OverOctets, Memory}
 use Rattle.cqf_bridge.specs.Batch.{LinkBatch}
 use Rattle.cqf_bridge.specs.PortRecord.{PortRecord, with_frames}
 use Rattle.cqf_bridge.specs.BridgeState.{BridgeState, IsSpentBy}
-
--- the links that end in a bridge, by number
-abbrev pub links_into : Domain → ℕ → List ℕ
-links_into d bridge = each_below (λ l. if enters d l bridge then l ∷ [] else []) (length d.links)
 
 -- the frames of the batches, link by link
 abbrev pub carried_by : List LinkBatch → Carried

@@ -34,7 +34,8 @@ use Rattle.cqf_bridge.specs.Batch.{LinkBatch}
 use Rattle.cqf_bridge.specs.BridgeState.{BridgeState, IsBridge, end_of_cycle}
 use Rattle.cqf_bridge.specs.Gates.{AreKept, HaveCounted, counted_in, gate_in}
 use Rattle.cqf_bridge.specs.PortRecord.{PortRecord, rules_on, with_frames}
-use Rattle.cqf_bridge.specs.Receiving.{IsFirstOver, MayCome, links_into, port_queued, verdicts_in}
+use Rattle.cqf_agenda.specs.Links.{links_into}
+use Rattle.cqf_bridge.specs.Receiving.{IsFirstOver, MayCome, port_queued, verdicts_in}
 use Rattle.cqf_model.specs.Limits.{end_of_starts}
 
 -- a batch is of the cycle, and each of its frames may arrive by its link

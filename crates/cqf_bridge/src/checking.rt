@@ -5,7 +5,8 @@ ghost use Rattle.cqf_model.specs.Domain.{cycle_of, enters, leaves};
 ghost use Rattle.cqf_model.specs.Table.{goes_on, same_ingress};
 ghost use Rattle.cqf_model.specs.Policing.{whole_at};
 ghost use Rattle.cqf_bridge.specs.Batch.{LinkBatch};
-ghost use Rattle.cqf_bridge.specs.Receiving.{AreBatchesOf, MayCome, links_into};
+ghost use Rattle.cqf_agenda.specs.Links.{links_into};
+ghost use Rattle.cqf_bridge.specs.Receiving.{AreBatchesOf, MayCome};
 ghost use Rattle.cqf_bridge.specs.Taking.{IsBatchOf};
 ghost use Rattle.cqf_model.specs.Limits.{end_of_starts, most_cycles};
 

@@ -86,9 +86,9 @@ impl StreamGates {
         Ok(())
     }
 
-    /// Passes a frame of a row's stream to the stream's gate, and returns the gate's verdict. `octets` count from the destination address
-    /// to the FCS. The frame arrived by the link `ingress`, or at the edge, and is whole at the instant `at`, in nanoseconds. If no gate is
-    /// kept for the stream's number, one that has seen no frame is used, and kept from then on.
+    /// Passes a frame of a row's stream to the stream's gate, and returns the gate's verdict. `octets` are the octets of the frame that gates
+    /// count. The frame arrived by the link `ingress`, or at the edge, and is whole at the instant `at`, in nanoseconds. If no gate is kept
+    /// for the stream's number, one that has seen no frame is used, and kept from then on.
     ///
     /// The octets are added to those of the stream that passed before in the same cycle. The result is `Class` if and only if the sum is
     /// within what the row reserves in the cycle for frames that arrived by the same link, or at the edge. The class is 6 in even cycles

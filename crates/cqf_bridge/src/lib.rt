@@ -6,10 +6,8 @@
 //!   ([`Sent`]), for the bridge or station at the link's end; [`Bridge::background_starts`] returns the background frames that started. In
 //!   `specs/` a bridge is its `BridgeState`: its domain and number, its cycle, and all that was recorded at its ports. A [`BridgeFault`] is the
 //!   reason for which it refuses a call.
-//! - **Input of a run.** An [`Agenda`] is made once from all offers and background frames of a run, and finds those of a cycle by search. So the
-//!   caller can drive bridges in any order and never looks at a frame of another bridge. [`Agenda::background`] is the input of sending a cycle,
-//!   and [`Agenda::offers`] the input of receiving it. [`offers_of`] selects the offers of one cycle from all offers. An [`Offer`] is a frame that
-//!   is offered at the edge; an [`Offered`] is an offer with its number.
+//! - **Input of a run.** An `Agenda` of `cqf_agenda` has the offers of a bridge and the background frames of its links, by cycle. An [`Offer`]
+//!   is a frame that is offered at the edge; an [`Offered`] is an offer with its number.
 //! - **Verdicts**, for callers with ports of their own: each [`Incoming`] frame of a cycle has a `Came`, by one of the [`incoming_links`] or at
 //!   the edge ([`gather_offers`]). [`bring_in_order`] brings the frames into order, and [`police`] returns the [`FrameVerdict`] of each.
 //!   `leads_by` returns whether a frame goes on by a hop.
@@ -64,7 +62,6 @@
 //! ```
 #![tactic(auto)]
 
-mod agenda;
 mod batch;
 mod bridge;
 mod checking;
@@ -76,12 +73,10 @@ mod gates;
 mod gathering;
 mod longer_runs;
 mod no_faults;
-mod offers;
 mod outgoing;
 mod paces;
 mod paging;
 mod phases;
-mod picking;
 mod policing;
 mod quiet;
 mod receiving;
@@ -89,7 +84,6 @@ mod recording;
 mod sending;
 mod verdicts;
 
-pub use agenda::Agenda;
 pub use batch::Batch;
 pub use bridge::Bridge;
 pub use checking::incoming_links;
@@ -103,8 +97,6 @@ pub use gates::StreamGates;
 pub use gathering::{Incoming, bring_in_order, gather_offers};
 pub use longer_runs::longer_run_is_followed;
 pub use no_faults::{history_loses_nothing, no_other_fault};
-pub(crate) use offers::numbered_offer;
-pub use offers::offers_of;
 pub use paces::{bridges_go_on, pages_are_of_the_book};
 pub use paging::{page_with, starts_of};
 pub use policing::{FrameVerdict, police};

@@ -20,7 +20,7 @@ use Rattle.cqf_model.specs.Policing.{Carried}
 use Rattle.cqf_laws_cycle.specs.Gathered.{IsInOrderOf}
 use Rattle.cqf_bridge.specs.Batch.{LinkBatch}
 use Rattle.cqf_bridge.specs.BridgeState.{BridgeState}
-use Rattle.cqf_bridge.specs.Agenda.{AgendaOf, IsAgendaOf}
+use Rattle.cqf_agenda.specs.Agenda.{AgendaOf, IsAgendaOf}
 use Rattle.cqf_bridge.specs.Cycles.{starts_of_batch}
 use Rattle.cqf_bridge.specs.Follows.{HasSentOfTheNetwork, batch_of, batches_from, batches_into}
 use Rattle.cqf_plain.specs.declared.driven.RunBridge.{RunBridge}

@@ -18,9 +18,9 @@ use Rattle.cqf_model.proofs.InCycle.{received_in_when}
 use Rattle.cqf_laws_cycle.specs.BridgeCycle.{BatchIsWholeInItsCycle, CycleBringsItsBatches, policed_of, received_in}
 use Rattle.cqf_laws_cycle.specs.Gathered.{FramesAreTakenInOrder, IsInOrderOf, gathered_in, offered_for}
 use Rattle.cqf_bridge.specs.Batch.{LinkBatch}
-use Rattle.cqf_bridge.specs.Receiving.{links_into}
+use Rattle.cqf_agenda.specs.Links.{links_into}
 use Rattle.cqf_bridge.specs.Taking.{CanGather, gathered_by}
-use Rattle.cqf_bridge.specs.Agenda.{offers_listed_at}
+use Rattle.cqf_agenda.specs.Agenda.{offers_listed_at}
 use Rattle.cqf_bridge.specs.Follows.{batch_of, batches_into}
 use Rattle.cqf_bridge.specs.Verdicts.{EachCycleIsAnew}
 use Rattle.cqf_plain.specs.declared.driven.RunBridge.{RunBridge}

@@ -21,7 +21,8 @@ use Rattle.cqf_laws_cycle.specs.PageLaws.{on_links_of}
 use Rattle.cqf_laws_cycle.specs.RunSteps.{LossesAreOfCycles}
 use Rattle.cqf_laws_network.specs.PortLaws.{LegalPartIsLegal}
 use Rattle.cqf_bridge.specs.Batch.{LinkBatch}
-use Rattle.cqf_bridge.specs.BridgeState.{end_of_cycle, links_from}
+use Rattle.cqf_agenda.specs.Links.{links_from}
+use Rattle.cqf_bridge.specs.BridgeState.{end_of_cycle}
 use Rattle.cqf_bridge.specs.PortRecord.{PortRecord}
 use Rattle.cqf_bridge.specs.Quiet.{IsQuiet, MayPass, passed, rested}
 use Rattle.cqf_bridge.specs.Cycles.{GivesTheDrops, ReceivingFollows, SendingFollows, drops_of_cycle}

@@ -19,7 +19,7 @@ use Rattle.cqf_bridge.specs.declared.faults.BridgeFault.TheVariants as fault
 use Rattle.cqf_bridge.specs.Batch.{LinkBatch}
 use Rattle.cqf_bridge.specs.BridgeState.{BridgeState}
 use Rattle.cqf_bridge.specs.Receiving.{AreBatchesOf, Handed, IsReceiveFault, IsRunOfBridge, ReceivesCycle, verdicts_in}
-use Rattle.cqf_bridge.specs.Agenda.{AgendaOf, IsAgendaOf, offers_listed_at}
+use Rattle.cqf_agenda.specs.Agenda.{AgendaOf, IsAgendaOf, offers_listed_at}
 use Rattle.cqf_bridge.specs.Cycles.{GivesTheDrops, OffersAreOfTheBridge, ReceivingFollows, drops_of_cycle}
 use Rattle.cqf_bridge.specs.Follows.{batches_into}
 use Rattle.cqf_bridge.specs.Verdicts.{LosesNothingIn, UnlostBatchesMayCome, VerdictsAreTheRuns}

@@ -10,7 +10,7 @@ use Rattle.cqf_bridge.specs.declared.faults.BridgeFault.TheVariants.{Memory}
 use Rattle.cqf_bridge.specs.Batch.{LinkBatch}
 use Rattle.cqf_bridge.specs.BridgeState.{AreBackedOf, BridgeState, SendsCycle}
 use Rattle.cqf_bridge.specs.Faults.{IsSendFault}
-use Rattle.cqf_bridge.specs.Agenda.{background_at}
+use Rattle.cqf_agenda.specs.Agenda.{background_at}
 use Rattle.cqf_bridge.specs.Cycles.{BackgroundIsOfTheBridge, GivesTheBatches, SendingFollows}
 use Rattle.cqf_bridge.specs.Follows.{batches_from}
 use Rattle.cqf_bridge.specs.NoFaults.{SendsButForMemory}

@@ -15,7 +15,7 @@ use Rattle.cqf_laws_cycle.specs.Gathered.{IsInOrderOf}
 use Rattle.cqf_admission.specs.Tables.{CycleTable}
 use Rattle.cqf_bridge.specs.Batch.{LinkBatch}
 use Rattle.cqf_bridge.specs.BridgeState.{new_bridge}
-use Rattle.cqf_bridge.specs.Agenda.{IsAgendaOf}
+use Rattle.cqf_agenda.specs.Agenda.{IsAgendaOf}
 use Rattle.cqf_bridge.specs.Cycles.{drops_of_cycle}
 use Rattle.cqf_bridge.specs.Follows.{FollowsTheNetwork, HasSentOfTheNetwork, batches_from, batches_into}
 use Rattle.cqf_bridge.specs.Verdicts.{LosesNothingIn}

@@ -9,7 +9,7 @@ use Rattle.cqf_units.specs.declared.timing.Nanos.{Nanos}
 use Rattle.cqf_port.specs.NextStart.{StartsNext, StartsNoMore}
 use Rattle.cqf_bridge.specs.PortRecord.{PortRecord}
 use Rattle.cqf_bridge.specs.Quiet.{passed}
-use Rattle.cqf_bridge.specs.Agenda.{background_at, offers_listed_at}
+use Rattle.cqf_agenda.specs.Agenda.{background_at, offers_listed_at}
 use Rattle.cqf_plain.specs.declared.driven.RunBridge.{RunBridge}
 
 -- an instant, and the link on which a frame starts then

@@ -3,7 +3,8 @@ ghost use Rattle.std.specs.Prelude.{◌^◌, ◌<◌, IfOk, length};
 ghost use Rattle.cqf_plain.specs.Driven.{IsNewlyDriven};
 ghost use Rattle.cqf_plain.specs.Turns.{EachIs};
 
-use cqf_bridge::{Agenda, Batch, Bridge};
+use cqf_agenda::Agenda;
+use cqf_bridge::{Batch, Bridge};
 use cqf_compile::Plan;
 use cqf_model::{Background, Offer};
 use cqf_units::Memory;

@@ -6,7 +6,7 @@ use crate::places::{Grouped, Place};
 use crate::planning::{candidates_of, is_duplex, is_of_domain, talker_of};
 use crate::reported::ReportedLines;
 use crate::words::shortened;
-use crate::written::{FoundKey, KeyOwner, WrittenItem};
+use crate::written::FoundKey;
 use cqf_model::{LARGE, Limits};
 use cqf_topology::LinkTimes;
 use cqf_units::time_of;
@@ -330,12 +330,12 @@ fn delay_words(alloc: Global, delay: u64, sync: u64, guard: u64) -> Result<Strin
     let (delay, guard) = (Grouped(delay), Grouped(guard));
     if sync == 0 {
         return format!(in alloc;
-            "a delay of {delay} ns isn't shorter than the guard band, {guard} ns"
+            "a delay of {delay} ns isn't shorter than the guard band, {guard} ns: lengthen guard"
         );
     }
     let sync = Grouped(sync);
     format!(in alloc;
-        "a delay of {delay} ns and a sync of {sync} ns together aren't shorter than the guard band, {guard} ns"
+        "a delay of {delay} ns and a sync of {sync} ns together aren't shorter than the guard band, {guard} ns: lengthen guard"
     )
 }
 
@@ -379,7 +379,7 @@ pub(crate) fn report_gaps(
                 Grouped(u64::from(times.guard_within(guard))),
             );
             let words = format!(in given.alloc;
-                "the gap of 12 octets takes {gap} ns at {rate} Mb/s, more than the guard band, {own} ns"
+                "the gap of 12 octets takes {gap} ns at {rate} Mb/s, more than the guard band, {own} ns: lengthen guard"
             )?;
             report_of_link(given, reported, link, "rate", words.as_str())?;
         }

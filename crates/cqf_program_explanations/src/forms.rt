@@ -38,8 +38,8 @@ const MAC_FORM: &str =
 const INTERFACE_FORM: &str =
     "an interface is 1 to 15 letters, digits and . _ - @, and begins with a letter or digit";
 
-/// The form of the delays of a link that has two, in words.
-const DELAYS_FORM: &str =
+/// The form of a link's delay, in words.
+const DELAY_FORM: &str =
     "a delay is a whole number, 0 to 10,000,000 ns, or an array of the least and the greatest delay";
 
 /// The form of the cycle times of a network file, in words.
@@ -68,7 +68,7 @@ fn form_of_link(key: &str) -> Option<&'static str> {
     Some(match key {
         "from" | "to" => NAME_FORM,
         "rate" => { "a rate is 10, 100, 1000, 2500, 5000, 10000, 25000, 40000 or 100000 (Mb/s)" }
-        "delay" => "a delay is a whole number, 0 to 10,000,000 ns",
+        "delay" => DELAY_FORM,
         "guard" => return form_of_top(key),
         "duplex" => "duplex is true or false",
         "other" => "other is a whole number of octets, 64 to 1,522",
@@ -118,9 +118,6 @@ pub(crate) fn form_within(
     key: &str,
 ) -> Option<&'static str> {
     match (item.kind, key) {
-        (KeyOwner::Link, "delay") if item.get(key).is_some_and(Value::is_array) => {
-            Some(DELAYS_FORM)
-        }
         (KeyOwner::Link, _) => form_of_link(key),
         (_, "x-gate") => Some(form_of_gate(limits)),
         (_, "paths") if item.get("path").is_some() => Some("give path or paths, not both"),

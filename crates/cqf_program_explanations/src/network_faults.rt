@@ -109,7 +109,8 @@ fn several_words(alloc: Global, network: &Network<'_>, talker: &str) -> Result<S
     format!(in alloc; "from: {station} has several access links: say which, as {texts}")
 }
 
-/// Returns the words about a stream whose path doesn't begin at the bridge at which its talker's streams enter.
+/// Returns the words about a stream whose path doesn't begin at the bridge at which its talker's streams enter. If it does in the file, then
+/// `plan --without` leaves out the access link to that bridge.
 fn other_edge_words(
     alloc: Global,
     network: &Network<'_>,
@@ -120,16 +121,19 @@ fn other_edge_words(
         Some(link) => network.edge_of(link),
         None => talker,
     };
+    let talker = shortened(alloc, talker)?;
     for branch in &branches_of(alloc, item)? {
         let begins = branch.first().and_then(Value::as_str).unwrap_or("");
         if begins != edge {
-            let (begins, talker) = (shortened(alloc, begins)?, shortened(alloc, talker)?);
+            let begins = shortened(alloc, begins)?;
             return format!(in alloc;
                 "its path begins at {begins}, but its talker {talker} enters the network at {edge}: begin the path there"
             );
         }
     }
-    Ok(String::new(alloc))
+    format!(in alloc;
+        "its path begins at {edge}, but the access link of {talker} to {edge} is left out by --without: leave out the path too, and plan finds one"
+    )
 }
 
 /// Reports the stream of a name that can't enter the network as its `from`, `to` and paths say.

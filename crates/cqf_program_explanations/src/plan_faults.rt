@@ -216,7 +216,7 @@ fn report_needs(
     if unplaced.fault == "TooLittle" {
         let (place, octets) = (item.place_of("octets"), Grouped(item.number("octets")));
         return reported.report(format!(in given.alloc;
-            "{place}: {label} reserves {octets} octets a cycle, but its traffic needs {needed}{question}"
+            "{place}: {label} reserves {octets} octets a cycle, but its traffic needs {needed}: raise octets, or leave it out{question}"
         )?);
     }
     let place = item.place_of("interval");
@@ -239,7 +239,7 @@ pub(crate) fn report_below_traffic(
             let (place, label) = (item.place_of("octets"), item.counted(given.alloc)?);
             let question = nanos_question(given.alloc, item, "interval")?;
             return reported.report(format!(in given.alloc;
-                "{place}: {label}: octets = {octets}: its traffic needs {needed} octets a cycle at its edge bridge{question}"
+                "{place}: {label}: octets = {octets}: its traffic needs {needed} octets a cycle at its edge bridge: raise octets, or leave it out and plan again{question}"
             )?);
         }
     }
@@ -314,7 +314,7 @@ fn report_no_way(
 ) -> Result<(), AllocError> {
     let (place, label) = (item.place_of("to"), item.label(given.alloc)?);
     reported.report(format!(in given.alloc;
-        "{place}: {label}: no path of at most 16 links leads from its edge bridge to {listener}"
+        "{place}: {label}: no path of at most 16 links leads from its edge bridge to {listener}: add links (a link goes one way, unless duplex = true)"
     )?)
 }
 

@@ -2,7 +2,6 @@
 ghost use Rattle.std.specs.Prelude.{Some};
 ghost use Rattle.cqf_program_files.specs.Files.{files_fault_text};
 
-use cqf_units::Memory;
 use std::fmt;
 use thiserror::Error;
 

@@ -27,7 +27,7 @@ use Rattle.cqf_worker_loops.specs.Commands.{acts_asked}
 use Rattle.cqf_worker.specs.Faults.{conduct_fault_text}
 use Rattle.cqf_worker.specs.declared.account.TracedAccount.{TracedAccount}
 use Rattle.cqf_worker.specs.declared.faults.ConductFault.{ConductFault}
-use Rattle.cqf_worker.specs.declared.faults.ConductFault.TheVariants.{Memory, Bridge, DeskDisagrees, BookDisagrees, ChannelLost, Spawn}
+use Rattle.cqf_worker.specs.declared.faults.ConductFault.TheVariants.{Memory, DeskDisagrees, ChannelLost, Spawn}
 
 -- each administrator's commands, from their vectors
 abbrev pub commands_in : List (Vec Command Global) → List (List Command)
@@ -149,9 +149,7 @@ EndsThreads-fault limits cycles input fault stop may other e = record {
 -- a fault is for lack of memory, or another one
 memory_or_not : (fault : ConductFault) → (fault ≡ Memory) ⊎ (fault ≢ Memory)
 memory_or_not Memory = inl refl
-memory_or_not (Bridge bridge fault) = inr (λ e. (cc))
 memory_or_not DeskDisagrees = inr (λ e. (cc))
-memory_or_not BookDisagrees = inr (λ e. (cc))
 memory_or_not ChannelLost = inr (λ e. (cc))
 memory_or_not Spawn = inr (λ e. (cc))
 

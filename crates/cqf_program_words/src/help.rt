@@ -85,11 +85,12 @@ A stream may have a deadline, in ns:
 The output has a line for each stream and listener: the number of bridges on the
 path, the least and the greatest latency of a frame, the most by which arrivals
 of frames of one cycle can differ, the stream's deadline and the verdict. Times
-are in ns. If from is a station, latencies and deadlines begin when the station
-hands the frame to its access link. Otherwise they begin with the frame's offer,
-when the edge bridge has received it. They end when the listener has received
-it. The bounds hold for frames that the reservation covers. Offers beyond the
-reservation in a cycle are dropped, also if the verdict is in-time.
+are in ns. If from is a station and the stream has traffic (interval, size),
+latencies and deadlines begin when the station hands the frame to its access
+link. Otherwise they begin with the frame's offer, when the edge bridge has
+received it. They end when the listener has received it. The bounds hold for
+frames that the reservation covers. Offers beyond the reservation in a cycle are
+dropped, also if the verdict is in-time.
 
 With --strict the status is 1 unless every deadline is certain to be kept. The
 first line with the verdict late or may-be-late then goes to standard error."#

@@ -2,7 +2,7 @@
 ghost use Rattle.std.specs.Prelude.{◌≡◌, IfSome, map};
 ghost use Rattle.cqf_worker.specs.Wires.{AreWired, Wiring, pipe_of_tables, tables_pipe};
 
-use cqf_bridge::Agenda;
+use cqf_agenda::Agenda;
 use cqf_model::Offer;
 use cqf_refused_values::{Reported, domain_of, mark, once, trial, twice};
 use cqf_test_fixtures::{are_offers, line, offers_of};

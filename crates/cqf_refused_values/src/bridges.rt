@@ -6,7 +6,8 @@ ghost use Rattle.cqf_laws_cycle.specs.Gathered.{offered_for};
 use crate::domains::is_line;
 use crate::{Reported, X, mark, once, plan_of, tables_with, trial, twice};
 use cqf_admission::Table;
-use cqf_bridge::{Batch, Bridge, BridgeFault, offers_of};
+use cqf_agenda::offers_of;
+use cqf_bridge::{Batch, Bridge, BridgeFault};
 use cqf_compile::Plan;
 use cqf_model::{Dropped, Offer, Offered, Reason, Sent};
 use cqf_test_fixtures::{

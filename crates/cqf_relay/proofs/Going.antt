@@ -50,7 +50,8 @@ use Rattle.cqf_relay.specs.Queues.{AreByCycle, goes_from, queue_of, queued, queu
 use Rattle.cqf_relay.specs.Sending.{IsSameLink, IsTidy, SendsCycles, SendsMore, SendsOneCycle, base_with, came_of, most_after, most_of, moving_on, sends_of, waits_for, with_after}
 use Rattle.cqf_relay.specs.Standing.{Come, GoesOnAlone, GoesOnBy, HasGoneOnBy, HaveSentMore, IsEdgeOf, IsInletOf, IsOutletOf, KnowsRows}
 use Rattle.cqf_relay.specs.Standing.{IsSameButLinks, IsWithin, LetsGo, MayReach, SendsOn, StandsSo, StaysAs, all_rows, comes_by, comes_to, covered_in, link_in, link_out}
-use Rattle.cqf_relay.specs.Standing.{links_from, links_into, reported_by, that_go_on, wire_on, wire_out}
+use Rattle.cqf_agenda.specs.Links.{links_from, links_into}
+use Rattle.cqf_relay.specs.Standing.{reported_by, that_go_on, wire_on, wire_out}
 use Rattle.cqf_relay.proofs.Tidy.{tidy_sends}
 
 -- what a link sent in a cycle stays the same when one more cycle is appended

@@ -28,7 +28,8 @@ use Rattle.cqf_relay.specs.Segments.{IsNextSegment, IsSegmentOf, Sendings, batch
 use Rattle.cqf_relay.specs.Logs.{ByCycle, came_by_segment}
 use Rattle.cqf_relay.specs.Sending.{IsSameLink, IsTidy, KeepsSegmentBack, TakesPending}
 use Rattle.cqf_relay.specs.Standing.{AreKnown, Come, HandsOn, HasGoneOnBy, IsEdgeOf, IsInletOf, IsOutletOf, IsSameButLinks, IsWithin, KeepsBack, KnowsRows}
-use Rattle.cqf_relay.specs.Standing.{StandsSo, StaysAs, link_in, link_out, links_from, links_into}
+use Rattle.cqf_agenda.specs.Links.{links_from, links_into}
+use Rattle.cqf_relay.specs.Standing.{StandsSo, StaysAs, link_in, link_out}
 use Rattle.cqf_relay.specs.Standing.{reported_by, wire_on, wire_out}
 use Rattle.cqf_relay.proofs.Tidy.{back_tidy, hands_tidy}
 

@@ -23,7 +23,8 @@ use Rattle.cqf_relay.specs.Logs.{KeepsFrom, is_in}
 use Rattle.cqf_relay.specs.Offering.{CountsUpto}
 use Rattle.cqf_relay.specs.Sending.{IsTidy}
 use Rattle.cqf_relay.specs.Standing.{AreKnown, Come, IsEdgeOf, IsInletOf, IsOutletOf, IsWithin}
-use Rattle.cqf_relay.specs.Standing.{LetsGo, MayHaveCome, StandsSo, link_in, link_out, links_from, links_into, wire_out}
+use Rattle.cqf_agenda.specs.Links.{links_from, links_into}
+use Rattle.cqf_relay.specs.Standing.{LetsGo, MayHaveCome, StandsSo, link_in, link_out, wire_out}
 use Rattle.cqf_lists.proofs.Written.{map_kept, slice_get-set_other, slice_get-set_same}
 
 -- a log that keeps what arrived from a cycle on may still be what has arrived

@@ -29,7 +29,8 @@ use Rattle.cqf_relay.specs.Logs.{cycle_of_came, is_in}
 use Rattle.cqf_relay.specs.Offering.{CountsUpto, Going, TakesOffers, came_of_going, covered_after, dropped_after}
 use Rattle.cqf_relay.specs.Sending.{IsTidy, LearnsOf}
 use Rattle.cqf_relay.specs.Standing.{AreKnown, Come, GoesOnBy, HasGoneOnBy, IsEdgeOf, IsInletOf, IsOutletOf, IsWithin, KnowsRows, LearnEach, LearnsRows, MayBeTables}
-use Rattle.cqf_relay.specs.Standing.{MayHaveCome, StandsSo, TakesTable, all_rows, comes_by, covered_in, known_after, link_in, link_out, links_from, links_into}
+use Rattle.cqf_agenda.specs.Links.{links_from, links_into}
+use Rattle.cqf_relay.specs.Standing.{MayHaveCome, StandsSo, TakesTable, all_rows, comes_by, covered_in, known_after, link_in, link_out}
 use Rattle.cqf_relay.specs.Standing.{new_rows, that_go_on, wire_on, wire_out, with_table}
 use Rattle.cqf_relay.proofs.Learning.{ComeAfter, HasLearned, each_learned, later_after, room_learned}
 use Rattle.cqf_relay.proofs.NewRows.{all_rows_more, knows_with, new_after, rows_before, table_before, table_last}

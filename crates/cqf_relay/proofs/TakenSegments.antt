@@ -31,7 +31,8 @@ use Rattle.cqf_relay.specs.Logs.{cycle_of_came, is_in}
 use Rattle.cqf_relay.specs.Offering.{came_of_going}
 use Rattle.cqf_relay.specs.Sending.{IsTidy}
 use Rattle.cqf_relay.specs.Standing.{AreKnown, Come, GoesOnBy, IsEdgeOf, IsInletOf, IsOutletOf, IsWithin}
-use Rattle.cqf_relay.specs.Standing.{MayHaveCome, StandsSo, TakesSegment, comes_by, comes_to, covered_in, link_in, link_out, links_from, links_into}
+use Rattle.cqf_agenda.specs.Links.{links_from, links_into}
+use Rattle.cqf_relay.specs.Standing.{MayHaveCome, StandsSo, TakesSegment, comes_by, comes_to, covered_in, link_in, link_out}
 use Rattle.cqf_relay.specs.Standing.{more_from, rows_of, that_go_on, upto_from, wire_out, with_segment}
 use Rattle.cqf_lists.proofs.Written.{map_kept}
 use Rattle.cqf_relay.proofs.Handing.{all_at}

@@ -13,9 +13,10 @@ use Rattle.cqf_model.specs.declared.topology.Link.{Link}
 use Rattle.cqf_model.specs.declared.topology.Node.{Node}
 use Rattle.cqf_model.specs.declared.topology.Node.TheVariants.{Bridge, Station}
 use Rattle.cqf_model.specs.declared.topology.Row.{Row}
-use Rattle.cqf_model.specs.Domain.{Domain, delay_of, enters, leaves, octet_time_of}
+use Rattle.cqf_model.specs.Domain.{Domain, delay_of, enters, octet_time_of}
 use Rattle.cqf_model.specs.Table.{AreOrderly, row_of, table_of}
 use Rattle.cqf_trace.specs.Traces.{mark_of_sent}
+use Rattle.cqf_agenda.specs.Links.{links_from, links_into}
 use Rattle.cqf_relay.specs.declared.edge.Edge.{Edge}
 use Rattle.cqf_relay.specs.declared.inlet.Inlet.{Inlet}
 use Rattle.cqf_relay.specs.declared.leads.By.{By}
@@ -148,13 +149,7 @@ pub record IsOutletOf (d : Domain) (bridge : ℕ) (come : Come) (sends : List (L
   pub no_background : outlet.trace.background.items ≡ []
   pub gone : HasGoneOnBy d bridge come outlet.trace.link sends
 
--- the links that end in a bridge, and those that leave it, by number; and the link of an inlet, the link of an outlet and its wire
-abbrev pub links_into : Domain → ℕ → List ℕ
-links_into d bridge = each_below (λ l. if enters d l bridge then l ∷ [] else []) (length d.links)
-
-abbrev pub links_from : Domain → ℕ → List ℕ
-links_from d bridge = each_below (λ l. if leaves d l bridge then l ∷ [] else []) (length d.links)
-
+-- the link of an inlet, the link of an outlet and its wire
 abbrev pub link_in : Inlet → ℕ
 link_in inlet = inlet.link
 

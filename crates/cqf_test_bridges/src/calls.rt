@@ -4,7 +4,8 @@ ghost use Rattle.cqf_model.specs.Domain.{leaves};
 ghost use Rattle.cqf_bridge.specs.BridgeState.{IsBackedOf};
 
 use cqf_admission::Table;
-use cqf_bridge::{Batch, Bridge, BridgeFault, Dropped, Offer, offers_of};
+use cqf_agenda::offers_of;
+use cqf_bridge::{Batch, Bridge, BridgeFault, Dropped, Offer};
 use cqf_model::{Backed, Background};
 use cqf_test_fixtures::are_offers;
 use cqf_topology::Domain;

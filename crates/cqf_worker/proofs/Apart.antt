@@ -11,7 +11,7 @@ use Rattle.cqf_trace.specs.declared.bridge_trace.BridgeTrace.{BridgeTrace}
 use Rattle.cqf_trace.specs.BridgeTraces.{AreBridgeTracesOf, links_leaving}
 use Rattle.cqf_trace.specs.Traces.{links_of}
 use Rattle.cqf_relay.specs.declared.moving.Segment.{Segment}
-use Rattle.cqf_relay.specs.Standing.{links_into}
+use Rattle.cqf_agenda.specs.Links.{links_into}
 use Rattle.cqf_worker_loops.specs.declared.carried.Carried.{Carried}
 use Rattle.cqf_worker_loops.specs.declared.worker.Worker.{Worker}
 use Rattle.cqf_worker_loops.specs.Rows.{wire_at, wires_of}

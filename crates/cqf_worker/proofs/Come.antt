@@ -25,15 +25,16 @@ use Rattle.cqf_model.specs.HistoryBook.{run_of_history}
 use Rattle.cqf_model.specs.Run.{Run}
 use Rattle.cqf_admission.specs.Tables.{CycleTable}
 use Rattle.cqf_trace.specs.Traces.{mark_of_sent, starts_at}
-use Rattle.cqf_bridge.specs.Agenda.{offers_listed_at}
+use Rattle.cqf_agenda.specs.Agenda.{offers_listed_at}
 use Rattle.cqf_laws_cycle.specs.Gathered.{offered_for}
-use Rattle.cqf_bridge.proofs.LinkNumbers.{link_listed, links_ascend}
+use Rattle.cqf_agenda.proofs.LinkNumbers.{link_listed, links_ascend}
 use Rattle.cqf_laws_account.specs.Sealing.{cycle_tables}
 use Rattle.cqf_trace.proofs.Leaving.{leaves_one}
 use Rattle.cqf_relay.specs.declared.moving.Segment.{Segment}
 use Rattle.cqf_relay.specs.Segments.{AreNextSegments, Sendings, all_frames, batch_at, came_in, end_of_segments}
 use Rattle.cqf_relay.specs.Logs.{is_in}
-use Rattle.cqf_relay.specs.Standing.{Come, HasGoneOnBy, MayBeTables, is_onward, links_from, links_into, offers_in}
+use Rattle.cqf_agenda.specs.Links.{links_from, links_into}
+use Rattle.cqf_relay.specs.Standing.{Come, HasGoneOnBy, MayBeTables, is_onward, offers_in}
 use Rattle.cqf_laws_relay.specs.Following.{HasCome, HaveGone}
 use Rattle.cqf_worker_loops.specs.declared.carried.Carried.TheVariants.{Item}
 use Rattle.cqf_worker_loops.specs.declared.worker.Worker.{Worker}

@@ -20,8 +20,9 @@ use Rattle.cqf_model.specs.declared.topology.Link.{Link}
 use Rattle.cqf_model.specs.declared.topology.Node.{Node}
 use Rattle.cqf_model.specs.declared.topology.Node.TheVariants.{Bridge, Station}
 use Rattle.cqf_model.specs.Domain.{Domain, IsAccepted, enters, leaves, node_is}
-use Rattle.cqf_relay.specs.Standing.{is_bridge, is_onward, links_from, links_into}
-use Rattle.cqf_bridge.proofs.LinkNumbers.{link_into, links_ascend}
+use Rattle.cqf_agenda.specs.Links.{links_from, links_into}
+use Rattle.cqf_relay.specs.Standing.{is_bridge, is_onward}
+use Rattle.cqf_agenda.proofs.LinkNumbers.{link_into, links_ascend}
 use Rattle.cqf_worker_loops.specs.declared.worker.Worker.{Worker}
 use Rattle.cqf_worker_loops.specs.Workers.{Offering, SegmentPort, Works, link_of, links_onward}
 use Rattle.cqf_worker.specs.Wires.{AreWorkersOf, count_on, ins_at, outs_at}

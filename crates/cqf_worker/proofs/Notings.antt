@@ -188,8 +188,6 @@ module _ (cycles : ℕ) (r : ReadyRun) where
   -- why not all threads could be started
   pub start_reported : (fault : ConductFault) → IsStartFault fault → MayBeReported cycles r fault
   start_reported conduct.Memory is = tt
-  start_reported (conduct.Bridge bridge reason) is = absurd is
   start_reported conduct.DeskDisagrees is = absurd is
-  start_reported conduct.BookDisagrees is = absurd is
   start_reported conduct.ChannelLost is = absurd is
   start_reported conduct.Spawn is = tt

@@ -24,9 +24,7 @@ module _ (d : Domain) (opening : List Recorded) (offers : List Offer) (backgroun
   -- why a run can't begin
   pub reported_before : (fault : ConductFault) → IsStartFault fault → IsConductFault d opening offers background cycles admins fault
   reported_before conduct.Memory is = tt
-  reported_before (conduct.Bridge bridge reason) is = absurd is
   reported_before conduct.DeskDisagrees is = absurd is
-  reported_before conduct.BookDisagrees is = absurd is
   reported_before conduct.ChannelLost is = absurd is
   reported_before conduct.Spawn is = tt
 
@@ -38,14 +36,12 @@ module _ (d : Domain) (opening : List Recorded) (offers : List Offer) (backgroun
     -- the fault that its threads report
     pub reported_of_threads : (fault : ConductFault) → MayBeReported cycles p.ready fault → IsConductFault d opening offers background cycles admins fault
     reported_of_threads conduct.Memory may = tt
-    reported_of_threads (conduct.Bridge bridge reason) may = absurd may
     reported_of_threads conduct.DeskDisagrees may = elim may [
       | inl some ↦ inl some
       | inr calls ↦
           inr (inl (calls_somewhere (commands_of calls.administrator)
           (contains_map commands_of p.ready.administrators.items calls.administrator calls.there) calls.some))
     ]
-    reported_of_threads conduct.BookDisagrees may = absurd may
     reported_of_threads conduct.ChannelLost may = may
     reported_of_threads conduct.Spawn may = tt
 
@@ -54,7 +50,6 @@ module _ (d : Domain) (opening : List Recorded) (offers : List Offer) (backgroun
       pub reported_in_the_end : IsAccepted d → (fault : ConductFault) → IsSettleFault p.desk e fault →
           IsConductFault d opening offers background cycles admins fault
       reported_in_the_end accepted conduct.Memory why = tt
-      reported_in_the_end accepted (conduct.Bridge bridge reason) why = absurd why
       reported_in_the_end accepted conduct.DeskDisagrees why = inr (inr (record {
         seats = all_seats e;
         seated = (seated_so d opening offers background cycles admins p is e ended).0;
@@ -62,7 +57,6 @@ module _ (d : Domain) (opening : List Recorded) (offers : List Offer) (backgroun
         other = why.1;
         fault = subst (λ (desk : Counter). IsCloseFault desk (all_seats e) why.0) is.desk why.2;
       }))
-      reported_in_the_end accepted conduct.BookDisagrees why = absurd why
       reported_in_the_end accepted conduct.ChannelLost why =
           absurd (none_lacks (traffic_of d offers) cycles p.ready.workers.items e.workers.items is.laid.workers is.laid.many ended.worked accepted
           why.0 why.1)

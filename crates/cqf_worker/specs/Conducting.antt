@@ -88,8 +88,6 @@ pub record IsSettled (d : Domain) (desk : Counter) (e : EndedRun) (account : Tra
 -- with its seats for a cause other than memory
 abbrev pub IsSettleFault : Counter → EndedRun → ConductFault → Type 0
 IsSettleFault desk e conduct.Memory = Unit {0}
-IsSettleFault desk e (conduct.Bridge bridge reason) = ⊥
 IsSettleFault desk e conduct.DeskDisagrees = KeepsOpen closing.Memory (IsCloseFault desk (all_seats e))
-IsSettleFault desk e conduct.BookDisagrees = ⊥
 IsSettleFault desk e conduct.ChannelLost = LackEnds (flat_map ins_at e.workers.items) (flat_map outs_at e.workers.items)
 IsSettleFault desk e conduct.Spawn = ⊥

@@ -32,12 +32,10 @@ pub record KeepsDeskOpen (d : Domain) (opening : List Recorded) (cycles : ℕ) (
 
 -- which fault a run may report. Memory and Spawn are possible in every run. DeskDisagrees is possible if there are cycles to close, if an
 -- administrator has commands, or if the desk can't be closed. ChannelLost is possible only if there are cycles to go through: it never
--- arises from closing the pipes. Bridge and BookDisagrees are impossible
+-- arises from closing the pipes
 abbrev pub IsConductFault : Domain → List Recorded → List Offer → List Background → ℕ → List (List Command) → ConductFault → Type 0
 IsConductFault d opening offers background cycles admins conduct.Memory = Unit {0}
-IsConductFault d opening offers background cycles admins (conduct.Bridge bridge reason) = ⊥
 IsConductFault d opening offers background cycles admins conduct.DeskDisagrees =
     (0 < cycles) ⊎ (SomeCall admins ⊎ KeepsDeskOpen d opening cycles admins)
-IsConductFault d opening offers background cycles admins conduct.BookDisagrees = ⊥
 IsConductFault d opening offers background cycles admins conduct.ChannelLost = 0 < cycles
 IsConductFault d opening offers background cycles admins conduct.Spawn = Unit {0}

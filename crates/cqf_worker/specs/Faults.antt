@@ -1,16 +1,13 @@
 -- Why a run on threads gives no account.
-use Rattle.std.specs.Prelude.{ℕ, ◌≡◌, ◌++◌, List, Bool, Option, Some, None, codes, decimal, false, if◌then◌else◌, nat_lt}
-use Rattle.cqf_bridge.specs.Faults.{text_of_fault}
+use Rattle.std.specs.Prelude.{ℕ, ◌≡◌, List, Bool, Option, Some, None, codes, false, if◌then◌else◌, nat_lt}
 use Rattle.cqf_worker.specs.declared.faults.ConductFault.{ConductFault}
-use Rattle.cqf_worker.specs.declared.faults.ConductFault.TheVariants.{Memory, Bridge, DeskDisagrees, BookDisagrees, ChannelLost, Spawn}
+use Rattle.cqf_worker.specs.declared.faults.ConductFault.TheVariants.{Memory, DeskDisagrees, ChannelLost, Spawn}
 use Rattle.cqf_worker.specs.declared.faults.Faults.{Faults}
 
--- the text of a fault: its name followed by its values
+-- the text of a fault: its name
 abbrev pub conduct_fault_text : ConductFault → List ℕ
 conduct_fault_text Memory = codes "Memory"
-conduct_fault_text (Bridge bridge fault) = codes "Bridge " ++ (decimal bridge ++ (codes " " ++ text_of_fault fault))
 conduct_fault_text DeskDisagrees = codes "DeskDisagrees"
-conduct_fault_text BookDisagrees = codes "BookDisagrees"
 conduct_fault_text ChannelLost = codes "ChannelLost"
 conduct_fault_text Spawn = codes "Spawn"
 
@@ -18,13 +15,10 @@ conduct_fault_text Spawn = codes "Spawn"
 abbrev pub rank : ConductFault → ℕ
 rank Spawn = 0
 rank Memory = 1
-rank (Bridge bridge fault) = 2
-rank ChannelLost = 3
-rank DeskDisagrees = 4
-rank BookDisagrees = 5
+rank ChannelLost = 2
+rank DeskDisagrees = 3
 
 abbrev pub is_before : ConductFault → ConductFault → Bool
-is_before (Bridge one fault) (Bridge other reason) = nat_lt one other
 is_before one other = nat_lt (rank one) (rank other)
 
 -- which of two faults is kept, if there was one before

@@ -225,8 +225,8 @@ fn back(
 /// the domain, and at most 16,777,215 background frames, each on a link of it. The pace is called before each command and before each step
 /// of a bridge, while no lock is held. It waits until all threads have ended.
 ///
-/// On failure returns the first fault in the order given by [`ConductFault`]; the history and the traces are then dropped. `Bridge` and
-/// `BookDisagrees` are never returned, and `ChannelLost` is never returned for a run of no cycles.
+/// On failure returns the first fault in the order given by [`ConductFault`]; the history and the traces are then dropped. `ChannelLost` is
+/// never returned for a run of no cycles.
 pub fn conduct_traces<R: Threads + Wait + Sync, P: Pace>(
     rt: &R,
     alloc: Global,

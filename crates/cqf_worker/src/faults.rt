@@ -2,26 +2,20 @@
 ghost use Rattle.std.specs.Prelude.{◌≡◌, IfNone, Some, true};
 ghost use Rattle.cqf_worker.specs.Faults.{IsClean, conduct_fault_text, first_noted, is_before, is_noted, rank};
 
-use cqf_bridge::BridgeFault;
 use cqf_units::Memory;
 use std::alloc::AllocFailed;
 use std::fmt;
 use thiserror::Error;
 
 /// Why a run on threads gives no account. If several causes were noted by its threads, or arise when the run is closed, the fault is the
-/// first in the order Spawn, Memory, Bridge, ChannelLost, DeskDisagrees, BookDisagrees. A run that can't begin, or whose threads failed, is
-/// not closed. A fault prints as its name followed by its values.
+/// first in the order Spawn, Memory, ChannelLost, DeskDisagrees. A run that can't begin, or whose threads failed, is not closed. A fault
+/// prints as its name.
 #[derive(Clone, Copy, Debug, PartialEq, Eq, Drop, Error)]
 pub enum ConductFault {
     /// An allocation failed.
     Memory,
-    /// This bridge refused a cycle, for this reason; the bridge with the lowest number if several did. No run returns it: a worker's bridge
-    /// never refuses.
-    Bridge(u16, BridgeFault),
     /// The desk's history isn't that of its seats, or had no room for a call or a Seal.
     DeskDisagrees,
-    /// The book isn't that of its bridges. No run returns it: what a bridge sends and drops is recorded only on its own bridge trace.
-    BookDisagrees,
     /// An end of a pipe was gone, though no thread has failed.
     ChannelLost,
     /// A thread couldn't be started, or there are more administrators than a desk has seats for.
@@ -34,9 +28,7 @@ impl fmt::Display for ConductFault {
     fn fmt<W: fmt::Write>(&self, f: &mut fmt::Formatter<W>) -> fmt::Result {
         match self {
             ConductFault::Memory => f.write_str("Memory"),
-            ConductFault::Bridge(bridge, fault) => write!(f, "Bridge {bridge} {fault}"),
             ConductFault::DeskDisagrees => f.write_str("DeskDisagrees"),
-            ConductFault::BookDisagrees => f.write_str("BookDisagrees"),
             ConductFault::ChannelLost => f.write_str("ChannelLost"),
             ConductFault::Spawn => f.write_str("Spawn"),
         }
@@ -72,21 +64,16 @@ fn index_of(fault: ConductFault) -> u8
     match fault {
         ConductFault::Spawn => 0,
         ConductFault::Memory => 1,
-        ConductFault::Bridge(_, _) => 2,
-        ConductFault::ChannelLost => 3,
-        ConductFault::DeskDisagrees => 4,
-        ConductFault::BookDisagrees => 5,
+        ConductFault::ChannelLost => 2,
+        ConductFault::DeskDisagrees => 3,
     }
 }
 
-/// Returns whether a fault is reported before another one: by rank, and of two bridges the one with the lower number.
+/// Returns whether a fault is reported before another one.
 fn comes_before(one: ConductFault, other: ConductFault) -> bool
     ensures { result ≡ is_before one other }
 {
-    match (one, other) {
-        (ConductFault::Bridge(bridge, _), ConductFault::Bridge(another, _)) => bridge < another,
-        _ => index_of(one) < index_of(other),
-    }
+    index_of(one) < index_of(other)
 }
 
 /// What has gone wrong in a run so far.

@@ -7,7 +7,7 @@ ghost use Rattle.cqf_worker.specs.Laying.{AreBare, HasCycles, HasIn, HasOut, IsB
 ghost use Rattle.cqf_worker.specs.Wires.{AreWired, AreWorkersOf, Wiring, pipe_of_tables, tables_pipe};
 
 use cqf_admission::Table;
-use cqf_bridge::Agenda;
+use cqf_agenda::Agenda;
 use cqf_model::{Node, Offer};
 use cqf_relay::{Relay, Segment};
 use cqf_topology::Domain;

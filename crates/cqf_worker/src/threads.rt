@@ -415,8 +415,8 @@ fn all_ended(
 /// Runs the threads. Each worker goes through all cycles and each administrator makes its commands on a thread of its own, while this
 /// thread closes the cycles and passes their tables on. There are at most 100,000 cycles, and nothing is done yet: no seat has calls, and
 /// nothing was put. It returns when all threads have ended. Returns `Spawn` if a thread couldn't be started, `Memory` if its handle
-/// couldn't be kept, and else the first fault in the order of [`ConductFault`], if there is one; this is never a bridge's fault. On failure
-/// everything in `ready` is dropped. It waits for threads, pipes and locks.
+/// couldn't be kept, and else the first fault in the order of [`ConductFault`], if there is one. On failure everything in `ready` is dropped.
+/// It waits for threads, pipes and locks.
 pub fn run_threads<R: Threads + Wait + Sync, P: Pace>(
     rt: &R,
     alloc: Global,

@@ -19,7 +19,8 @@ use Rattle.cqf_relay.specs.declared.wire.Wire.{Wire}
 use Rattle.cqf_relay.specs.Segments.{AreNextSegments, IsNextSegment, IsSegmentOf, Sendings, all_frames, batch_at, came_in, end_of_segments, frames_of}
 use Rattle.cqf_relay.specs.Logs.{is_in}
 use Rattle.cqf_relay.specs.Sending.{IsTidy}
-use Rattle.cqf_relay.specs.Standing.{Come, GoesOnAlone, HandsOn, IsOutletOf, IsWithin, KeepsBack, StandsSo, StaysAs, is_onward, link_in, link_out, links_from, reported_by}
+use Rattle.cqf_agenda.specs.Links.{links_from}
+use Rattle.cqf_relay.specs.Standing.{Come, GoesOnAlone, HandsOn, IsOutletOf, IsWithin, KeepsBack, StandsSo, StaysAs, is_onward, link_in, link_out, reported_by}
 use Rattle.cqf_lists.proofs.Written.{map_kept, slice_get-set_same}
 use Rattle.cqf_relay.proofs.Handing.{all_at}
 use Rattle.cqf_relay.proofs.Sources.{segment_in_cycle, segment_not_in_cycle}

@@ -14,7 +14,8 @@ use Rattle.cqf_model.specs.Domain.{Domain, enters, leaves}
 use Rattle.cqf_relay.specs.declared.log.ArrivedFrame.{ArrivedFrame}
 use Rattle.cqf_relay.specs.declared.moving.Segment.{Segment}
 use Rattle.cqf_relay.specs.Segments.{AreNextSegments, IsNextSegment, all_frames, end_of_segments, frames_of}
-use Rattle.cqf_relay.specs.Standing.{is_onward, links_from, links_into}
+use Rattle.cqf_agenda.specs.Links.{links_from, links_into}
+use Rattle.cqf_relay.specs.Standing.{is_onward}
 use Rattle.cqf_worker_loops.specs.declared.carried.Carried.{Carried}
 use Rattle.cqf_worker_loops.specs.declared.carried.Carried.TheVariants.{Item}
 use Rattle.cqf_worker_loops.specs.Rows.{wire_at, wires_of, with_item_at}

@@ -6,11 +6,12 @@ use Rattle.std.proofs.lemmas.Bool.{cases_eq, cond-false, cond-true}
 use Rattle.std.proofs.lemmas.List.Elements.{All-set}
 use Rattle.cqf_lists.specs.Lists.{each_below}
 use Rattle.cqf_admission.specs.Tables.{CycleTable}
-use Rattle.cqf_bridge.specs.Agenda.{offers_listed_at}
+use Rattle.cqf_agenda.specs.Agenda.{offers_listed_at}
 use Rattle.cqf_relay.specs.declared.moving.Segment.{Segment}
 use Rattle.cqf_relay.specs.declared.outlet.Outlet.{Outlet}
 use Rattle.cqf_relay.specs.Segments.{AreNextSegments, IsNextSegment, all_frames, end_of_segments, frames_of}
-use Rattle.cqf_relay.specs.Standing.{Come, IsInletOf, MayBeTables, StandsSo, TakesSegment, link_in, links_into, with_segment}
+use Rattle.cqf_agenda.specs.Links.{links_into}
+use Rattle.cqf_relay.specs.Standing.{Come, IsInletOf, MayBeTables, StandsSo, TakesSegment, link_in, with_segment}
 use Rattle.cqf_lists.proofs.Written.{map_kept}
 use Rattle.cqf_relay.proofs.Handing.{all_at}
 use Rattle.cqf_worker_loops.specs.declared.carried.Carried.{Carried}

@@ -19,7 +19,7 @@ use Rattle.cqf_model.specs.Domain.{Domain, budget}
 use Rattle.cqf_model.specs.Table.{AreOrderly, link_cost, table_of}
 use Rattle.cqf_model.specs.Policing.{is_offered_at, numbered}
 use Rattle.cqf_admission.specs.Tables.{CycleTable}
-use Rattle.cqf_bridge.specs.Agenda.{AgendaOf, offers_listed_at}
+use Rattle.cqf_agenda.specs.Agenda.{AgendaOf, offers_listed_at}
 use Rattle.cqf_relay.specs.Segments.{AreNextSegments}
 use Rattle.cqf_relay.specs.Offering.{IsOfCycle, dropped_after}
 use Rattle.cqf_relay.specs.Standing.{AreOfCycle, Come, MayBeTables, StandsSo, TakesTable, offers_in, with_table}

@@ -12,7 +12,7 @@ use Rattle.cqf_lists.proofs.Members.{all_from_members, contains_cases, contains_
 use Rattle.cqf_model.specs.declared.frames.Sent.{Sent}
 use Rattle.cqf_model.specs.Domain.{leaves}
 use Rattle.cqf_model.specs.Limits.{most_cycles}
-use Rattle.cqf_bridge.specs.Agenda.{offers_listed_at}
+use Rattle.cqf_agenda.specs.Agenda.{offers_listed_at}
 use Rattle.cqf_trace.specs.declared.trace.Mark.{Mark}
 use Rattle.cqf_trace.specs.declared.trace.Trace.{Trace}
 use Rattle.cqf_trace.proofs.Leaving.{leaving_listed}
@@ -24,7 +24,8 @@ use Rattle.cqf_relay.specs.declared.wire.Wire.{Wire}
 use Rattle.cqf_relay.specs.Segments.{AreNextSegments, Sendings, all_frames, batch_at, came_in, end_of_segments}
 use Rattle.cqf_relay.specs.Logs.{is_in}
 use Rattle.cqf_relay.specs.Sending.{IsTidy}
-use Rattle.cqf_relay.specs.Standing.{Come, HasGoneOnBy, IsInletOf, IsOutletOf, IsOver, IsWithin, StandsSo, is_onward, link_in, link_out, links_from, links_into, nothing_yet}
+use Rattle.cqf_agenda.specs.Links.{links_from, links_into}
+use Rattle.cqf_relay.specs.Standing.{Come, HasGoneOnBy, IsInletOf, IsOutletOf, IsOver, IsWithin, StandsSo, is_onward, link_in, link_out, nothing_yet}
 use Rattle.cqf_relay.proofs.Handing.{all_at}
 use Rattle.cqf_worker_loops.specs.declared.worker.Worker.{Worker}
 use Rattle.cqf_worker_loops.specs.Rows.{wires_of}

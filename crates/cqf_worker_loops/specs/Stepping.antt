@@ -8,7 +8,8 @@ use Rattle.cqf_relay.specs.declared.outlet.Outlet.{Outlet}
 use Rattle.cqf_relay.specs.Segments.{Sendings, all_frames, batch_at, came_in}
 use Rattle.cqf_relay.specs.Logs.{is_in}
 use Rattle.cqf_relay.specs.Sending.{IsTidy}
-use Rattle.cqf_relay.specs.Standing.{IsWithin, StandsSo, is_onward, link_in, link_out, links_from, links_into}
+use Rattle.cqf_agenda.specs.Links.{links_from, links_into}
+use Rattle.cqf_relay.specs.Standing.{IsWithin, StandsSo, is_onward, link_in, link_out}
 use Rattle.cqf_worker_loops.specs.declared.carried.Carried.TheVariants.{Item}
 use Rattle.cqf_worker_loops.specs.declared.worker.Worker.{Worker}
 use Rattle.cqf_worker_loops.specs.Rows.{with_item, wires_of}

@@ -12,14 +12,15 @@ use Rattle.cqf_model.specs.Run.{AreOffers}
 use Rattle.cqf_model.specs.Table.{table_of}
 use Rattle.cqf_laws_cycle.specs.Gathered.{offered_for}
 use Rattle.cqf_admission.specs.Tables.{CycleTable}
-use Rattle.cqf_bridge.specs.Agenda.{AgendaOf, offers_listed_at}
+use Rattle.cqf_agenda.specs.Agenda.{AgendaOf, offers_listed_at}
 use Rattle.cqf_trace.specs.declared.trace.Trace.{Trace}
 use Rattle.cqf_trace.specs.Traces.{links_of, mark_of_sent, starts_at}
 use Rattle.cqf_relay.specs.declared.moving.Segment.{Segment}
 use Rattle.cqf_relay.specs.Segments.{AreNextSegments, Sendings, all_frames, batch_at, came_in, end_of_segments}
 use Rattle.cqf_relay.specs.Logs.{is_in}
 use Rattle.cqf_relay.specs.Offering.{dropped_after}
-use Rattle.cqf_relay.specs.Standing.{Come, HasGoneOnBy, MayBeTables, StandsSo, is_onward, links_from, links_into, nothing_yet, offers_in}
+use Rattle.cqf_agenda.specs.Links.{links_from, links_into}
+use Rattle.cqf_relay.specs.Standing.{Come, HasGoneOnBy, MayBeTables, StandsSo, is_onward, nothing_yet, offers_in}
 use Rattle.cqf_relay.specs.Sending.{IsTidy}
 use Rattle.cqf_worker_loops.specs.declared.carried.Carried.{Carried}
 use Rattle.cqf_worker_loops.specs.declared.carried.Carried.TheVariants.{Item, Stop}

@@ -14,7 +14,7 @@ use crate::rounds::work_rounds;
 use crate::rows::stop_each;
 use crate::{Notifier, PipeIn, PipeOut};
 use cqf_admission::Table;
-use cqf_bridge::Agenda;
+use cqf_agenda::Agenda;
 use cqf_relay::{Relay, Segment};
 use cqf_trace::BridgeTrace;
 use cqf_units::Memory;

@@ -27,14 +27,15 @@ use Rattle.cqf_bridge.specs.declared.faults.BridgeFault.{BridgeFault}
 use Rattle.cqf_bridge.specs.declared.faults.BridgeFault.TheVariants.{Memory}
 use Rattle.cqf_bridge.specs.Batch.{LinkBatch}
 use Rattle.cqf_bridge.specs.BridgeState.{BridgeState}
-use Rattle.cqf_bridge.specs.Receiving.{Handed, IsReceiveFault, IsRunOfBridge, ReceivesCycle, links_into}
+use Rattle.cqf_agenda.specs.Links.{links_into}
+use Rattle.cqf_bridge.specs.Receiving.{Handed, IsReceiveFault, IsRunOfBridge, ReceivesCycle}
 use Rattle.cqf_bridge.specs.Cycles.{GivesTheDrops, OffersAreOfTheBridge, PageFollows, ReceivingFollows, drops_of_cycle}
 use Rattle.cqf_bridge.specs.Follows.{HasSentOfTheNetwork, batch_of, batches_into, handed_in}
 use Rattle.cqf_bridge.specs.NoFaults.{ReceivesButForMemory, RunOfHistoryLosesNothing}
-use Rattle.cqf_bridge.proofs.LinkNumbers.{link_ending, link_into, link_listed}
+use Rattle.cqf_agenda.proofs.LinkNumbers.{link_ending, link_into, link_listed}
 use Rattle.cqf_world.specs.declared.parts.Line.{Line}
 use Rattle.cqf_world.specs.declared.parts.WorldBridge.{WorldBridge}
-use Rattle.cqf_bridge.specs.Agenda.{offers_listed_at}
+use Rattle.cqf_agenda.specs.Agenda.{offers_listed_at}
 use Rattle.cqf_world.specs.Events.{MayPost, Posts}
 use Rattle.cqf_world.specs.Parts.{IsLine, IsNextToPost, IsPageOf, IsRunAt, IsRunningWorld, IsDriven, IsWorld}
 use Rattle.cqf_world.specs.Parts.{MayReceiveItsCycle, PostsOut, ReceivesItsCycle, given_of, handed_to, links_taken}

@@ -29,12 +29,11 @@ use Rattle.cqf_admission.specs.Admission.{Administration}
 use Rattle.cqf_admission.specs.Tables.{CycleTable}
 use Rattle.cqf_book.specs.Pages.{pages_of}
 use Rattle.cqf_bridge.specs.Batch.{LinkBatch}
-use Rattle.cqf_bridge.specs.BridgeState.{links_from}
-use Rattle.cqf_bridge.specs.Receiving.{links_into}
+use Rattle.cqf_agenda.specs.Links.{links_from, links_into}
 use Rattle.cqf_bridge.specs.Cycles.{starts_of_batch}
 use Rattle.cqf_bridge.specs.Follows.{batch_of}
 use Rattle.cqf_bridge.specs.LongerRuns.{IsLonger, LongerRunIsFollowed, LongerRunIsFollowedHalfway}
-use Rattle.cqf_bridge.proofs.LinkNumbers.{link_ending, link_into}
+use Rattle.cqf_agenda.proofs.LinkNumbers.{link_ending, link_into}
 use Rattle.cqf_world.specs.declared.parts.Line.{Line}
 use Rattle.cqf_world.specs.declared.parts.WorldBridge.{WorldBridge}
 use Rattle.cqf_world.specs.Parts.{ClosesInWorld, IsRunningWorld, IsDriven, IsWorld, links_taken, sent_of_driven, taken_of}

@@ -19,10 +19,10 @@ use Rattle.cqf_admission.specs.Admission.{Administration}
 use Rattle.cqf_admission.specs.Tables.{CycleTable}
 use Rattle.cqf_book.specs.Pages.{ArePosted, Posted, page_count, pages_of}
 use Rattle.cqf_bridge.specs.BridgeState.{BridgeState}
-use Rattle.cqf_bridge.specs.Receiving.{links_into}
+use Rattle.cqf_agenda.specs.Links.{links_into}
 use Rattle.cqf_bridge.specs.Cycles.{NewBridgeFollows}
 use Rattle.cqf_bridge.specs.Follows.{FollowsTheNetwork, batch_of}
-use Rattle.cqf_bridge.proofs.LinkNumbers.{link_ending}
+use Rattle.cqf_agenda.proofs.LinkNumbers.{link_ending}
 use Rattle.cqf_world.specs.declared.parts.Line.{Line}
 use Rattle.cqf_world.specs.declared.parts.WorldBridge.{WorldBridge}
 use Rattle.cqf_world.specs.Beginning.{AreNewLines, AreNewDriven, IsNewDriven, new_world, no_pages}

@@ -19,13 +19,14 @@ use Rattle.cqf_model.specs.Policing.{Carried}
 use Rattle.cqf_laws_cycle.specs.Gathered.{backed_for}
 use Rattle.cqf_admission.specs.Tables.{CycleTable}
 use Rattle.cqf_bridge.specs.Batch.{LinkBatch}
-use Rattle.cqf_bridge.specs.BridgeState.{AreBackedOf, IsNextToSend, SendsCycle, links_from}
+use Rattle.cqf_agenda.specs.Links.{links_from}
+use Rattle.cqf_bridge.specs.BridgeState.{AreBackedOf, IsNextToSend, SendsCycle}
 use Rattle.cqf_bridge.specs.Cycles.{BackgroundIsOfTheBridge, GivesTheBatches, SendingFollows, starts_of_batch}
 use Rattle.cqf_bridge.specs.Follows.{batch_of, batches_from}
-use Rattle.cqf_bridge.proofs.LinkNumbers.{link_ending}
+use Rattle.cqf_agenda.proofs.LinkNumbers.{link_ending}
 use Rattle.cqf_world.specs.declared.parts.Line.{Line}
 use Rattle.cqf_world.specs.declared.parts.WorldBridge.{WorldBridge}
-use Rattle.cqf_bridge.specs.Agenda.{background_at}
+use Rattle.cqf_agenda.specs.Agenda.{background_at}
 use Rattle.cqf_world.specs.Events.{MayStep}
 use Rattle.cqf_world.specs.Parts.{AreComing, IsLine, IsRunningWorld, IsDriven, IsWorld, SendsItsCycle, SendsOut}
 use Rattle.cqf_world.specs.Parts.{given_of, links_taken, sent_of_driven, taken_of, under_way}

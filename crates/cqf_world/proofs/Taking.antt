@@ -16,9 +16,9 @@ use Rattle.cqf_model.specs.Domain.{Domain, bridge_of, enters, node_is}
 use Rattle.cqf_model.specs.History.{seals}
 use Rattle.cqf_admission.specs.Tables.{CycleTable}
 use Rattle.cqf_bridge.specs.Batch.{LinkBatch}
-use Rattle.cqf_bridge.specs.Receiving.{links_into}
+use Rattle.cqf_agenda.specs.Links.{links_into}
 use Rattle.cqf_bridge.specs.Follows.{batch_of}
-use Rattle.cqf_bridge.proofs.LinkNumbers.{link_ending, link_into, link_listed, links_ascend}
+use Rattle.cqf_agenda.proofs.LinkNumbers.{link_ending, link_into, link_listed, links_ascend}
 use Rattle.cqf_world.specs.declared.parts.Line.{Line}
 use Rattle.cqf_world.specs.declared.parts.WorldBridge.{WorldBridge}
 use Rattle.cqf_world.specs.Events.{MayTake}

@@ -5,9 +5,9 @@ use Rattle.cqf_model.specs.declared.frames.Offer.{Offer}
 use Rattle.cqf_model.specs.Domain.{Domain}
 use Rattle.cqf_admission.specs.Admission.{Administration}
 use Rattle.cqf_book.specs.Pages.{Posted}
-use Rattle.cqf_bridge.specs.Agenda.{IsAgendaOf}
+use Rattle.cqf_agenda.specs.Agenda.{IsAgendaOf}
 use Rattle.cqf_bridge.specs.BridgeState.{new_bridge}
-use Rattle.cqf_bridge.specs.Receiving.{links_into}
+use Rattle.cqf_agenda.specs.Links.{links_into}
 use Rattle.cqf_world.specs.declared.parts.Line.{Line}
 use Rattle.cqf_world.specs.declared.parts.WorldBridge.{WorldBridge}
 use Rattle.cqf_world.specs.World.{WorldState}

@@ -19,12 +19,13 @@ use Rattle.cqf_bridge.specs.declared.faults.BridgeFault.{BridgeFault}
 use Rattle.cqf_bridge.specs.declared.faults.BridgeFault.TheVariants.{Memory}
 use Rattle.cqf_bridge.specs.Batch.{LinkBatch}
 use Rattle.cqf_bridge.specs.BridgeState.{BridgeState, SendsCycle}
-use Rattle.cqf_bridge.specs.Receiving.{Handed, IsReceiveFault, IsRunOfBridge, ReceivesCycle, links_into}
+use Rattle.cqf_agenda.specs.Links.{links_into}
+use Rattle.cqf_bridge.specs.Receiving.{Handed, IsReceiveFault, IsRunOfBridge, ReceivesCycle}
 use Rattle.cqf_bridge.specs.Cycles.{starts_of_batch}
 use Rattle.cqf_bridge.specs.Follows.{FollowsTheNetwork, HasSentOfTheNetwork, batch_of, batches_from}
 use Rattle.cqf_world.specs.declared.parts.Line.{Line}
 use Rattle.cqf_world.specs.declared.parts.WorldBridge.{WorldBridge}
-use Rattle.cqf_bridge.specs.Agenda.{IsAgendaOf, background_at, offers_listed_at}
+use Rattle.cqf_agenda.specs.Agenda.{IsAgendaOf, background_at, offers_listed_at}
 use Rattle.cqf_world.specs.World.{ArePagesOfTheBook, WorldState, cycle_of_bridge, sealed_run, sent_by_driven, taken_from}
 use Rattle.cqf_model.specs.Limits.{most_cycles}
 

@@ -3,7 +3,8 @@ ghost use Rattle.std.specs.Prelude.{◌^◌, ◌<◌, IfOk, length};
 ghost use Rattle.cqf_world.specs.Beginning.{AreNewLines, AreNewDriven, IsNewDriven};
 
 use crate::parts::{Line, WorldBridge};
-use cqf_bridge::{Agenda, Bridge, incoming_links};
+use cqf_agenda::Agenda;
+use cqf_bridge::{Bridge, incoming_links};
 use cqf_compile::Plan;
 use cqf_model::{Background, Offer};
 use cqf_topology::Domain;

@@ -1,6 +1,7 @@
 //! What a world holds for its bridges and its links.
 
-use cqf_bridge::{Agenda, Batch, Bridge};
+use cqf_agenda::Agenda;
+use cqf_bridge::{Batch, Bridge};
 use cqf_model::Started;
 use std::collections::VecDeque;
 

@@ -1,7 +1,7 @@
 //! A bridge sends its cycle, and its batches are put on the links.
 ghost use Rattle.std.specs.Prelude.{◌≡◌, ◌<◌, IfOk, OnErr, OnOk, false, length, map};
 ghost use Rattle.cqf_bridge.specs.BridgeState.{AreBackedOf, IsNextToSend};
-ghost use Rattle.cqf_bridge.specs.Agenda.{background_at};
+ghost use Rattle.cqf_agenda.specs.Agenda.{background_at};
 ghost use Rattle.cqf_world.specs.Parts.{AreComing, SendsItsCycle, SendsOut, taken_of};
 ghost use Rattle.cqf_model.specs.Limits.{most_cycles};
 

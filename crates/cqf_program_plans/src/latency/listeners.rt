@@ -114,7 +114,7 @@ fn latency_from_talker(mut latency: Latency, times: Option<AccessTimes>) -> Late
     }
 }
 
-/// A stream's deadline as written, and how long its frames take from the hand-over to its edge bridge, if its talker is a station.
+/// A stream's deadline as written, and how long its frames take from the hand-over to its edge bridge, if these times are known.
 #[derive(Clone, Copy)]
 struct StreamEnds {
     deadline: Option<u32>,
@@ -172,7 +172,7 @@ fn deadline_of(deadlines: &[Option<u32>], number: u32) -> Option<u32>
     }
 }
 
-/// Returns how long the frames of the stream with this number take to its edge bridge, if its talker is a station.
+/// Returns how long the frames of the stream with this number take to its edge bridge, if these times are known.
 fn times_of(times: &[Option<AccessTimes>], number: u32) -> Option<AccessTimes>
     ensures { result ≡ times_of times.now number }
 {

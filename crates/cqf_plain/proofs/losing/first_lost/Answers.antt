@@ -2,7 +2,7 @@ use Rattle.std.proofs.Common.{◌∙◌, List, ap, map, sym, subst}
 use Rattle.cqf_model.specs.Policing.{Received}
 use Rattle.cqf_laws_cycle.specs.Gathered.{IsInOrderOf}
 use Rattle.cqf_bridge.specs.Taking.{gathered_by, received_as}
-use Rattle.cqf_bridge.specs.Agenda.{offers_listed_at}
+use Rattle.cqf_agenda.specs.Agenda.{offers_listed_at}
 use Rattle.cqf_plain.proofs.Lost.{found_so, in_cycle, may_gather}
 use Rattle.cqf_plain.proofs.losing.first_lost.Goals as goal
 

@@ -1,6 +1,6 @@
 use Rattle.std.proofs.Common.{ℕ, ◌∙◌, ap, refl, subst, sym}
 use Rattle.cqf_bridge.specs.Receiving.{IsReceiveFault, IsRunOfBridge, ReceivesCycle}
-use Rattle.cqf_bridge.specs.Agenda.{offers_listed_at}
+use Rattle.cqf_agenda.specs.Agenda.{offers_listed_at}
 use Rattle.cqf_plain.proofs.Received.{come_so, lost_so, received_so, run_so}
 use Rattle.cqf_plain.proofs.receiving.receive_one.Goals as goal
 

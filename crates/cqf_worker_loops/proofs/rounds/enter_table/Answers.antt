@@ -1,5 +1,5 @@
 use Rattle.std.proofs.Common.{ap, refl, ◌∙◌}
-use Rattle.cqf_bridge.specs.Agenda.{offers_listed_at}
+use Rattle.cqf_agenda.specs.Agenda.{offers_listed_at}
 use Rattle.cqf_worker_loops.proofs.TakenTables.{enters_table, offers_entered}
 use Rattle.cqf_worker_loops.proofs.rounds.enter_table.Goals as goal
 

@@ -1,6 +1,7 @@
 use Rattle.std.proofs.Common.{◌≡◌, ◌≤◌, ℕ, length}
 use Rattle.cqf_lists.proofs.Ranks.{rank}
-use Rattle.cqf_relay.specs.Standing.{is_onward, links_from}
+use Rattle.cqf_agenda.specs.Links.{links_from}
+use Rattle.cqf_relay.specs.Standing.{is_onward}
 use Rattle.cqf_worker_loops.specs.Stepping.{GoesFurther, IsUnderWay}
 use Rattle.cqf_worker_loops.specs.Workers.{Offering}
 use Rattle.cqf_worker_loops.proofs.rounds.report.Given as goal

@@ -1,6 +1,6 @@
 use Rattle.std.proofs.Common.{rules, ◌≡◌, ◌∙◌, ◌<◌, ℕ, arith, false, length, refl}
 use Rattle.cqf_model.specs.Domain.{enters}
-use Rattle.cqf_bridge.proofs.LinkNumbers.{link_ending}
+use Rattle.cqf_agenda.proofs.LinkNumbers.{link_ending}
 use Rattle.cqf_world.specs.Parts.{taken_of}
 use Rattle.cqf_world.proofs.Coming.{one_coming, passed_by}
 use Rattle.cqf_world.proofs.Standing.{count_kept}

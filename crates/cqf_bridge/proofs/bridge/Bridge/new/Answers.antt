@@ -1,7 +1,7 @@
 use Rattle.std.proofs.Common.{◌∙◌, List, Contains, ap, subst, sym}
 use Rattle.cqf_lists.proofs.Members.{contains_none}
 use Rattle.cqf_model.specs.Domain.{Domain}
-use Rattle.cqf_bridge.specs.Receiving.{links_into}
+use Rattle.cqf_agenda.specs.Links.{links_into}
 use Rattle.cqf_bridge.specs.declared.cycle_gate.KeptGate.{KeptGate}
 use Rattle.cqf_bridge.proofs.Bridges.{bridge_begins}
 use Rattle.cqf_bridge.proofs.bridge.Bridge.new.Goals as goal

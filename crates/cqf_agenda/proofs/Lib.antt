@@ -1,0 +1,3 @@
+pub mod LinkNumbers
+mod Cutting
+mod InCycles
